@@ -1,0 +1,1 @@
+// Definitions and theorems alone: the exact logarithm of a double, between fractions.
