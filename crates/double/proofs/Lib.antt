@@ -1,3 +1,4 @@
 pub mod Leading
 pub mod Value
 pub mod Tests
+pub mod Bits

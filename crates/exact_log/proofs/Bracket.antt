@@ -118,4 +118,3 @@ below-all S a b w M N h l =
 pub above-all : (S a b w M N : ℕ) → a < b → S * topNum a b M ≤ w * topDen a b M → S * num a b N ≤ w * den b N
 above-all S a b w M N h l =
     le-of-mul-le-mul-right (omega (arith, mul-le-mul-right (den b N) l, mul-le-mul-left S (ends a b N M h))) (top-pos a b M h)
-

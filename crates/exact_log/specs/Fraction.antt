@@ -5,7 +5,6 @@ use mathlib.Core.Bool.{Bool, true, false}
 infixl 20 _⊞_
 infixl 20 _⊕_
 infix 10 _⊴_
-
 -- (plus - minus) / bot, for a bot above 0
 pub record Fraction : Type 0 where
   pub plus : ℕ
@@ -31,6 +30,11 @@ x ⊞ y = record { plus = x .plus * y .bot + y .plus * x .bot; minus = x .minus 
 -- x is at most y
 abbrev pub _⊴_ : Fraction → Fraction → Type 0
 x ⊴ y = x .plus * y .bot + y .minus * x .bot ≤ y .plus * x .bot + x .minus * y .bot
+
+-- the same number
+pub record Same (x y : Fraction) : Type 0 where
+  pub most : x ⊴ y
+  pub least : y ⊴ x
 
 -- from low to high
 pub record Interval : Type 0 where

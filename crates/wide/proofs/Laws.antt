@@ -1,8 +1,11 @@
 -- The product of two words from the products of their halves.
 use mathlib.Core.Path.{_≡_, ap, sym, _∙_}
+use mathlib.Core.Bool.{Bool, cond}
 use Prim.Native.Nat.{ℕ, _+_, _-_, _*_, _/_, _%_, _^_, _≤_, _<_}
 use native.Mathlib.Nat.{mul-le-mul, div-add-mod'}
 use native.Mathlib.Omega.{arith}
+use borrow.Author.Tests.{lt-ltb, le-ltb}
+use lib.Dec.{ltb, lit≤}
 
 -- the four products of the halves fit a word, with room for half a word more
 pub record Halves (x y : ℕ) : Type 0 where
@@ -37,3 +40,10 @@ high-of p hh hl lh ll e = omega arith
 pub low-of : (p hh hl lh ll : ℕ) → p ≡ hh * 18446744073709551616 + (hl + lh) * 4294967296 + ll
     → (hl % 4294967296 + lh % 4294967296 + ll / 4294967296) % 4294967296 * 4294967296 + ll % 4294967296 ≡ p % 2 ^ 64
 low-of p hh hl lh ll e = omega arith
+
+-- ---- the choice
+pub one-above : (a b : ℕ) → b < a → (_≡_ {A = ℕ} 1 (cond (ltb b a) 1 0)) × (1 ≤ 1)
+one-above a b h = (ap (λ (t : Bool). cond t 1 0) (sym (lt-ltb b a h)), lit≤ tt)
+
+pub none-above : (a b : ℕ) → a ≤ b → (_≡_ {A = ℕ} 0 (cond (ltb b a) 1 0)) × (0 ≤ 1)
+none-above a b h = (ap (λ (t : Bool). cond t 1 0) (sym (le-ltb b a h)), lit≤ tt)

@@ -1,0 +1,88 @@
+-- The chosen numbers serve the bound of document 01, so `lnOf` is within 2^-50 + 2^-52 * |r| of the exact logarithm.
+use mathlib.Core.Path.{_≡_, refl, ap, sym, _∙_, subst}
+use Prim.Native.Nat.{ℕ, zero, suc, _+_, _-_, _*_, _^_, _≤_, _<_}
+use native.Mathlib.Omega.{arith}
+use native.Mathlib.Bridge.{le-by-compare, IsLe}
+use mathlib.Core.Bool.{Bool, true, false, cond}
+use lib.Dec.{T, ltb, lit<, lit≤}
+use lib.Ieee.{Float, nan, inf, fin, binary64, fits, toBits}
+use lib.Ieee.Positive.{positive}
+use Rattle.double.specs.declared.Kind.{Kind}
+use Rattle.double.specs.Parts.{significand, exponent, partsOf}
+use Rattle.double.specs.Kind.{kindOf}
+use Rattle.double.proofs.Value.{significand-low, significand-high, exponent-le}
+use Rattle.double.proofs.Tests.{at-positive}
+use Rattle.exact_log.specs.Artanh.{power, under, den, num}
+use Rattle.exact_log.specs.Log.{apart, centre, rise, exactLn}
+use Rattle.exact_log.proofs.Bracket.{topNum, topDen}
+use Rattle.exact_log.proofs.Ends.{near-one}
+use Rattle.logarithm.specs.Ln.{chosen, lnSum, lnParts, lnAt, lnOf}
+use Rattle.logarithm.specs.Near.{Near, IsLn}
+use Rattle.logarithm.proofs.Law.{Serves, sum-finite, sum-near}
+
+-- 480 units are left out by ten terms (13,256 by nine), and ln 2's series with 22 terms fixes its unit
+pub serves : Serves chosen (2 ^ 50) (2 ^ 52)
+unfolding num den under power IsLe
+serves = record {
+  rest = 480;
+  bracket = 22;
+  unit-low = lit≤ tt;
+  guard-low = lit< tt;
+  sum-high = lit≤ tt;
+  long-enough = lit≤ tt;
+  ln2-low = le-by-compare _ _ tt;
+  ln2-high = le-by-compare _ _ tt;
+  ln2-most = lit≤ tt;
+  absolute = lit≤ tt;
+  relative = lit≤ tt;
+}
+
+pub few : (m t : ℕ) → t ≤ 2098 → apart (rise m t) 1074 ≤ 1074
+few m t h = go (ltb m (3 * 2 ^ 51))
+  where
+    go : (b : Bool) → apart (t + cond b 0 1) 1074 ≤ 1074
+    go true = omega arith
+    go false = omega arith
+
+centre-pos : (m : ℕ) → 0 < centre m
+centre-pos m = go (ltb m (3 * 2 ^ 51))
+  where
+    go : (b : Bool) → 0 < cond b (2 ^ 52) (2 ^ 53)
+    go true = lit< tt
+    go false = lit< tt
+
+-- of a kind, whatever told it
+pub at-kind : (x : Float) {j : Kind} (k : Kind) → j ≡ kindOf x → j ≡ k → lnAt chosen k x ≡ lnOf x
+unfolding lnOf
+at-kind x k e f = ap (λ (i : Kind). lnAt chosen i x) (sym f ∙ e)
+
+-- of a finite double above 0, `lnOf` is the sum of its parts
+pub at-parts : (x : Float) → T (positive x) → lnSum chosen (significand x) (centre (significand x)) (rise (significand x) (exponent x)) 1074 ≡ lnOf x
+unfolding lnOf lnAt lnParts significand exponent
+at-parts x p = ap (λ k. lnAt chosen k x) (at-positive x p)
+
+module _ (x : Float) (f : T (fits binary64 x)) (p : T (positive x)) where
+  abbrev m : ℕ
+  m = significand x
+
+  abbrev u : ℕ
+  u = rise (significand x) (exponent x)
+
+  near-centre : 5 * apart m (centre m) ≤ m + centre m
+  near-centre = near-one m (significand-low x f p) (significand-high x f p) .0
+
+  steps : apart u 1074 ≤ 1074
+  steps = few m (exponent x) (exponent-le x f p)
+
+  steps-few : apart u 1074 ≤ 1100
+  steps-few = omega (arith, steps)
+
+  -- the theorem: within 2^-50 + 2^-52 * |r| of the exact logarithm, with every number of terms
+  pub ln-near : IsLn (2 ^ 50) (2 ^ 52) x (lnOf x)
+  unfolding exactLn
+  ln-near =
+      subst (λ (r : Float). IsLn (2 ^ 50) (2 ^ 52) x r) (at-parts x p)
+      record {
+        is-finite = sum-finite chosen (2 ^ 50) (2 ^ 52) serves m (centre m) (centre-pos m) near-centre u 1074 steps-few;
+        near = λ N. sum-near chosen (2 ^ 50) (2 ^ 52) serves m (centre m) (centre-pos m) near-centre u 1074 steps-few N;
+      }

@@ -1,0 +1,3 @@
+pub mod Ln
+pub mod Near
+pub mod Split
