@@ -2,13 +2,13 @@
 use mathlib.Core.Path.{_≡_, ap, sym, _∙_, subst}
 use mathlib.Core.Bool.{Bool, true, false, not, true≢false}
 use Prim.Native.Nat.{ℕ, _+_, _-_, _*_, _/_, _%_, _^_, _≤_, _<_}
-use native.Mathlib.Nat.{div-mul-le-self, lt-div-mul-add, div-eq-of-lt-le, le-of-mul-le-mul-right, lt-of-mul-lt-mul-right, mul-le-mul-right, mul-lt-mul-of-pos-right}
 use native.Mathlib.Omega.{arith}
 use borrow.Author.Tests.{le-ltb}
 use lib.Dec.{T}
 use lib.Ieee.{Float, nan, inf, fin, binary64, up, down, fits, size, eq, isNan, nanBits, toBits, ofBits}
 use lib.Ieee.Bits.{ofBits-toBits, nanBits-above}
 use lib.Ieee.Fits.{down-pos}
+use lib.Ieee.Nearest.{div-same}
 use lib.Ieee.Positive.{positive, num, den}
 
 -- a pattern up to that of +infinity is no NaN's
@@ -24,15 +24,6 @@ equal-itself (inf s) t = tt
 equal-itself (fin s m e) t = tt
 
 -- ---- two doubles above 0 of the same size are the same
-same-quotient : (a c b d k : ℕ) → 0 < c → 0 < d → a * d ≡ b * c → a * k / c ≡ b * k / d
-same-quotient a c b d k C D e =
-    let w = a * k / c in
-    let l : w * c ≤ a * k = div-mul-le-self (a * k) c in
-    let u : a * k < w * c + c = lt-div-mul-add C in
-    let l' : w * d ≤ b * k = le-of-mul-le-mul-right (omega (arith, mul-le-mul-right d l, ap (λ (y : ℕ). y * k) e)) C in
-    let u' : b * k < (w + 1) * d = lt-of-mul-lt-mul-right c (omega (arith, mul-lt-mul-of-pos-right u D, ap (λ (y : ℕ). y * k) e)) in
-    sym (div-eq-of-lt-le d l' u')
-
 same-bits : (x y : Float) → T (positive x) → T (positive y) → num x * den y ≡ num y * den x → toBits binary64 x ≡ toBits binary64 y
 unfolding toBits
 same-bits nan y p q e = absurd p
@@ -42,7 +33,11 @@ same-bits (fin false m i) nan p q e = absurd q
 same-bits (fin false m i) (inf s) p q e = absurd q
 same-bits (fin false m i) (fin true n j) p q e = absurd q
 same-bits (fin false m i) (fin false n j) p q e =
-    ap (λ (z : ℕ). 0 + (size z - 53) * 2 ^ 52 + z / 2 ^ (size z - 53)) (same-quotient (m * up i) (down i) (n * up j) (down j) (2 ^ 1074) (down-pos i) (down-pos j) e)
+    ap (λ (z : ℕ). 0 + (size z - 53) * 2 ^ 52 + z / 2 ^ (size z - 53))
+    (div-same (m * up i * 2 ^ 1074) (down i) (n * up j * 2 ^ 1074) (down j) (down-pos i) (down-pos j) (scaled (m * up i) (down i) (n * up j) (down j) (2 ^ 1074) e))
+  where
+    scaled : (a c b d k : ℕ) → a * d ≡ b * c → a * k * d ≡ b * k * c
+    scaled a c b d k e = omega (arith, ap (λ (z : ℕ). z * k) e)
 
 pub same : (x y : Float) → T (fits binary64 x) → T (fits binary64 y) → T (positive x) → T (positive y) → num x * den y ≡ num y * den x → x ≡ y
 same x y f g p q e = sym (ofBits-toBits binary64 x f) ∙ ap (ofBits binary64) (same-bits x y p q e) ∙ ofBits-toBits binary64 y g

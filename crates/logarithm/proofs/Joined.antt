@@ -34,7 +34,7 @@ pub part-small : (m c u : ℕ) → Split m c u → 360 * seriesPart chosen m c �
 part-small m c u p = series-small chosen (2 ^ 50) (2 ^ 52) serves m c (p .c-some) (p .near-one) u 1074 (omega (arith, p .few))
 
 -- the series' sum is at least its first term, and that is some units where m is not c
-units-some : (a b : ℕ) → 0 < a → 0 < b → b ≤ 2 ^ 62 → 0 < artanhUnits (2 ^ 62) a b 10
+pub units-some : (a b : ℕ) → 0 < a → 0 < b → b ≤ 2 ^ 62 → 0 < artanhUnits (2 ^ 62) a b 10
 unfolding artanhUnits horner
 units-some a b A B h =
     let z = ratio (2 ^ 62) a b in

@@ -180,7 +180,7 @@ module _ (P : Precision) (A B : ℕ) (s : Serves P A B) where
           by-guard : (G S y : ℕ) → 360 * y ≤ 73 * S → 360 * (2 * (G * y)) ≤ 146 * (G * S)
           by-guard G S y h = omega (arith, mul-le-mul-left G h)
 
-      size-le : apart (gain P m c u d) (loss P m c u d) ≤ wholePart P u d + seriesPart P m c
+      pub size-le : apart (gain P m c u d) (loss P m c u d) ≤ wholePart P u d + seriesPart P m c
       unfolding gain loss
       size-le = either (ltb u d) (ltb m c) (wholePart P u d) (seriesPart P m c)
         where

@@ -5,3 +5,4 @@ pub mod Near
 pub mod Words
 pub mod Floats
 pub mod Joined
+pub mod Theorems

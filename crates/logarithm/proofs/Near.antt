@@ -44,7 +44,7 @@ few m t h = go (ltb m (3 * 2 ^ 51))
     go true = omega arith
     go false = omega arith
 
-centre-pos : (m : ℕ) → 0 < centre m
+pub centre-pos : (m : ℕ) → 0 < centre m
 centre-pos m = go (ltb m (3 * 2 ^ 51))
   where
     go : (b : Bool) → 0 < cond b (2 ^ 52) (2 ^ 53)
@@ -68,13 +68,13 @@ module _ (x : Float) (f : T (fits binary64 x)) (p : T (positive x)) where
   abbrev u : ℕ
   u = rise (significand x) (exponent x)
 
-  near-centre : 5 * apart m (centre m) ≤ m + centre m
+  pub near-centre : 5 * apart m (centre m) ≤ m + centre m
   near-centre = near-one m (significand-low x f p) (significand-high x f p) .0
 
-  steps : apart u 1074 ≤ 1074
+  pub steps : apart u 1074 ≤ 1074
   steps = few m (exponent x) (exponent-le x f p)
 
-  steps-few : apart u 1074 ≤ 1100
+  pub steps-few : apart u 1074 ≤ 1100
   steps-few = omega (arith, steps)
 
   -- the theorem: within 2^-50 + 2^-52 * |r| of the exact logarithm, with every number of terms

@@ -1,8 +1,6 @@
 -- What it is to be the nearest double to a root, with squares of whole numbers and no reals.
-use Prim.Native.Nat.{ℕ, _+_, _-_, _*_, _^_, _≤_, _<_}
-use mathlib.Core.Bool.{Bool, true, false}
-use mathlib.Core.Path.{_≡_}
-use lib.Dec.{T}
+use Prim.Native.Nat.{ℕ, zero, suc, _+_, _-_, _*_, _^_, _≤_, _<_}
+use mathlib.Core.Bool.{true, false}
 use lib.Ieee.{Float, nan, inf, fin}
 use lib.Ieee.Exact.{HasValue}
 use lib.Ieee.Positive.{num, den}
@@ -42,3 +40,12 @@ Farther x r nan = Unit
 Farther x r (inf s) = Unit
 Farther x r (fin false m e) = Beside x r (fin false m e)
 Farther x r (fin true m e) = num r * num r * den x < 4 * num x * (den r * den r)
+
+-- r is not below 0: not -infinity and no finite number below 0. It may be -0, or NaN.
+abbrev pub NotNegative : Float → Type 0
+NotNegative nan = Unit
+NotNegative (inf false) = Unit
+NotNegative (inf true) = ⊥
+NotNegative (fin s zero e) = Unit
+NotNegative (fin false (suc m) e) = Unit
+NotNegative (fin true (suc m) e) = ⊥

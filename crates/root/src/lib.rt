@@ -1,7 +1,6 @@
 // The square root of a double.
 
 ghost use mathlib.Core.Path.{_≡_};
-ghost use mathlib.Core.Bool.{cond};
 ghost use lib.Dec.{ltb};
 ghost use Prim.Native.Nat.{_+_, _-_, _*_, _%_, _^_, _<_, _≤_};
 ghost use Rattle.double.proofs.Value.{InPlace};
@@ -138,13 +137,6 @@ fn inverse(q: u64, b: u64) -> u64
     l / 4294967296 - l % 67108864 * d / 4294967296 + bend * dd / 4294967296
 }
 
-// 1 where a is above b, and 0 otherwise.
-fn more(a: u64, b: u64) -> u64
-    ensures { λ r. ⌜ (r ≡ cond (ltb b a) 1 0) × (r ≤ 1) ⌝ }
-{
-    if a > b { 1 } else { 0 }
-}
-
 // The rounded root of m * 2^52, given about 2^31 over the root of m / 2^52. The root's upper 32 digits s leave r, the lower
 // 21 digits c leave rest: rest + g * g is m * 2^52, where g = s * 2^21 + c. So rest says whether g or g + 1 is nearest.
 fn settled(m: u64, v: u64) -> u64
@@ -175,7 +167,7 @@ fn settled(m: u64, v: u64) -> u64
     if rest > 3 * g + 2 {
         return bisected(m);
     }
-    g + more(rest, g)
+    g + wide::above(rest, g)
 }
 
 // q, or 2 * q where b is 1.

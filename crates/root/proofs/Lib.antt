@@ -1,0 +1,7 @@
+pub mod Whole
+pub mod Words
+pub mod Value
+pub mod Middle
+pub mod Doubles
+pub mod Theorems
+pub mod Controls

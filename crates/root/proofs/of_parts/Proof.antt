@@ -1,0 +1,45 @@
+-- `root::of_parts` meets its contract.
+use borrow.Author.Needs.{needs}
+use native.Mathlib.Omega.{arith}
+use Rattle.double.proofs.Bits.{number-below}
+use Rattle.root.proofs.Value.{m-range, x-high, bits-are}
+use Rattle.root.proofs.of_parts.Statement.{statement}
+use Rattle.root.proofs.of_parts.Tie as tie
+
+doubled-requires : tie.Need-doubled-requires
+doubled-requires c κs = search needs
+
+inverse-requires : tie.Need-inverse-requires
+inverse-requires c κs = search needs
+
+settled-requires : tie.Need-settled-requires
+settled-requires c κs = omega (arith, c .before .doubled .ensures, m-range _ (c .before .before .pre), c .inverse .ensures)
+
+add-result : tie.Need-add-result
+add-result c = search needs
+
+mul-result : tie.Need-mul-result
+mul-result c = search needs
+
+add-result-2 : tie.Need-add-result-2
+add-result-2 c = omega (arith, x-high _ (c .before .before .before .pre) _ _ (c .before .before .doubled .ensures) (c .settled .ensures))
+
+float-from-bits-result : tie.Need-float-from-bits-result
+float-from-bits-result c =
+    number-below _ (omega (arith, x-high _ (c .before .before .before .pre) _ _ (c .before .before .doubled .ensures) (c .settled .ensures)))
+
+returns : tie.Need-returns
+returns c = bits-are _ (c .before .before .before .pre) _ _ (c .before .before .doubled .ensures) (c .settled .ensures)
+
+pub of-parts-spec : {M : Type 1} → statement M
+of-parts-spec =
+    tie.close
+    (tie.spec
+    doubled-requires
+    inverse-requires
+    settled-requires
+    add-result
+    mul-result
+    add-result-2
+    float-from-bits-result
+    returns)

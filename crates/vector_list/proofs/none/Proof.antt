@@ -1,0 +1,12 @@
+-- `vector_list::none` meets its contract.
+use mathlib.Core.Path.{refl}
+use native.Mathlib.Nat.{le-refl}
+use Rattle.vector_list.proofs.Laws.{all-low}
+use Rattle.vector_list.proofs.none.Statement.{statement}
+use Rattle.vector_list.proofs.none.Tie as tie
+
+returns : tie.Need-returns
+returns c = (record { missed-low = le-refl 0; seen-low = all-low 14; agreed-low = all-low 14 }, refl)
+
+pub none-spec : {M : Type 1} → statement M
+none-spec = tie.close (tie.spec returns)

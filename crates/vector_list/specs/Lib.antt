@@ -1,0 +1,3 @@
+pub mod Words
+pub mod Vectors
+pub mod Tallies
