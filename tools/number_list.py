@@ -1,7 +1,7 @@
 #!/usr/bin/env python3
 """Writes the test vectors of the square root and the natural logarithm.
 
-    numbers.py LIST [STDOUT]
+    number_list.py LIST [STDOUT]
 
 LIST gets the vectors, and STDOUT what a program that checks them must write where every record agrees.
 
@@ -31,15 +31,9 @@ A record is a line of 55 bytes, its fields parted by tabs: s for sqrt or l for l
 lower-case hexadecimal digits.  Of a square root lower and upper are the one expected word.  The random numbers have a fixed seed, so
 the list is the same at each run.
 """
-import os
-import sys
-
-# Python's library has a module `numbers` of its own, which `fractions` must find and not this file.
-HERE = os.path.dirname(os.path.realpath(__file__))
-sys.path = [path for path in sys.path if os.path.realpath(path) != HERE]
-
 import math
 import random
+import sys
 from fractions import Fraction
 
 import mpmath

@@ -6,3 +6,4 @@ pub mod Words
 pub mod Floats
 pub mod Joined
 pub mod Theorems
+pub mod Controls

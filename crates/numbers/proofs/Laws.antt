@@ -11,9 +11,9 @@ use lib.Ieee.{Float, binary64, ofBits}
 use Rattle.root.specs.Root.{sqrtOf}
 use Rattle.logarithm.specs.Ln.{lnOf}
 use Rattle.vector_list.specs.Vectors.{isVector, vectorOf}
-use Rattle.vector_list.specs.Tallies.{countedOf, stoppedOf, Room}
+use Rattle.numbers.specs.Tallies.{countedOf, stoppedOf, Room}
 use Rattle.vector_list.specs.declared.Vector.{Vector}
-use Rattle.vector_list.specs.declared.Tally.{Tally}
+use Rattle.numbers.specs.declared.Tally.{Tally}
 use Rattle.numbers.specs.Judged.{resultOf, judgedOf, takenOf, sumOf}
 
 -- ---- a result

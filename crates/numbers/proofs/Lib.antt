@@ -1,1 +1,2 @@
+pub mod Tallying
 pub mod Laws

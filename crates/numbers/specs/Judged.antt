@@ -9,9 +9,9 @@ use Rattle.root.specs.Root.{sqrtOf}
 use Rattle.logarithm.specs.Ln.{lnOf}
 use Rattle.vector_list.specs.Words.{agreesOf}
 use Rattle.vector_list.specs.Vectors.{isVector, vectorOf}
-use Rattle.vector_list.specs.Tallies.{countedOf, stoppedOf}
+use Rattle.numbers.specs.Tallies.{countedOf, stoppedOf}
 use Rattle.vector_list.specs.declared.Vector.{Vector}
-use Rattle.vector_list.specs.declared.Tally.{Tally}
+use Rattle.numbers.specs.declared.Tally.{Tally}
 
 -- the value of the vector's function at x: the first seven places are the square root's
 abbrev pub resultOf : Vector → Float

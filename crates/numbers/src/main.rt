@@ -2,14 +2,82 @@
 ghost use mathlib.Core.Path.{_≡_};
 ghost use Prim.Native.Nat.{ℕ, _+_, _<_, _≤_, _^_};
 ghost use lib.ListN.{getD};
-ghost use Rattle.vector_list.specs.Tallies.{Room};
+ghost use Rattle.numbers.specs.Tallies.{countedOf, stoppedOf, Room};
 ghost use Rattle.numbers.specs.Judged.{resultOf, judgedOf, takenOf, sumOf};
 use libc::STDOUT_FILENO;
-use vector_list::Tally;
 use vector_list::Vector;
 
 // How many disagreeing records are named.
 const NAMED: u64 = 10;
+
+// The records read and those that disagree; of each group those read and those that agree; and how the reading stands.
+struct Tally {
+    records: u64,
+    missed: u64,
+    seen: [u64; 14],
+    agreed: [u64; 14],
+    state: u8,
+}
+
+// The states of a reading.
+const OPEN: u8 = 0;
+
+const ENDED: u8 = 1;
+
+const CUT: u8 = 2;
+
+const MALFORMED: u8 = 3;
+
+const FAILED: u8 = 4;
+
+// No record read yet.
+fn none() -> Tally
+    ensures { λ r. ⌜ Room r × (r .records ≡ 0) ⌝ }
+{
+    Tally {
+        records: 0,
+        missed: 0,
+        seen: [0; 14],
+        agreed: [0; 14],
+        state: OPEN,
+    }
+}
+
+// One record more.
+fn counted(t: Tally, place: usize, ok: bool) -> Tally
+    requires { ⌜ Room t × (t .records < 2 ^ 63) × (place < 14) ⌝ }
+    ensures sum { λ r. ⌜ r ≡ countedOf t place ok ⌝ }
+    ensures room { λ r. ⌜ Room r ⌝ }
+{
+    let mut seen = t.seen;
+    let mut agreed = t.agreed;
+    seen[place] = seen[place] + 1;
+    agreed[place] = agreed[place] + ok as u64;
+    Tally {
+        records: t.records + 1,
+        missed: t.missed + !ok as u64,
+        seen,
+        agreed,
+        state: t.state,
+    }
+}
+
+// The reading stops, and why.
+fn stopped(t: Tally, state: u8) -> Tally
+    requires { ⌜ Room t ⌝ }
+    ensures sum { λ r. ⌜ r ≡ stoppedOf t state ⌝ }
+    ensures room { λ r. ⌜ Room r ⌝ }
+{
+    let seen = t.seen;
+    let agreed = t.agreed;
+    Tally {
+        records: t.records,
+        missed: t.missed,
+        seen,
+        agreed,
+        state,
+    }
+}
 
 // What the vector's function makes of its x.
 fn result(v: Vector) -> f64
@@ -37,21 +105,21 @@ fn taken(t: Tally, line: &[u8; 55]) -> Tally
 {
     if vector_list::is_vector(line) {
         let v = vector_list::parsed(line);
-        return vector_list::counted(t, v.place, judged(v));
+        return counted(t, v.place, judged(v));
     }
-    vector_list::stopped(t, vector_list::MALFORMED)
+    stopped(t, MALFORMED)
 }
 
 // Why a read of a line gave n bytes and no more: the end, an end within a line, or an error.
 fn state_after(fd: i32, n: usize) -> u8 {
     let mut more = [0u8; 1];
     if libc::read(fd, &mut more) != 0 {
-        return vector_list::FAILED;
+        return FAILED;
     }
     if n == 0 {
-        return vector_list::ENDED;
+        return ENDED;
     }
-    vector_list::CUT
+    CUT
 }
 
 // Names the record just counted if it disagrees, and fewer than NAMED did before it.
@@ -73,7 +141,7 @@ fn step(fd: i32, t: Tally) -> Tally
     let mut line = [0u8; 55];
     let n = io::read_full(fd, &mut line);
     if n < vector_list::LINE {
-        return vector_list::stopped(t, state_after(fd, n));
+        return stopped(t, state_after(fd, n));
     }
     let next = taken(t, &line);
     name_miss(t.missed, next);
@@ -84,9 +152,9 @@ fn step(fd: i32, t: Tally) -> Tally
 fn tallied(fd: i32) -> Tally
     ensures { λ r. ⌜ Room r × (r .records ≤ 1000000) ⌝ }
 {
-    let mut t = vector_list::none();
+    let mut t = none();
     let mut turns: u64 = 1000000;
-    while turns > 0 && t.state == vector_list::OPEN {
+    while turns > 0 && t.state == OPEN {
         t = step(fd, t);
         turns -= 1;
     }
@@ -177,7 +245,7 @@ fn print_verdict(t: Tally)
 {
     let state = t.state;
     match state {
-        vector_list::ENDED => {
+        ENDED => {
             if t.records == 0 {
                 io::write_all(STDOUT_FILENO, b"the list is empty\n");
                 return;
@@ -188,18 +256,18 @@ fn print_verdict(t: Tally)
             }
             io::write_all(STDOUT_FILENO, b"DISAGREE\n");
         }
-        vector_list::OPEN => {
+        OPEN => {
             io::write_all(
                 STDOUT_FILENO,
                 b"the list has more lines than the program takes\n",
             );
         }
-        vector_list::CUT => {
+        CUT => {
             io::write_all(STDOUT_FILENO, b"the list ends within line ");
             io::print_decimal(STDOUT_FILENO, t.records + 1);
             io::write_all(STDOUT_FILENO, b"\n");
         }
-        vector_list::MALFORMED => {
+        MALFORMED => {
             io::write_all(STDOUT_FILENO, b"line ");
             io::print_decimal(STDOUT_FILENO, t.records + 1);
             io::write_all(STDOUT_FILENO, b" is malformed\n");

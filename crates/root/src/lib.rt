@@ -41,7 +41,8 @@ fn bisected(m: u64) -> u64
 
 // The inverse root of u = 1 to 4 is a - b*d + c*d^2 - e*d^3 + f*d^4, in units of 2^-31, where i numbers 16 equal stretches
 // from 1 to 2 and 16 from 2 to 4, and d is how far u is into its stretch, from 0 to 1: the values at the Chebyshev nodes,
-// a lower by 5. Nothing is proved of that: a bad row would cost time and not the result.
+// a lower by 5 (tools/inverse_root.py). Nothing is proved of that: a bad row would cost time and not the result.
+// The rows are a match, which compiles to a table in read-only memory.
 // Here a * 2^32 + b.
 fn line(i: u64) -> u64
     ensures { λ r. ⌜ (2 ^ 62 ≤ r) × (r < 2 ^ 63) ⌝ }

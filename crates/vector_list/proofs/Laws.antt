@@ -12,11 +12,8 @@ use lib.ListN.{getD, set, replicate}
 use lib.Ieee.{Float, nan, inf, fin, binary64, div, ne, isNan, ofBits, nanBits, toBits}
 use lib.Ieee.Bits.{nanBits-is, nanBits-above}
 use lib.Ieee.Compare.{differs-from-itself, nan-differs}
-use mir.Val.{boolByte}
 use Rattle.vector_list.specs.Words.{digitOf, areDigits, spelt, rank, agreesOf}
 use Rattle.vector_list.specs.Vectors.{groupOf, placeOf, parted, isVector, vectorOf}
-use Rattle.vector_list.specs.Tallies.{countedOf, stoppedOf, Room}
-use Rattle.vector_list.specs.declared.Tally.{Tally}
 use Rattle.vector_list.specs.declared.Vector.{Vector}
 
 -- ---- digits, one more
@@ -118,47 +115,3 @@ placed s e = ltb-true (placeOf (getD s 0 0) (getD s 2 0)) 14 (and-right (parted 
 
 pub vector-placed : {v : Vector} (s : List ℕ) → v ≡ vectorOf s → (v ≡ vectorOf s) × (isVector s ≡ true → v .place < 14)
 vector-placed s e = (e, λ (h : isVector s ≡ true). subst (λ (n : ℕ). n < 14) (sym (ap (λ (u : Vector). u .place) e)) (placed s h))
-
--- ---- counts
-pub as-number : (b : Bool) → boolByte b ≡ cond b 1 0
-as-number true = refl
-as-number false = refl
-
-pub as-number-not : (b : Bool) → boolByte (not b) ≡ cond b 0 1
-as-number-not true = refl
-as-number-not false = refl
-
-pub bit-low : (b : Bool) → cond b 1 0 ≤ 1
-bit-low true = le-refl 1
-bit-low false = zero-le
-
-pub bit-low-not : (b : Bool) → cond b 0 1 ≤ 1
-bit-low-not true = zero-le
-bit-low-not false = le-refl 1
-
-pub all-low : (n k : ℕ) → getD (replicate n 0) k 0 ≤ 0
-all-low zero k = zero-le
-all-low (suc n) zero = zero-le
-all-low (suc n) (suc k) = all-low n k
-
-set-low : (l : List ℕ) (i a n : ℕ) → a ≤ n → ((k : ℕ) → getD l k 0 ≤ n) → (k : ℕ) → getD (set l i a) k 0 ≤ n
-set-low [] i a n h f k = f k
-set-low (x ∷ l) zero a n h f zero = h
-set-low (x ∷ l) zero a n h f (suc k) = f (suc k)
-set-low (x ∷ l) (suc i) a n h f zero = f zero
-set-low (x ∷ l) (suc i) a n h f (suc k) = set-low l i a n h (λ (j : ℕ). f (suc j)) k
-
-pub room-more : (t : Tally) (place : ℕ) (ok : Bool) → Room t → Room (countedOf t place ok)
-unfolding countedOf
-room-more t place ok r = record {
-  missed-low = omega (arith, bit-low-not ok, r .missed-low);
-  seen-low = set-low (t .seen) place (getD (t .seen) place 0 + 1) (t .records + 1) (omega (arith, r .seen-low place)) (λ (k : ℕ). omega (arith, r .seen-low k));
-  agreed-low = set-low (t .agreed) place (getD (t .agreed) place 0 + cond ok 1 0) (t .records + 1) (omega (arith, bit-low ok, r .agreed-low place)) (λ (k : ℕ). omega (arith, r .agreed-low k));
-}
-
-pub both : {r : Tally} (t : Tally) (place : ℕ) (ok : Bool) → Room t → r ≡ countedOf t place ok → (r ≡ countedOf t place ok) × Room r
-both t place ok h e = (e, subst Room (sym e) (room-more t place ok h))
-
-pub room-same : (t : Tally) (state : ℕ) → Room t → Room (stoppedOf t state)
-unfolding stoppedOf
-room-same t state r = record { missed-low = r .missed-low; seen-low = r .seen-low; agreed-low = r .agreed-low }

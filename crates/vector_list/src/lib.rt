@@ -1,4 +1,4 @@
-// The list of test vectors of the square root and the logarithm: its lines, the comparison, and the counts.
+// The list of test vectors of the square root and the logarithm: its lines, and the comparison.
 ghost use mathlib.Core.Path.{_≡_};
 ghost use mathlib.Core.Bool.{true};
 ghost use Prim.Native.Nat.{_<_, _^_};
@@ -6,7 +6,6 @@ ghost use lib.Ieee.{binary64, ofBits, toBits};
 ghost use Rattle.vector_list.specs.Words.{digitOf, areDigits, spelt, agreesOf};
 ghost use Rattle.vector_list.specs.Words.{rank as rankOf};
 ghost use Rattle.vector_list.specs.Vectors.{groupOf, placeOf, isVector, vectorOf};
-ghost use Rattle.vector_list.specs.Tallies.{countedOf, stoppedOf, Room};
 
 // A line's length, with its line feed.
 pub const LINE: usize = 55;
@@ -25,26 +24,6 @@ pub struct Vector {
     pub lower: u64,
     pub upper: u64,
 }
-
-// The records read and those that disagree; of each group those read and those that agree; and how the reading stands.
-pub struct Tally {
-    pub records: u64,
-    pub missed: u64,
-    pub seen: [u64; 14],
-    pub agreed: [u64; 14],
-    pub state: u8,
-}
-
-// The states of a reading.
-pub const OPEN: u8 = 0;
-
-pub const ENDED: u8 = 1;
-
-pub const CUT: u8 = 2;
-
-pub const MALFORMED: u8 = 3;
-
-pub const FAILED: u8 = 4;
 
 // The value of a hexadecimal digit, and 16 for any other byte.
 fn digit(b: u8) -> u64
@@ -188,53 +167,4 @@ pub fn agrees(lower: u64, upper: u64, r: f64) -> bool
 {
     let w = rank(word_of(r));
     (rank(lower) <= w) & (w <= rank(upper))
-}
-
-// No record read yet.
-pub fn none() -> Tally
-    ensures { λ r. ⌜ Room r × (r .records ≡ 0) ⌝ }
-{
-    Tally {
-        records: 0,
-        missed: 0,
-        seen: [0; 14],
-        agreed: [0; 14],
-        state: OPEN,
-    }
-}
-
-// One record more.
-pub fn counted(t: Tally, place: usize, ok: bool) -> Tally
-    requires { ⌜ Room t × (t .records < 2 ^ 63) × (place < 14) ⌝ }
-    ensures sum { λ r. ⌜ r ≡ countedOf t place ok ⌝ }
-    ensures room { λ r. ⌜ Room r ⌝ }
-{
-    let mut seen = t.seen;
-    let mut agreed = t.agreed;
-    seen[place] = seen[place] + 1;
-    agreed[place] = agreed[place] + ok as u64;
-    Tally {
-        records: t.records + 1,
-        missed: t.missed + !ok as u64,
-        seen,
-        agreed,
-        state: t.state,
-    }
-}
-
-// The reading stops, and why.
-pub fn stopped(t: Tally, state: u8) -> Tally
-    requires { ⌜ Room t ⌝ }
-    ensures sum { λ r. ⌜ r ≡ stoppedOf t state ⌝ }
-    ensures room { λ r. ⌜ Room r ⌝ }
-{
-    let seen = t.seen;
-    let agreed = t.agreed;
-    Tally {
-        records: t.records,
-        missed: t.missed,
-        seen,
-        agreed,
-        state,
-    }
 }

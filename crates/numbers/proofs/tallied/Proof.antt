@@ -1,7 +1,7 @@
 -- `numbers::tallied` meets its contract.
 use borrow.Author.Needs.{needs}
 use Prim.Native.Nat.{_≤_, _+_}
-use Rattle.vector_list.specs.Tallies.{Room}
+use Rattle.numbers.specs.Tallies.{Room}
 use Rattle.numbers.proofs.tallied.Statement.{statement}
 use Rattle.numbers.proofs.tallied.Tie as tie
 

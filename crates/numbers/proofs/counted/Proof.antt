@@ -1,10 +1,10 @@
--- `vector_list::counted` meets its contract.
+-- `numbers::counted` meets its contract.
 use borrow.Author.Needs.{needs}
 use native.Mathlib.Omega.{arith}
-use Rattle.vector_list.proofs.Laws.{as-number, as-number-not, bit-low, bit-low-not, both}
-use Rattle.vector_list.specs.Tallies.{countedOf}
-use Rattle.vector_list.proofs.counted.Statement.{statement}
-use Rattle.vector_list.proofs.counted.Tie as tie
+use Rattle.numbers.proofs.Tallying.{as-number, as-number-not, bit-low, bit-low-not, both}
+use Rattle.numbers.specs.Tallies.{countedOf}
+use Rattle.numbers.proofs.counted.Statement.{statement}
+use Rattle.numbers.proofs.counted.Tie as tie
 
 mul-seen : tie.Need-mul-seen
 mul-seen c = search needs

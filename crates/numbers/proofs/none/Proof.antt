@@ -1,9 +1,9 @@
--- `vector_list::none` meets its contract.
+-- `numbers::none` meets its contract.
 use mathlib.Core.Path.{refl}
 use native.Mathlib.Nat.{le-refl}
-use Rattle.vector_list.proofs.Laws.{all-low}
-use Rattle.vector_list.proofs.none.Statement.{statement}
-use Rattle.vector_list.proofs.none.Tie as tie
+use Rattle.numbers.proofs.Tallying.{all-low}
+use Rattle.numbers.proofs.none.Statement.{statement}
+use Rattle.numbers.proofs.none.Tie as tie
 
 returns : tie.Need-returns
 returns c = (record { missed-low = le-refl 0; seen-low = all-low 14; agreed-low = all-low 14 }, refl)

@@ -2,7 +2,7 @@
 use Prim.Native.Nat.{ℕ, _+_, _≤_}
 use mathlib.Core.Bool.{Bool, cond}
 use lib.ListN.{getD, set}
-use Rattle.vector_list.specs.declared.Tally.{Tally}
+use Rattle.numbers.specs.declared.Tally.{Tally}
 
 -- the tally with one record more, at a place, that agrees or not
 unfoldable pub countedOf : Tally → ℕ → Bool → Tally
