@@ -1,0 +1,153 @@
+-- The calls and the book side by side on document 01's worked sheet, refused calls included, by computation.
+use Prim.Native.Nat.{ℕ, suc}
+use mathlib.Core.Path.{_≡_, refl}
+use mathlib.Core.Bool.{Bool, true, false}
+use mathlib.Core.List.{List, [], _∷_, _++_}
+use mathlib.Core.Option.{Option, none, some}
+use native.Mathlib.Decide.{ℕ-discrete}
+use lib.ListN.{length, replicate, take}
+use lib.Ieee as Ieee
+use lib.Ieee.{Float, inf, binary64}
+use Rattle.root.specs.Root.{sqrtOf}
+use Rattle.logarithm.specs.Ln.{lnOf}
+use Rattle.storage.specs.Runs.{start, tab, cells}
+use Rattle.storage.specs.Shape.{fill}
+use Rattle.storage.specs.Part.{store}
+use Rattle.order.specs.Steps.{Step, S, C, T, rustOrder}
+use Rattle.rules.specs.Sums.{sumFrom, lessFrom, logsFrom}
+use Rattle.rules.specs.Cholesky.{forward, rows, firstBad}
+use Rattle.sheet.specs.Sheet.{Sheet}
+use Rattle.layout.specs.declared.State.the-variants.{Idle, UnderWay, Finished}
+use Rattle.refusal.specs.Numbers.{refusal}
+use Rattle.layout.specs.Shapes as Shapes
+use Rattle.layout.specs.Heading.{progressOf, layoutOf}
+use Rattle.workspace.specs.Memory.{Workspace, cleared}
+use Rattle.workspace.specs.Load.{loadSheet}
+use Rattle.workspace.specs.Response.{replaceOf}
+use Rattle.update.specs.Working.{refusedRow, factored, solved, subtracted, logged, started}
+use Rattle.update.specs.Calls.{beginOf, stepOf, runOf}
+use Rattle.profile.specs.Deviance.{profileOf}
+use Rattle.book.specs.Calls as Calls
+use Rattle.book.specs.Calls.{Call, begin, step, replaceResponse, profileDeviance, Reply, refusalOf, replies, leftBy}
+use Rattle.book.specs.Book.{Book, entered, opened, bookReplies, bookAfter, bookLeft}
+
+abbrev sheet : Sheet
+sheet =
+    record {
+      counts = record { n = 3; p = 1; q = 1; k = 1; flag = 1 };
+      blocks = record { m = 1; e = 1 } ∷ [];
+      zz = record { line = 3; col = 0; row = 0; word = 0x4008000000000000 } ∷ [];
+      zx = 0x4000000000000000 ∷ [];
+      zy = 0x4010000000000000 ∷ [];
+      xx = 0x4014000000000000 ∷ [];
+      xy = 0x4018000000000000 ∷ [];
+      yy = 0x4022000000000000;
+    }
+
+abbrev word : ℕ → Float
+word w = Ieee.ofBits binary64 w
+
+abbrev one : Float
+one = word 0x3ff0000000000000
+
+unfoldable leaves : ℕ
+unfolding start tab cells fill store sumFrom lessFrom logsFrom forward rows firstBad sqrtOf lnOf Ieee.add Ieee.sub Ieee.mul Ieee.div Ieee.le Ieee.lt Ieee.eq Ieee.ofInt Ieee.ofBits Ieee.toBits refusedRow factored solved subtracted logged started Shapes.loadedAt Shapes.workingAt Shapes.sumAt cleared ℕ-discrete rustOrder
+leaves = 0
+
+unfoldable numbers : List Reply → List ℕ
+numbers [] = []
+numbers (r ∷ l) = refusalOf r .number ∷ numbers l
+
+-- The new y'y is too small: the last pivot, block 1, row 1, is refused from there on. The last list of calls ends before it.
+abbrev calls : List Call
+calls =
+    step (T 1 0)
+    ∷ begin (one ∷ one ∷ [])
+    ∷ begin (inf false ∷ [])
+    ∷ begin (one ∷ [])
+    ∷ step (C 9)
+    ∷ step (T 1 0)
+    ∷ step (C 0)
+    ∷ step (C 0)
+    ∷ step (T 1 0)
+    ∷ replaceResponse (one ∷ []) (one ∷ []) (inf true)
+    ∷ replaceResponse (word 0x4010000000000000 ∷ []) (word 0x4018000000000000 ∷ []) one
+    ∷ step (S 1 1 0)
+    ∷ profileDeviance (one ∷ []) true
+    ∷ step (C 0)
+    ∷ begin (one ∷ [])
+    ∷ step (C 0)
+    ∷ step (T 1 0)
+    ∷ step (S 1 1 0)
+    ∷ []
+
+abbrev expected : List ℕ
+expected = 22 ∷ 13 ∷ 14 ∷ 0 ∷ 21 ∷ 24 ∷ 0 ∷ 23 ∷ 0 ∷ 14 ∷ 0 ∷ 22 ∷ 26 ∷ 22 ∷ 0 ∷ 0 ∷ 0 ∷ 0 ∷ []
+
+unfoldable loaded : Workspace
+unfolding leaves loadSheet
+loaded = loadSheet sheet (replicate 128 0) (replicate 16 (inf false)) .left
+
+unfoldable called : List ℕ
+unfolding leaves loaded numbers replies beginOf stepOf replaceOf profileOf
+called = numbers (replies calls loaded)
+
+unfoldable booked : List ℕ
+unfolding leaves numbers bookReplies loadSheet beginOf runOf replaceOf profileOf
+booked = numbers (bookReplies sheet calls (opened sheet))
+
+unfoldable left : Workspace
+unfolding called leftBy
+left = leftBy calls loaded
+
+unfoldable booked-after : Book
+unfolding booked bookAfter
+booked-after = bookAfter sheet calls (opened sheet)
+
+unfoldable words : List Float → List ℕ
+unfolding Ieee.toBits
+words [] = []
+words (x ∷ l) = Ieee.toBits binary64 x ∷ words l
+
+calls-answer : called ≡ expected
+unfolding called
+calls-answer = refl
+
+book-answers : booked ≡ expected
+unfolding booked
+book-answers = refl
+
+-- one step is left, and with none all four
+called-left : progressOf (left .heading) .left ≡ 1
+unfolding left
+called-left = refl
+
+booked-left : bookLeft sheet (booked-after .done) ≡ 1
+unfolding booked-after
+booked-left = refl
+
+opened-left : bookLeft sheet (opened sheet .done) ≡ progressOf (loaded .heading) .left
+unfolding loaded progressOf
+opened-left = refl
+
+-- the loaded numbers are the book's: 3, 2 over 4, 5 6 and the new 1
+abbrev numbersNow : List ℕ
+numbersNow =
+    0x4008000000000000 ∷ 0x4000000000000000 ∷ 0x4010000000000000 ∷ 0x4014000000000000 ∷ 0x4018000000000000 ∷ 0x3ff0000000000000 ∷ []
+
+called-loaded : words (take 6 (left .doubles)) ≡ numbersNow
+unfolding left words
+called-loaded = refl
+
+booked-loaded : words (booked-after .loaded) ≡ numbersNow
+unfolding booked-after words
+booked-loaded = refl
+
+-- C(1) is ready, and refuses its pivot in both
+last-refused : refusalOf (Calls.called (step (C 1)) left .reply) ≡ refusal 26 1 1
+unfolding left stepOf
+last-refused = refl
+
+book-refused : refusalOf (entered sheet (step (C 1)) booked-after .reply) ≡ refusal 26 1 1
+unfolding booked-after
+book-refused = refl

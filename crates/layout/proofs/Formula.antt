@@ -1,0 +1,142 @@
+-- Record 2's formula for the doubles of a workspace, and the cells of each block.
+use Prim.Native.Nat.{ℕ, zero, suc, _+_, _*_, _/_, _≤_, _<_}
+use mathlib.Core.Path.{_≡_, refl, _∙_}
+use mathlib.Core.Bool.{true, false, _&&_}
+use mathlib.Core.List.{List, [], _∷_, _++_}
+use native.Mathlib.Omega.{arith}
+use lib.Dec.{eqb}
+use borrow.Author.Tests.{eq-eqb, ne-eqb, lt-ltb, le-ltb}
+use Rattle.storage.proofs.Places.{size-packed, size-columns, size-diagonal}
+use Rattle.layout.specs.declared.Layout.{Layout}
+use Rattle.layout.specs.Blocks.{sum}
+use Rattle.layout.specs.Shapes.{
+  levels,
+  shape,
+  loadedShape,
+  Target,
+  target,
+  factors,
+  across,
+  pairs,
+  targets,
+  cellsOf,
+  sizes,
+  loadedSizes,
+  loadedLength,
+  sumAt,
+  crossCells,
+  factorCells,
+  doublesNeeded,
+  doublesFormula,
+}
+
+module _ (size : ℕ → ℕ → ℕ) where
+  -- the cells of two lists of blocks are added
+  pub cells-append : (a b : List Target) → cellsOf size (a ++ b) ≡ cellsOf size a + cellsOf size b
+  unfolding cellsOf
+  cells-append [] b = omega arith
+  cells-append (t ∷ a) b = omega (arith, cells-append a b)
+
+  -- of all blocks: the factors, the pairs, the fixed rows, the last triangle
+  pub cells-targets : (k : ℕ) → cellsOf size (targets k) ≡ cellsOf size (factors k) + cellsOf size (pairs k) + cellsOf size (across k k) + size k k
+  unfolding targets cellsOf
+  cells-targets k =
+      omega (arith, cells-append (factors k ++ pairs k ++ across k k) (target k k ∷ []), cells-append (factors k ++ pairs k) (across k k), cells-append (factors k) (pairs k))
+
+module _ (y : Layout) where
+  -- ---- each block's cells
+
+  -- the first factor is a diagonal
+  pub first-factor : 0 < y .k → sizes y 0 0 ≡ levels y 0
+  unfolding shape
+  first-factor h = rw (ne-eqb 0 (y .k) (λ e. omega arith)) (size-diagonal (levels y 0))
+
+  -- so is the second where each column of the pair has one entry
+  pub diagonal-factor : 1 < y .k → y .diagonal ≡ true → sizes y 1 1 ≡ levels y 1
+  unfolding shape
+  diagonal-factor h d = rw (ne-eqb 1 (y .k) (λ e. omega arith), d) (size-diagonal (levels y 1))
+
+  -- any other is a triangle
+  pub later-factor : (j : ℕ) → 0 < j → j < y .k → (y .diagonal && eqb j 1) ≡ false → 2 * sizes y j j ≡ levels y j * (levels y j + 1)
+  unfolding shape
+  later-factor j g h d =
+      rw (ne-eqb j (y .k) (λ e. omega arith), eq-eqb j j refl, ne-eqb j 0 (λ e. omega arith), d) (size-packed (levels y j))
+
+  -- the fixed rows of factor j
+  pub fixed-size : (j : ℕ) → j < y .k → sizes y (y .k) j ≡ (y .p + 1) * levels y j
+  unfolding shape
+  fixed-size j h = rw (eq-eqb (y .k) (y .k) refl, ne-eqb j (y .k) (λ e. omega arith)) (size-columns (y .p + 1) (levels y j))
+
+  -- the last triangle
+  pub last-size : sizes y (y .k) (y .k) ≡ (y .p + 1) * (y .p + 2) / 2
+  unfolding shape
+  last-size = rw (eq-eqb (y .k) (y .k) refl) (let e = size-packed (y .p + 1) in omega arith)
+
+  -- a loaded factor is a diagonal
+  pub loaded-factor : (j : ℕ) → j < y .k → loadedSizes y j j ≡ levels y j
+  unfolding loadedShape
+  loaded-factor j h = rw (eq-eqb j j refl, lt-ltb j (y .k) h) (size-diagonal (levels y j))
+
+  -- every other block is loaded as it works
+  pub loaded-other : (i j : ℕ) → j < i → loadedSizes y i j ≡ sizes y i j
+  unfolding loadedShape
+  loaded-other i j h = rw (ne-eqb i j (λ e. omega arith))
+
+  pub loaded-last : loadedSizes y (y .k) (y .k) ≡ sizes y (y .k) (y .k)
+  unfolding loadedShape
+  loaded-last = rw (eq-eqb (y .k) (y .k) refl, le-ltb (y .k) (y .k) (omega arith))
+
+  -- ---- each kind's cells
+
+  loaded-factors : (n : ℕ) → n ≤ y .k → cellsOf (loadedSizes y) (factors n) ≡ sum (levels y) n
+  unfolding factors cellsOf sum
+  loaded-factors zero h = refl
+  loaded-factors (suc n) h =
+      omega (arith, cells-append (loadedSizes y) (factors n) (target n n ∷ []), loaded-factors n (omega arith), loaded-factor n (omega arith))
+
+  loaded-across : (i n : ℕ) → n ≤ i → cellsOf (loadedSizes y) (across i n) ≡ cellsOf (sizes y) (across i n)
+  unfolding across cellsOf
+  loaded-across i zero h = refl
+  loaded-across i (suc n) h =
+      omega (
+        arith,
+        cells-append (loadedSizes y) (across i n) (target i n ∷ []),
+        cells-append (sizes y) (across i n) (target i n ∷ []),
+        loaded-across i n (omega arith),
+        loaded-other i n (omega arith),
+      )
+
+  loaded-pairs : (n : ℕ) → cellsOf (loadedSizes y) (pairs n) ≡ cellsOf (sizes y) (pairs n)
+  unfolding pairs cellsOf
+  loaded-pairs zero = refl
+  loaded-pairs (suc n) =
+      omega (
+        arith,
+        cells-append (loadedSizes y) (pairs n) (across n n),
+        cells-append (sizes y) (pairs n) (across n n),
+        loaded-pairs n,
+        loaded-across n n (omega arith),
+      )
+
+  fixed-rows : (n : ℕ) → n ≤ y .k → cellsOf (sizes y) (across (y .k) n) ≡ (y .p + 1) * sum (levels y) n
+  unfolding across cellsOf sum
+  fixed-rows zero h = omega arith
+  fixed-rows (suc n) h =
+      omega (arith, cells-append (sizes y) (across (y .k) n) (target (y .k) n ∷ []), fixed-rows n (omega arith), fixed-size n (omega arith))
+
+  -- ---- the formula
+  pub doubles-formula : y .q ≡ sum (levels y) (y .k) → doublesNeeded y ≡ doublesFormula y
+  unfolding sumAt loadedLength crossCells factorCells
+  doubles-formula e =
+      let k : ℕ = y .k in
+      let f : cellsOf (sizes y) (across k k) ≡ y .q * (y .p + 1) = rw e (fixed-rows k (omega arith) ∙ omega arith) in
+      omega (
+        arith,
+        cells-targets (loadedSizes y) k,
+        cells-targets (sizes y) k,
+        loaded-factors k (omega arith),
+        loaded-pairs k,
+        loaded-across k k (omega arith),
+        loaded-last,
+        last-size,
+      )

@@ -1,0 +1,5 @@
+pub mod Places
+pub mod Formula
+pub mod Lawful
+pub mod Heading
+pub mod Controls

@@ -1,0 +1,4 @@
+pub mod Blocks
+pub mod Gate
+pub mod Shapes
+pub mod Heading

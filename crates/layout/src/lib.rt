@@ -1,0 +1,37 @@
+// The layout of a workspace and the progress of its update: the structs that calls hand on by value. Definitions are in specs/.
+
+// What Record 2 makes of a sheet: the counts; levels and sheet index of each sorted block, 0 past the last; and how the blocks are stored.
+pub struct Layout {
+    pub n: u64,
+    pub p: u64,
+    pub q: u64,
+    pub k: u64,
+    pub m: [u64; 8],
+    pub order: [u64; 8],
+    // The one pair is stored sparse.
+    pub sparse: bool,
+    // Block 1 is a diagonal.
+    pub diagonal: bool,
+}
+
+// Record 5: none, under way or finished.
+pub enum State {
+    Idle,
+    UnderWay,
+    Finished,
+}
+
+// Record 5: the state, the steps left, and the stage of each of the at most 45 target blocks, by rows: how many of its steps are done.
+pub struct Progress {
+    pub state: State,
+    pub left: u64,
+    pub stages: [u64; 45],
+}
+
+// What the gate says of a pair of blocks.
+pub enum Pair {
+    Dense,
+    Sparse,
+    // Number 10 or 11.
+    Refused(u64),
+}

@@ -1,0 +1,10 @@
+pub mod Controls
+pub mod Tables
+pub mod Invariant
+pub mod RustOrder
+pub mod Sets
+pub mod Listing
+pub mod Left
+pub mod Next
+pub mod Refusal
+pub mod Theorems

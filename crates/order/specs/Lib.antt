@@ -1,0 +1,4 @@
+pub mod Steps
+pub mod Elimination
+pub mod Progress
+pub mod Outcome

@@ -1,0 +1,1 @@
+// Definitions and theorems alone: the steps of an update, their order, and that the result does not depend on it.

@@ -1,0 +1,141 @@
+-- Deviance and solution by computation, on the finished factor of document 01's worked sheet. The deviances are Python's.
+use Prim.Native.Nat.{ℕ, suc}
+use mathlib.Core.Path.{_≡_, refl}
+use mathlib.Core.Bool.{Bool, true, false}
+use mathlib.Core.List.{List, [], _∷_, _++_}
+use lib.ListN.{replicate, set}
+use lib.Ieee as Ieee
+use lib.Ieee.{Float, nan, binary64}
+use Rattle.root.specs.Root.{sqrtOf}
+use Rattle.logarithm.specs.Ln.{lnOf}
+use Rattle.refusal.specs.Numbers.{refusal}
+use Rattle.storage.specs.Runs.{start, tab, cells}
+use Rattle.storage.specs.Shape.{fill}
+use Rattle.storage.specs.Part.{store}
+use Rattle.order.specs.Steps.{rustOrder}
+use Rattle.rules.specs.Sums.{sumFrom, lessFrom, logsFrom}
+use Rattle.rules.specs.Cholesky.{forward, rows, firstBad}
+use Rattle.rules.specs.Solves.{backward}
+use Rattle.layout.specs.declared.Layout.{Layout}
+use Rattle.layout.specs.declared.Progress.{Progress}
+use Rattle.layout.specs.declared.State.the-variants.{Idle, UnderWay, Finished}
+use Rattle.layout.specs.Shapes as Shapes
+use Rattle.layout.specs.Heading.{written}
+use Rattle.workspace.specs.Memory.{Workspace, cleared}
+use Rattle.update.specs.Working.{refusedRow, factored, solved, subtracted, logged, started}
+use Rattle.profile.specs.declared.Deviance.{Deviance}
+use Rattle.profile.specs.declared.Deviance.the-variants.{Value, Pivot, NoScale, Refused}
+use Rattle.profile.specs.declared.Solve.{Solve}
+use Rattle.profile.specs.declared.Solve.the-variants.{Solved, Refused as Denied}
+use Rattle.profile.specs.Deviance as Deviances
+use Rattle.profile.specs.Deviance.{devianceFromFactor, profileOf}
+use Rattle.profile.specs.Finish as Finish
+use Rattle.profile.specs.Finish.{Solving, solveOf}
+
+abbrev word : ℕ → Float
+word w = Ieee.ofBits binary64 w
+
+abbrev layout : ℕ → Layout
+layout n = record { n = n; p = 1; q = 1; k = 1; m = 1 ∷ replicate 7 0; order = replicate 8 0; sparse = false; diagonal = false }
+
+-- every block at its last stage: (0,0), (1,0) and (1,1)
+abbrev finished : Progress
+finished = record { state = Finished; left = 0; stages = 1 ∷ 1 ∷ 2 ∷ replicate 42 0 }
+
+abbrev underWay : Progress
+underWay = record { state = UnderWay; left = 4; stages = replicate 45 0 }
+
+-- loaded 3, 2 over 4, 5 6 9; theta 1; the factor 2, 1 over 2, 2 2 1; the sum ln 2
+abbrev doubles : List Float
+doubles =
+    word 0x4008000000000000
+    ∷ word 0x4000000000000000
+    ∷ word 0x4010000000000000
+    ∷ word 0x4014000000000000
+    ∷ word 0x4018000000000000
+    ∷ word 0x4022000000000000
+    ∷ word 0x3ff0000000000000
+    ∷ word 0x4000000000000000
+    ∷ word 0x3ff0000000000000
+    ∷ word 0x4000000000000000
+    ∷ word 0x4000000000000000
+    ∷ word 0x4000000000000000
+    ∷ word 0x3ff0000000000000
+    ∷ word 0x3fe62e42fefa39ef
+    ∷ []
+
+unfoldable leaves : ℕ
+unfolding start tab cells fill store sumFrom lessFrom logsFrom forward rows firstBad backward sqrtOf lnOf Ieee.add Ieee.sub Ieee.mul Ieee.div Ieee.le Ieee.lt Ieee.eq Ieee.ofInt Ieee.ofBits Ieee.toBits refusedRow factored solved subtracted logged started Shapes.loadedAt Shapes.workingAt Shapes.sumAt cleared rustOrder written
+leaves = 0
+
+unfoldable bitsOf : Deviance → ℕ
+unfolding Ieee.toBits
+bitsOf (Value v) = Ieee.toBits binary64 v
+bitsOf (Pivot j r) = 1
+bitsOf NoScale = 2
+bitsOf (Refused r) = 3
+
+unfoldable deviance : ℕ → Progress → List Float → Bool → Deviance
+unfolding leaves devianceFromFactor
+deviance n g w reml = devianceFromFactor (written (layout n) g) w reml
+
+-- ((3 ln(2π/3)) + 2 ln 2) + 3
+ml : bitsOf (deviance 3 finished doubles false) ≡ 0x401a6a963a085b3b
+unfolding deviance bitsOf
+ml = refl
+
+-- (((2 ln(2π/2)) + 2 ln 2) + 2) + 2 ln 2
+reml : bitsOf (deviance 3 finished doubles true) ≡ 0x401c3f89a3f0edd6
+unfolding deviance bitsOf
+reml = refl
+
+-- no scale: d is 0, or r2 is 0; a NaN r2 is a value
+no-freedom : deviance 1 finished doubles true ≡ NoScale
+unfolding deviance
+no-freedom = refl
+
+no-residual : deviance 3 finished (set doubles 12 (word 0)) false ≡ NoScale
+unfolding deviance
+no-residual = refl
+
+nan-value : bitsOf (deviance 3 finished (set doubles 12 nan) false) ≡ 0x7ff8000000000000
+unfolding deviance bitsOf
+nan-value = refl
+
+not-finished : deviance 3 underWay doubles false ≡ Refused (refusal 25 0 0)
+unfolding deviance
+not-finished = refl
+
+-- ---- the solution
+unfoldable words : List Float → List ℕ
+unfolding Ieee.toBits
+words [] = []
+words (x ∷ l) = Ieee.toBits binary64 x ∷ words l
+
+unfoldable solving : Progress → List Float → ℕ → Solving
+unfolding leaves solveOf
+solving g w n = solveOf (written (layout 3) g) w false (replicate n (word 99))
+
+-- beta 1, b 2 · 1/2, u 1/2, .. when the kept theta is 2 and the loaded Z'X and Z'y are half as large: v is the same
+solution :
+    words (solving finished (set (set (set doubles 6 (word 0x4000000000000000)) 1 (word 0x3ff0000000000000)) 2 (word 0x4000000000000000)) 6 .result)
+    ≡ 0x3ff0000000000000 ∷ 0x3ff0000000000000 ∷ 0x3fe0000000000000 ∷ 0x4000000000000000 ∷ 0x3ff0000000000000 ∷ 0x3fe0000000000000 ∷ []
+unfolding solving words
+solution = refl
+
+-- 25 before 13; 13 leaves the list; 27, here X'X 1 - 2 · 1/2, leaves it +0.0
+solve-early : solving underWay doubles 5 .answer ≡ Denied (refusal 25 0 0)
+unfolding solving
+solve-early = refl
+
+wrong-length : solving finished doubles 5 ≡ record { answer = Denied (refusal 13 0 0); result = replicate 5 (word 99) }
+unfolding solving
+wrong-length = refl
+
+no-pivot : solving finished (set doubles 3 (word 0x3ff0000000000000)) 6 .answer ≡ Denied (refusal 27 0 0)
+unfolding solving
+no-pivot = refl
+
+no-pivot-clears : words (solving finished (set doubles 3 nan) 6 .result) ≡ replicate 6 0
+unfolding solving words
+no-pivot-clears = refl

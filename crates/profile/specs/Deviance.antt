@@ -1,0 +1,89 @@
+-- The profiled deviance (document 01, Record 6): `deviance_from_factor`, and `profile_deviance`, which is begin, the Rust's steps and this.
+use Prim.Native.Nat.{ℕ, suc, _+_}
+use mathlib.Core.Bool.{Bool, true, false, _||_, cond}
+use mathlib.Core.List.{List}
+use lib.ListN.{length}
+use lib.Ieee.{Float}
+use Rattle.storage.specs.Shape.{packed}
+use Rattle.order.specs.Steps.{rustOrder}
+use Rattle.rules.specs.Arithmetic.{Arithmetic, ieee}
+use Rattle.rules.specs.Finish.{devianceOf}
+use Rattle.layout.specs.declared.Layout.{Layout}
+use Rattle.layout.specs.declared.State.{State}
+use Rattle.layout.specs.declared.State.the-variants.{Idle, UnderWay, Finished}
+use Rattle.refusal.specs.declared.Refusal.{Refusal}
+use Rattle.refusal.specs.declared.Answer.{Answer}
+use Rattle.refusal.specs.declared.Answer.the-variants.{Accepted, Refused as Denied}
+use Rattle.layout.specs.Shapes.{pick}
+use Rattle.layout.specs.Heading.{layoutOf, progressOf, headed}
+use Rattle.workspace.specs.Memory.{Workspace, cellOf, workingBlock, logSum}
+use Rattle.refusal.specs.Numbers.{refusal, noRefusal}
+use Rattle.workspace.specs.Answers.{Outcome}
+use Rattle.update.specs.Calls.{beginOf, runOf}
+use Rattle.profile.specs.declared.Deviance.{Deviance}
+use Rattle.profile.specs.declared.Deviance.the-variants.{Value, Pivot, NoScale, Refused}
+
+-- document 01's number and places of an answer: 0 where it is a value or "no scale", and 26 for a pivot
+abbrev pub refusalOf : Deviance → Refusal
+refusalOf (Value v) = noRefusal
+refusalOf (Pivot j r) = refusal 26 j r
+refusalOf NoScale = noRefusal
+refusalOf (Refused r) = r
+
+abbrev pub refusing : ℕ → Deviance
+refusing n = Refused (refusal n 0 0)
+
+abbrev pub isFinished : State → Bool
+isFinished Idle = false
+isFinished UnderWay = false
+isFinished Finished = true
+
+-- d = n (ML) or n - p (REML)
+abbrev pub freedom : Layout → Bool → Float
+freedom y reml = cond reml (ieee .minus (ieee .whole (y .n)) (ieee .whole (y .p))) (ieee .whole (y .n))
+
+-- log determinant = 2 × sum
+abbrev pub logDeterminant : List ℕ → List Float → Float
+logDeterminant h w = ieee .times (ieee .two) (logSum h w)
+
+module _ (h : List ℕ) (w : List Float) (reml : Bool) where
+  -- pivot r of block k
+  abbrev pub lastPivot : ℕ → Float
+  lastPivot r = cellOf (packed (layoutOf h .p + 1)) (workingBlock h w (layoutOf h .k) (layoutOf h .k)) r r
+
+  -- r2 is the square of the last pivot; no scale where r2 or d is at most 0
+  unfoldable pub devianceValue : Deviance
+  devianceValue =
+      let y = layoutOf h in
+      let r2 = ieee .times (lastPivot (y .p)) (lastPivot (y .p)) in
+      let d = freedom y reml in
+      pick (ieee .refused r2 || ieee .refused d) NoScale
+      (Value (devianceOf ieee reml d (ieee .over r2 d) (logDeterminant h w) lastPivot (y .p)))
+
+  -- 20, 25
+  unfoldable pub devianceFromFactor : Deviance
+  unfolding headed devianceValue
+  devianceFromFactor =
+      pick (headed h (length w)) (pick (isFinished (progressOf h .state)) devianceValue (refusing 25)) (refusing 20)
+
+-- ---- `profile_deviance`
+pub record Profiled : Type 0 where
+  pub answer : Deviance
+  pub left : Workspace
+
+abbrev pub asPivot : Refusal → Deviance
+asPivot r = Pivot (r .first) (r .second)
+
+-- after the steps: a refused pivot is the second answer, with what 26 leaves
+abbrev pub afterSteps : Answer → Outcome → Bool → Profiled
+afterSteps Accepted o reml = record { answer = devianceValue (o .left .heading) (o .left .doubles) reml; left = o .left }
+afterSteps (Denied r) o reml = record { answer = asPivot r; left = o .left }
+
+-- after begin: its refusals, 20, 13 and 14, are the call's
+abbrev pub afterBegin : Answer → Outcome → ℕ → Bool → Profiled
+afterBegin Accepted o k reml = let all = runOf (o .left) (rustOrder k) in afterSteps (all .answer) all reml
+afterBegin (Denied r) o k reml = record { answer = Refused r; left = o .left }
+
+unfoldable pub profileOf : List ℕ → List Float → List Float → Bool → Profiled
+unfolding beginOf runOf devianceValue
+profileOf h w theta reml = let o = beginOf h w theta in afterBegin (o .answer) o (layoutOf h .k) reml

@@ -1,0 +1,3 @@
+pub mod Deviance
+pub mod Solves
+pub mod Finish

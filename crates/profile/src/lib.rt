@@ -1,0 +1,21 @@
+// Deviance and solution (document 01, Records 6 and 7). What the calls answer and leave is defined in specs/.
+use refusal::Refusal;
+
+// Record 6: the deviance, or the refused pivot's block and row, or no scale; or a refusal.
+pub enum Deviance {
+    Value(f64),
+    Pivot(u64, u64),
+    NoScale,
+    Refused(Refusal),
+}
+
+// Record 7: the two scalars of a solution.
+pub struct Solution {
+    pub deviance: f64,
+    pub sigma2: f64,
+}
+
+pub enum Solve {
+    Solved(Solution),
+    Refused(Refusal),
+}

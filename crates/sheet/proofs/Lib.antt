@@ -1,0 +1,9 @@
+pub mod Notation
+pub mod Examples
+pub mod Lines
+pub mod Entries
+pub mod Enough
+pub mod Whole
+pub mod Numbers
+pub mod Faults
+pub mod Answers

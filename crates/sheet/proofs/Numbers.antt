@@ -1,0 +1,139 @@
+-- Reading refuses with 1 and no line, or with 2, 3 or 4 and a line.
+use Prim.Native.Nat.{ℕ, zero, suc, _+_, _≤_}
+use mathlib.Core.Path.{_≡_, refl, sym, _∙_, subst}
+use mathlib.Core.Logic.{_⊎_, inl, inr}
+use mathlib.Core.Bool.{Bool, true, false, _&&_, cond}
+use mathlib.Core.List.{List}
+use native.Mathlib.Omega.{arith}
+use borrow.Author.Tests.{eqb-false}
+use lib.Dec.{ltb, eqb}
+use lib.ListN.{length}
+use Rattle.sheet.specs.declared.Counts.{Counts}
+use Rattle.sheet.specs.declared.Cursor.{Cursor}
+use Rattle.sheet.specs.declared.Line.{Line}
+use Rattle.sheet.specs.declared.Starts.{Starts}
+use Rattle.sheet.specs.Field.{isFinite}
+use Rattle.sheet.specs.Line.{zzTag, zxTag, zyTag, xxTag, xyTag, yyTag, tagTo, inForm, sizeLine, blockLine, pairLine, singleLine, bareLine, verdictOf}
+use Rattle.sheet.specs.Run.{ended, before, entryIn, isBetween, reaches, blockIn, wordIn, givenVerdict, blockVerdict, entryVerdict, blocksOf, entriesFrom, wordsOf, rowsFrom, passOf}
+use Rattle.sheet.specs.Sheet.{Sheet, Outcome, accepted, refused, countsWithin, settled, readLines, afterSize, readSheet, sheetOf, alone}
+use Rattle.sheet.proofs.Lines.{lines-keep}
+use Rattle.sheet.proofs.Whole.{read-whole}
+
+-- 0, or a refusal of a line
+abbrev OfLine : ℕ → Type 0
+OfLine n = (n ≡ 0) ⊎ ((2 ≤ n) × (n ≤ 4))
+
+verdict-of-line : (form finite within : Bool) → OfLine (verdictOf form finite within)
+verdict-of-line true true true = inl refl
+verdict-of-line true true false = inr (omega arith, omega arith)
+verdict-of-line true false true = inr (omega arith, omega arith)
+verdict-of-line true false false = inr (omega arith, omega arith)
+verdict-of-line false finite within = inr (omega arith, omega arith)
+
+-- the cursor's number is such a one, and its line is counted from 1
+abbrev Sound : Cursor → Type 0
+Sound c = OfLine (c .number) × (1 ≤ c .line)
+
+pass-sound : (c : Cursor) (number next : ℕ) → OfLine number → Sound c → Sound (passOf c number next)
+unfolding passOf
+pass-sound c number next v h = go (eqb (c .number) 0) (eqb number 0)
+  where
+    go : (t u : Bool) → Sound (cond t (cond u (record { at = next; line = c .line + 1; number = 0 }) (record { at = c .at; line = c .line; number = number })) c)
+    go true true = (inl refl, omega (arith, h .1))
+    go true false = (v, h .1)
+    go false u = h
+
+words-sound : (read : ℕ → Line) (width : ℕ → ℕ) (n : ℕ) (c : Cursor) → Sound c → Sound (wordsOf read width n c .past)
+words-sound read width n =
+    lines-keep read givenVerdict wordIn Sound
+    (λ c i l. pass-sound c (givenVerdict i l) (l .next)
+    (verdict-of-line (inForm (l .next) && eqb (l .first) (i .0) && eqb (l .second) (i .1)) (isFinite (l .word)) true))
+    (rowsFrom width 0 n)
+
+module _ (s : List ℕ) where
+  blocks-sound : (k : ℕ) (c : Cursor) → Sound c → Sound (blocksOf s k c .past)
+  blocks-sound k =
+      lines-keep (blockLine s) blockVerdict blockIn Sound
+      (λ c i l. pass-sound c (blockVerdict i l) (l .next)
+      (verdict-of-line (inForm (l .next)) true (isBetween 1 (l .first) 65535 && isBetween 1 (l .second) 16)))
+      (rowsFrom (λ r. 1) 0 k)
+
+  entries-sound : (left q col row : ℕ) (c : Cursor) → Sound c → Sound (entriesFrom left s q col row c .past)
+  unfolding entriesFrom
+  entries-sound zero q col row c h = h
+  entries-sound (suc left) q col row c h =
+      let l = pairLine zzTag s (c .at) in
+      let v = verdict-of-line (inForm (l .next) && reaches col row (l .first) (l .second)) (isFinite (l .word)) (ltb (l .first) q && ltb (l .second) q) in
+      go (entries-sound left q (l .first) (l .second + 1) (passOf c (entryVerdict q col row l) (l .next)) (pass-sound c (entryVerdict q col row l) (l .next) v h))
+      (eqb (c .number) 0 && inForm (tagTo zzTag s (c .at) .next))
+    where
+      go : let l = pairLine zzTag s (c .at) in
+          let more = entriesFrom left s q (l .first) (l .second + 1) (passOf c (entryVerdict q col row l) (l .next)) in
+          Sound (more .past) → (t : Bool) → Sound (cond t (before (entryIn (c .line) l) more) (ended c) .past)
+      go m true = m
+      go m false = h
+
+-- a refusal and its line
+abbrev pub Refusal : ℕ → ℕ → Type 0
+Refusal number line = ((number ≡ 1) × (line ≡ 0)) ⊎ ((2 ≤ number) × (number ≤ 4) × (1 ≤ line))
+
+of-cursor : (number line : ℕ) → (number ≡ 0 → ⊥) → OfLine number × (1 ≤ line) → Refusal number line
+of-cursor number line h (inl z, l) = absurd (h z)
+of-cursor number line h (inr r, l) = inr (r .0, r .1, l)
+
+settled-refusal : (c : Cursor) (sheet : Sheet) (starts : Starts) (number line : ℕ) → Sound c → settled c sheet starts ≡ refused number line → Refusal number line
+settled-refusal c sheet starts number line h e = go (eqb (c .number) 0) refl e
+  where
+    go : (t : Bool) → eqb (c .number) 0 ≡ t → cond t (accepted sheet starts) (refused (c .number) (c .line)) ≡ refused number line → Refusal number line
+    go true u g = let z : _≡_ {A = ℕ} 0 1 = cc in absurd (omega arith)
+    go false u g =
+        let n : c .number ≡ number = cc in
+        let l : c .line ≡ line = cc in
+        subst (λ (x : ℕ). Refusal x line) n (subst (λ (x : ℕ). Refusal (c .number) x) l (of-cursor (c .number) (c .line) (eqb-false _ 0 u) h))
+
+lines-refusal : (s : List ℕ) (z : Counts) (at number line : ℕ) → readLines s z (record { at = at; line = 2; number = 0 }) ≡ refused number line → Refusal number line
+unfolding readLines
+lines-refusal s z at number line e =
+    let c : Cursor = record { at = at; line = 2; number = 0 } in
+    let zz = entriesFrom (length s) s (z .q) 0 0 (blocksOf s (z .k) c .past) in
+    let zx = wordsOf (pairLine zxTag s) (λ r. z .p) (z .q) (zz .past) in
+    let zy = wordsOf (singleLine zyTag s) (λ r. 1) (z .q) (zx .past) in
+    let xx = wordsOf (pairLine xxTag s) (λ r. r + 1) (z .p) (zy .past) in
+    let xy = wordsOf (singleLine xyTag s) (λ r. 1) (z .p) (xx .past) in
+    let yy = wordsOf (bareLine yyTag s) (λ r. 1) 1 (xy .past) in
+    let hz : Sound (zz .past) = entries-sound s (length s) (z .q) 0 0 _ (blocks-sound s (z .k) c (inl refl, omega arith)) in
+    let hx : Sound (xx .past) =
+    words-sound _ _ (z .p) _ (words-sound (singleLine zyTag s) (λ r. 1) (z .q) _ (words-sound (pairLine zxTag s) (λ r. z .p) (z .q) _ hz)) in
+    settled-refusal (yy .past) _ _ number line (words-sound _ _ 1 _ (words-sound (singleLine xyTag s) (λ r. 1) (z .p) _ hx)) e
+
+-- THE CLAIM
+pub read-refusal : (s : List ℕ) (number line : ℕ) → readSheet s ≡ refused number line → Refusal number line
+unfolding readSheet
+read-refusal s number line e =
+    let v = verdict-of-line (inForm (sizeLine s 0 .next)) true (countsWithin (sizeLine s 0 .counts)) in
+    go (ltb 16777216 (length s)) (verdictOf (inForm (sizeLine s 0 .next)) true (countsWithin (sizeLine s 0 .counts))) v e
+  where
+    go : (t : Bool) (v : ℕ) → OfLine v → cond t (refused 1 0) (afterSize v s (sizeLine s 0)) ≡ refused number line → Refusal number line
+    go true v h g = let n : 1 ≡ number = cc in let l : 0 ≡ line = cc in inl (sym n, sym l)
+    go false zero h g = lines-refusal s (sizeLine s 0 .counts) (sizeLine s 0 .next) number line g
+    go false (suc v) h g =
+        let n : suc v ≡ number = cc in
+        let l : 1 ≡ line = cc in
+        subst (λ (x : ℕ). Refusal x line) n (subst (λ (x : ℕ). Refusal (suc v) x) l (of-cursor (suc v) 1 (λ z. omega arith) (h, omega arith)))
+
+-- the sheet that load is given
+pub alone-refusal : (s : List ℕ) (number line : ℕ) → sheetOf s ≡ refused number line → Refusal number line
+unfolding sheetOf
+alone-refusal s number line e = go (readSheet s) refl e
+  where
+    left-over : (sheet : Sheet) (starts : Starts) (t : Bool) → readSheet s ≡ accepted sheet starts
+        → cond t (accepted sheet starts) (refused 2 (starts .line)) ≡ refused number line → Refusal number line
+    left-over sheet starts true u g = let z : _≡_ {A = ℕ} 0 1 = cc in absurd (omega arith)
+    left-over sheet starts false u g =
+        let n : 2 ≡ number = cc in
+        let l : starts .line ≡ line = cc in
+        inr (omega arith, omega arith, omega (arith, read-whole s sheet starts u .shape .lines))
+
+    go : (o : Outcome) → readSheet s ≡ o → alone s o ≡ refused number line → Refusal number line
+    go (accepted sheet starts) u g = left-over sheet starts (eqb (starts .end) (length s)) u g
+    go (refused m k) u g = read-refusal s number line (u ∙ g)

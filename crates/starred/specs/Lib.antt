@@ -1,0 +1,4 @@
+pub mod Text
+pub mod Table
+pub mod Sheets
+pub mod Evaluate

@@ -1,0 +1,6 @@
+pub mod Starts
+pub mod Cells
+pub mod Parts
+pub mod Places
+pub mod Blocks
+pub mod Controls

@@ -1,0 +1,1 @@
+// Definitions and theorems alone: where the cells of a block lie in a list.

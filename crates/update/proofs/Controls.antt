@@ -1,0 +1,127 @@
+-- Begin and the steps by computation, on a workspace of two blocks whose sorted order is not the sheet's: block 0 of the sheet has one level, block 1 two.
+-- Every loaded number is 1, and theta is 2, 3.
+use Prim.Native.Nat.{ℕ, suc}
+use mathlib.Core.Path.{_≡_, refl}
+use mathlib.Core.Bool.{false}
+use mathlib.Core.List.{List, [], _∷_, _++_}
+use lib.ListN.{length, replicate, getD}
+use lib.Ieee as Ieee
+use lib.Ieee.{Float, nan, binary64}
+use Rattle.root.specs.Root.{sqrtOf}
+use Rattle.logarithm.specs.Ln.{lnOf}
+use Rattle.storage.specs.Runs.{start, tab, cells}
+use Rattle.storage.specs.Shape.{fill}
+use Rattle.storage.specs.Part.{store}
+use Rattle.order.specs.Steps.{Step, S, C, T, rustOrder}
+use Rattle.rules.specs.Sums.{sumFrom, lessFrom, logsFrom}
+use Rattle.rules.specs.Cholesky.{forward, rows, firstBad}
+use Rattle.layout.specs.declared.Layout.{Layout}
+use Rattle.refusal.specs.declared.Answer.the-variants.{Accepted}
+use Rattle.layout.specs.declared.State.the-variants.{Idle, UnderWay, Finished}
+use Rattle.layout.specs.Shapes as Shapes
+use Rattle.layout.specs.Heading.{written, headed, layoutOf, progressOf, progressNumbers}
+use Rattle.workspace.specs.Memory.{Workspace, idle, workingBlock, cleared}
+use Rattle.refusal.specs.Numbers.{refusalOf}
+use Rattle.workspace.specs.Answers.{Outcome, space}
+use Rattle.update.specs.Working.{refusedRow, factored, solved, subtracted, logged, started}
+use Rattle.update.specs.Calls.{beginOf, stepOf, runOf}
+
+abbrev word : ℕ → Float
+word w = Ieee.ofBits binary64 w
+
+abbrev one : Float
+one = word 0x3ff0000000000000
+
+abbrev layout : Layout
+layout =
+    record {
+      n = 3;
+      p = 1;
+      q = 3;
+      k = 2;
+      m = 2 ∷ 1 ∷ replicate 6 0;
+      order = 1 ∷ 0 ∷ replicate 6 0;
+      sparse = false;
+      diagonal = false;
+    }
+
+-- 14 loaded numbers and 17 working doubles; loaded block (2,2) has rows 1 and 1, 9
+unfoldable fresh : Workspace
+unfolding written progressNumbers rustOrder
+fresh = space (written layout (idle 2)) (replicate 13 one ++ (word 0x4022000000000000 ∷ replicate 17 nan))
+
+unfoldable begun : Outcome
+unfolding fresh beginOf start tab cells fill store sumFrom lessFrom logsFrom forward rows firstBad sqrtOf lnOf Ieee.add Ieee.sub Ieee.mul Ieee.div Ieee.le Ieee.eq Ieee.ofBits Ieee.toBits refusedRow factored solved subtracted logged started Shapes.loadedAt Shapes.workingAt Shapes.sumAt cleared
+begun = beginOf (fresh .heading) (fresh .doubles) (word 0x4000000000000000 ∷ word 0x4008000000000000 ∷ [])
+
+unfoldable done : List Step → Outcome
+unfolding begun runOf
+done steps = runOf (begun .left) steps
+
+unfoldable words : List Float → List ℕ
+unfolding Ieee.toBits
+words [] = []
+words (x ∷ l) = Ieee.toBits binary64 x ∷ words l
+
+enough : Shapes.doublesNeeded layout ≡ 31
+unfolding Shapes.sumAt start
+enough = refl
+
+accepted : begun .answer ≡ Accepted
+unfolding begun
+accepted = refl
+
+-- Theta is in sheet order: sorted block 0, which is block 1 of the sheet, has theta 3. Its diagonal is (3·3)·1 + 1, a cross cell (1·3)·2, a fixed cell 1·3.
+first-diagonal : words (workingBlock (begun .left .heading) (begun .left .doubles) 0 0) ≡ 0x4024000000000000 ∷ 0x4024000000000000 ∷ []
+unfolding begun words
+first-diagonal = refl
+
+second-triangle : words (workingBlock (begun .left .heading) (begun .left .doubles) 1 1) ≡ 0x4014000000000000 ∷ []
+unfolding begun words
+second-triangle = refl
+
+cross-cells : words (workingBlock (begun .left .heading) (begun .left .doubles) 1 0) ≡ 0x4018000000000000 ∷ 0x4018000000000000 ∷ []
+unfolding begun words
+cross-cells = refl
+
+fixed-cells :
+    words (workingBlock (begun .left .heading) (begun .left .doubles) 2 0)
+    ≡ 0x4008000000000000 ∷ 0x4008000000000000 ∷ 0x4008000000000000 ∷ 0x4008000000000000 ∷ []
+unfolding begun words
+fixed-cells = refl
+
+-- 22 comes before 21; 21 before 23 and 24
+nothing-under-way : refusalOf (stepOf (fresh .heading) (fresh .doubles) (C 9) .answer) .number ≡ 22
+unfolding fresh stepOf start Shapes.sumAt
+nothing-under-way = refl
+
+no-such-step : refusalOf (done (T 0 1 ∷ []) .answer) .number ≡ 21
+unfolding done
+no-such-step = refl
+
+-- ten steps are left, and nine after C(0)
+ten-left : progressOf (begun .left .heading) .left ≡ 10
+unfolding begun rustOrder
+ten-left = refl
+
+nine-left : progressOf (done (C 0 ∷ []) .left .heading) .left ≡ 9
+unfolding done rustOrder
+nine-left = refl
+
+-- C(0) takes roots of 10
+first-factor : words (workingBlock (done (C 0 ∷ []) .left .heading) (done (C 0 ∷ []) .left .doubles) 0 0) ≡ 0x40094c583ada5b53 ∷ 0x40094c583ada5b53 ∷ []
+unfolding done words
+first-factor = refl
+
+-- Block 1 keeps 5 - 7.2, which is refused: 26 at block 1, row 0, and progress none. What it leaves is cleared.
+refused : refusalOf (done (rustOrder 2) .answer) ≡ record { number = 26; first = 1; second = 0 }
+unfolding done rustOrder
+refused = refl
+
+refused-none : progressOf (done (rustOrder 2) .left .heading) .state ≡ Idle
+unfolding done rustOrder
+refused-none = refl
+
+refused-clears : words (workingBlock (done (rustOrder 2) .left .heading) (done (rustOrder 2) .left .doubles) 0 0) ≡ 0 ∷ 0 ∷ []
+unfolding done rustOrder words
+refused-clears = refl

@@ -1,0 +1,1 @@
+// Begin and the steps of an update: definitions in specs/.

@@ -1,0 +1,5 @@
+pub mod Memory
+pub mod Answers
+pub mod Loaded
+pub mod Load
+pub mod Response

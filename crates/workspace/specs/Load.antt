@@ -1,0 +1,65 @@
+-- Load as a function of sheet, heading and doubles to answer, heading and doubles (document 01, Record 3, "Refused because of the input").
+use Prim.Native.Nat.{ℕ, _+_}
+use mathlib.Core.Path.{_≡_}
+use mathlib.Core.Bool.{Bool, _&&_}
+use mathlib.Core.List.{List, [], _++_}
+use mathlib.Core.Option.{Option, none, some}
+use lib.Dec.{leb}
+use lib.ListN.{length}
+use lib.Ieee.{Float}
+use Rattle.storage.specs.Runs.{tab}
+use Rattle.storage.specs.Part.{store}
+use Rattle.sheet.specs.declared.Reading.{Reading}
+use Rattle.sheet.specs.declared.Reading.the-variants.{Sheet as Read, Refused as Unread}
+use Rattle.sheet.specs.Sheet.{Sheet, accepted, refused, sheetOf}
+use Rattle.sheet.specs.Sheet as Sheets
+use Rattle.sheet.specs.Answer.{Answers}
+use Rattle.layout.specs.declared.Layout.{Layout}
+use Rattle.refusal.specs.declared.Refusal.{Refusal}
+use Rattle.refusal.specs.declared.Answer.the-variants.{Refused}
+use Rattle.layout.specs.Shapes.{pick, levels, pairs, numbersNeeded, doublesNeeded}
+use Rattle.layout.specs.Heading.{written}
+use Rattle.workspace.specs.Memory.{idle, noughts}
+use Rattle.workspace.specs.Answers.{Outcome, accept, untouched, space}
+use Rattle.workspace.specs.Loaded.{firstDenied, layoutOfSheet, entryRowIn, loadedNumbers}
+
+-- the heading of a sheet just loaded: progress none, and the rows of a sparse pair's entries
+unfoldable pub headingOf : Sheet → Layout → List ℕ
+unfolding written tab
+headingOf sheet y = written y (idle (y .k)) ++ pick (y .sparse) (tab (levels y 0) (entryRowIn sheet y)) []
+
+-- the doubles: the loaded numbers, and every working double +0.0
+unfoldable pub doublesOf : Sheet → Layout → List Float
+unfolding loadedNumbers noughts
+doublesOf sheet y = loadedNumbers sheet y ++ noughts y
+
+-- both fit
+abbrev pub roomy : Layout → List ℕ → List Float → Bool
+roomy y h w = leb (numbersNeeded y) (length h) && leb (doublesNeeded y) (length w)
+
+abbrev pub afterGate : Option Refusal → Sheet → Layout → List ℕ → List Float → Outcome
+afterGate (some r) sheet y h w = record { answer = Refused r; left = space h w }
+afterGate none sheet y h w = pick (roomy y h w) (accept (store 0 (headingOf sheet y) h) (store 0 (doublesOf sheet y) w)) (untouched h w 12 0 0)
+
+-- a sheet without a fault: 10 and 11, then 12; nothing past the formula is written
+unfoldable pub loadSheet : Sheet → List ℕ → List Float → Outcome
+unfolding firstDenied layoutOfSheet pairs headingOf doublesOf
+loadSheet sheet h w =
+    let y = layoutOfSheet sheet in
+    afterGate (firstDenied sheet y (pairs (y .k))) sheet y h w
+
+abbrev pub loadParsed : Sheets.Outcome → List ℕ → List Float → Outcome
+loadParsed (accepted sheet starts) h w = loadSheet sheet h w
+loadParsed (refused number line) h w = untouched h w number line 0
+
+-- the bytes s, and what their reader answered: 1 to 9, or it goes on
+unfoldable pub loadOf : List ℕ → Reading → List ℕ → List Float → Outcome
+unfolding sheetOf loadSheet
+loadOf s (Unread number line) h w = untouched h w number line 0
+loadOf s (Read starts) h w = loadParsed (sheetOf s) h w
+
+-- What load of the bytes s on h and w may come to. It is one outcome, but for the line that 9 names: that is a faulty line, of the program's choice.
+pub record Loads (s : List ℕ) (h : List ℕ) (w : List Float) (o : Outcome) : Type 0 where
+  pub reading : Reading
+  pub read : Answers (sheetOf s) reading
+  pub comes : o ≡ loadOf s reading h w

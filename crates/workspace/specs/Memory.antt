@@ -1,0 +1,64 @@
+-- A workspace in memory: the heading h and the doubles w, the blocks read out of them, and what load and a refused pivot write (document 01, Records 3 to 5).
+use Prim.Native.Nat.{ℕ, zero, suc, _+_, _-_}
+use mathlib.Core.Bool.{Bool, not, _&&_}
+use mathlib.Core.List.{List}
+use lib.ListN.{length, getD, replicate}
+use lib.Ieee.{Float}
+use Rattle.storage.specs.Shape.{Shape, sizeOf, hasCell, cell}
+use Rattle.storage.specs.Part.{part, store}
+use Rattle.order.specs.Steps.{rustOrder}
+use Rattle.rules.specs.Arithmetic.{ieee}
+use Rattle.layout.specs.declared.Layout.{Layout}
+use Rattle.layout.specs.declared.Progress.{Progress}
+use Rattle.layout.specs.declared.State.the-variants.{Idle}
+use Rattle.layout.specs.Shapes.{shape, loadedShape, loadedAt, thetaAt, workingAt, sumAt}
+use Rattle.layout.specs.Heading.{progressNumbers, layoutOf, entryRow}
+
+-- what a call leaves
+pub record Workspace : Type 0 where
+  pub heading : List ℕ
+  pub doubles : List Float
+
+-- cell (r, c) of a block with this shape
+abbrev pub cellOf : Shape → List Float → ℕ → ℕ → Float
+cellOf s l r c = cell (ieee .zero) s l r c
+
+module _ (h : List ℕ) (w : List Float) where
+  -- a loaded and a working block as the list of its doubles
+  abbrev pub loadedBlock : ℕ → ℕ → List Float
+  loadedBlock i j = part (loadedAt (layoutOf h) i j) (sizeOf (loadedShape (layoutOf h) (entryRow h) i j)) w
+
+  abbrev pub workingBlock : ℕ → ℕ → List Float
+  workingBlock i j = part (workingAt (layoutOf h) i j) (sizeOf (shape (layoutOf h) (entryRow h) i j)) w
+
+  -- cell (r, x) of pair (1,0) was loaded non-zero
+  abbrev pub loadedSome : ℕ → ℕ → Bool
+  loadedSome r x =
+      let s = loadedShape (layoutOf h) (entryRow h) 1 0 in
+      hasCell s r x && not (ieee .null (cellOf s (loadedBlock 1 0) r x))
+
+  -- theta of sorted block j, as begin kept it: theta is in sheet order
+  abbrev pub thetaOf : ℕ → Float
+  thetaOf j = getD w (thetaAt (layoutOf h) + getD (layoutOf h .order) j 0) (ieee .zero)
+
+  -- the running sum of the logarithms
+  abbrev pub logSum : Float
+  logSum = getD w (sumAt (layoutOf h)) (ieee .zero)
+
+-- ---- what is written
+-- the heading with a new progress, and nothing else new
+abbrev pub headingWith : List ℕ → Progress → List ℕ
+headingWith h g = store 22 (progressNumbers g) h
+
+-- progress none: nothing is done, every step is left
+abbrev pub idle : ℕ → Progress
+idle k = record { state = Idle; left = length (rustOrder k); stages = replicate 45 0 }
+
+-- the working doubles all +0.0: theta, the blocks and the sum
+unfoldable pub noughts : Layout → List Float
+unfolding sumAt
+noughts y = replicate (suc (sumAt y) - thetaAt y) (ieee .zero)
+
+unfoldable pub cleared : Layout → List Float → List Float
+unfolding noughts
+cleared y w = store (thetaAt y) (noughts y) w
