@@ -1,32 +1,22 @@
 -- The calls and the book side by side on document 01's worked sheet, refused calls included, by computation.
-use Prim.Native.Nat.{ℕ, suc}
+use Prim.Native.Nat.{ℕ}
 use mathlib.Core.Path.{_≡_, refl}
-use mathlib.Core.Bool.{Bool, true, false}
-use mathlib.Core.List.{List, [], _∷_, _++_}
-use mathlib.Core.Option.{Option, none, some}
+use mathlib.Core.Bool.{true, false}
+use mathlib.Core.List.{List, [], _∷_}
 use native.Mathlib.Decide.{ℕ-discrete}
-use lib.ListN.{length, replicate, take}
-use lib.Ieee as Ieee
-use lib.Ieee.{Float, inf, binary64}
-use Rattle.root.specs.Root.{sqrtOf}
-use Rattle.logarithm.specs.Ln.{lnOf}
-use Rattle.storage.specs.Runs.{start, tab, cells}
-use Rattle.storage.specs.Shape.{fill}
-use Rattle.storage.specs.Part.{store}
-use Rattle.order.specs.Steps.{Step, S, C, T, rustOrder}
-use Rattle.rules.specs.Sums.{sumFrom, lessFrom, logsFrom}
-use Rattle.rules.specs.Cholesky.{forward, rows, firstBad}
+use lib.ListN.{replicate, take}
+use lib.Ieee.{Float, inf}
+use Rattle.order.specs.Steps.{S, C, T}
 use Rattle.sheet.specs.Sheet.{Sheet}
-use Rattle.layout.specs.declared.State.the-variants.{Idle, UnderWay, Finished}
 use Rattle.refusal.specs.Numbers.{refusal}
-use Rattle.layout.specs.Shapes as Shapes
-use Rattle.layout.specs.Heading.{progressOf, layoutOf}
-use Rattle.workspace.specs.Memory.{Workspace, cleared}
+use Rattle.layout.specs.Heading.{progressOf}
+use Rattle.workspace.specs.Memory.{Workspace}
 use Rattle.workspace.specs.Load.{loadSheet}
 use Rattle.workspace.specs.Response.{replaceOf}
-use Rattle.update.specs.Working.{refusedRow, factored, solved, subtracted, logged, started}
 use Rattle.update.specs.Calls.{beginOf, stepOf, runOf}
 use Rattle.profile.specs.Deviance.{profileOf}
+use Rattle.workspace.specs.Compute.{word, words}
+use Rattle.update.specs.Compute.{steps}
 use Rattle.book.specs.Calls as Calls
 use Rattle.book.specs.Calls.{Call, begin, step, replaceResponse, profileDeviance, Reply, refusalOf, replies, leftBy}
 use Rattle.book.specs.Book.{Book, entered, opened, bookReplies, bookAfter, bookLeft}
@@ -44,15 +34,8 @@ sheet =
       yy = 0x4022000000000000;
     }
 
-abbrev word : ℕ → Float
-word w = Ieee.ofBits binary64 w
-
 abbrev one : Float
 one = word 0x3ff0000000000000
-
-unfoldable leaves : ℕ
-unfolding start tab cells fill store sumFrom lessFrom logsFrom forward rows firstBad sqrtOf lnOf Ieee.add Ieee.sub Ieee.mul Ieee.div Ieee.le Ieee.lt Ieee.eq Ieee.ofInt Ieee.ofBits Ieee.toBits refusedRow factored solved subtracted logged started Shapes.loadedAt Shapes.workingAt Shapes.sumAt cleared ℕ-discrete rustOrder
-leaves = 0
 
 unfoldable numbers : List Reply → List ℕ
 numbers [] = []
@@ -85,15 +68,15 @@ abbrev expected : List ℕ
 expected = 22 ∷ 13 ∷ 14 ∷ 0 ∷ 21 ∷ 24 ∷ 0 ∷ 23 ∷ 0 ∷ 14 ∷ 0 ∷ 22 ∷ 26 ∷ 22 ∷ 0 ∷ 0 ∷ 0 ∷ 0 ∷ []
 
 unfoldable loaded : Workspace
-unfolding leaves loadSheet
+unfolding steps loadSheet
 loaded = loadSheet sheet (replicate 128 0) (replicate 16 (inf false)) .left
 
 unfoldable called : List ℕ
-unfolding leaves loaded numbers replies beginOf stepOf replaceOf profileOf
+unfolding steps ℕ-discrete loaded numbers replies beginOf stepOf replaceOf profileOf
 called = numbers (replies calls loaded)
 
 unfoldable booked : List ℕ
-unfolding leaves numbers bookReplies loadSheet beginOf runOf replaceOf profileOf
+unfolding steps ℕ-discrete numbers bookReplies loadSheet beginOf runOf replaceOf profileOf
 booked = numbers (bookReplies sheet calls (opened sheet))
 
 unfoldable left : Workspace
@@ -103,11 +86,6 @@ left = leftBy calls loaded
 unfoldable booked-after : Book
 unfolding booked bookAfter
 booked-after = bookAfter sheet calls (opened sheet)
-
-unfoldable words : List Float → List ℕ
-unfolding Ieee.toBits
-words [] = []
-words (x ∷ l) = Ieee.toBits binary64 x ∷ words l
 
 calls-answer : called ≡ expected
 unfolding called

@@ -1,6 +1,6 @@
 -- Record 5's book of a loaded sheet: it is fed each call and its arguments, never the workspace or its heading.
 use Prim.Native.Nat.{ℕ}
-use mathlib.Core.Bool.{Bool, true, false, cond}
+use mathlib.Core.Bool.{Bool, false}
 use mathlib.Core.List.{List, [], _∷_, _++_}
 use mathlib.Core.Option.{Option, none, some}
 use lib.Dec.{eqb}
@@ -12,7 +12,6 @@ use Rattle.sheet.specs.Sheet.{Sheet}
 use Rattle.layout.specs.declared.Layout.{Layout}
 use Rattle.layout.specs.declared.State.{State}
 use Rattle.layout.specs.declared.State.the-variants.{Idle, UnderWay, Finished}
-use Rattle.refusal.specs.declared.Refusal.{Refusal}
 use Rattle.refusal.specs.declared.Answer.{Answer}
 use Rattle.refusal.specs.declared.Answer.the-variants.{Accepted, Refused}
 use Rattle.refusal.specs.Numbers.{noRefusal, refuse}
@@ -25,7 +24,7 @@ use Rattle.workspace.specs.Response.{responded}
 use Rattle.update.specs.Calls.{beginOf, runOf}
 use Rattle.profile.specs.Deviance.{profileOf}
 use Rattle.profile.specs.declared.Deviance.{Deviance}
-use Rattle.profile.specs.declared.Deviance.the-variants.{Pivot, Refused as Denied}
+use Rattle.profile.specs.declared.Deviance.the-variants.{Refused as Denied}
 use Rattle.book.specs.Calls.{Call, begin, step, replaceResponse, profileDeviance, Reply, plain, deviance}
 
 -- the loaded numbers, theta, and none or the set of done steps

@@ -1,5 +1,4 @@
 -- Lists of calls (mission, demand 3): each is given what the last left.
-use Prim.Native.Nat.{ℕ}
 use mathlib.Core.Bool.{Bool}
 use mathlib.Core.List.{List, [], _∷_}
 use lib.Ieee.{Float}

@@ -1,28 +1,26 @@
 -- Demand 3 of the mission as one proposition: about every list of calls from every accepted load.
-use Prim.Native.Nat.{ℕ, suc, _+_, _<_, _≤_}
+use Prim.Native.Nat.{ℕ, _+_, _<_, _≤_}
 use mathlib.Core.Path.{_≡_}
 use mathlib.Core.Bool.{Bool, true, false}
 use mathlib.Core.List.{List}
-use mathlib.Core.Option.{Option, none, some}
+use mathlib.Core.Option.{some}
 use lib.ListN.{length, getD, take, drop}
 use lib.Ieee.{Float}
-use Rattle.storage.specs.Shape.{sizeOf}
 use Rattle.order.specs.Steps.{Step, S, C, T, Named, row, col, after}
 use Rattle.order.specs.Progress.{all, done}
 use Rattle.rules.specs.Arithmetic.{ieee}
 use Rattle.sheet.specs.Sheet.{Sheet, accepted, sheetOf}
 use Rattle.sheet.specs.declared.Starts.{Starts}
 use Rattle.layout.specs.declared.State.the-variants.{UnderWay, Finished}
-use Rattle.refusal.specs.declared.Answer.{Answer}
 use Rattle.refusal.specs.declared.Answer.the-variants.{Accepted}
 use Rattle.layout.specs.Shapes.{sizes, loadedLength, workingAt, sumAt, numbersNeeded, doublesNeeded}
-use Rattle.layout.specs.Heading.{layoutOf, progressOf, stageOf, entryRow}
+use Rattle.layout.specs.Heading.{layoutOf, progressOf, stageOf}
 use Rattle.workspace.specs.Memory.{Workspace, workingBlock}
-use Rattle.workspace.specs.Answers.{Outcome, space}
+use Rattle.workspace.specs.Answers.{Outcome}
 use Rattle.workspace.specs.Load.{Loads}
 use Rattle.update.specs.Calls.{stepOf, madeBy, sumBy}
 use Rattle.profile.specs.Deviance.{logDeterminant}
-use Rattle.book.specs.Calls.{Call, Called, called, refusalOf, replies, leftBy}
+use Rattle.book.specs.Calls.{Call, called, refusalOf, replies, leftBy}
 use Rattle.book.specs.Book.{Book, layout, last, opened, rust, inStep, bookReplies, bookAfter, bookLeft, bookState, bookSet}
 
 -- step s is undone and its forerunners are done, by the set d

@@ -1,6 +1,5 @@
 -- The value of every block at a stage, at the rules of a loaded sheet (document 01, Record 4): what the order theorem of crate `order` speaks of.
 use Prim.Native.Nat.{ℕ}
-use mathlib.Core.Bool.{Bool}
 use mathlib.Core.List.{List}
 use mathlib.Core.Option.{Option}
 use lib.ListN.{getD}
@@ -9,9 +8,9 @@ use Rattle.order.specs.Elimination.{Rules, value, final, total, refusedAt}
 use Rattle.rules.specs.Arithmetic.{ieee}
 use Rattle.sheet.specs.Sheet.{Sheet}
 use Rattle.layout.specs.Heading.{layoutOf, entryRow}
-use Rattle.workspace.specs.Memory.{Workspace, loadedBlock, loadedSome}
+use Rattle.workspace.specs.Memory.{loadedBlock, loadedSome}
 use Rattle.update.specs.Working.{rulesOf, started}
-use Rattle.book.specs.Book.{Book, layout, fresh, last}
+use Rattle.book.specs.Book.{fresh, last}
 
 module _ (sheet : Sheet) (loaded theta : List Float) where
   abbrev pub rulesHere : Rules

@@ -1,6 +1,6 @@
 -- What the program prints (document 01, "Worked sheets"): `pivot` block row word, or `refused` number place place.
 use Prim.Native.Nat.{ℕ, zero, suc, _+_, _/_, _%_}
-use mathlib.Core.Bool.{Bool, cond}
+use mathlib.Core.Bool.{cond}
 use mathlib.Core.List.{List, [], _∷_, _++_}
 use lib.Dec.{ltb}
 use lib.Ieee.{Float, binary64, toBits}

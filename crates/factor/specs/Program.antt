@@ -1,7 +1,7 @@
 -- The program `factor` (document 01, "Worked sheets"): a sheet and k theta lines to its pivots, or to a refusal, which is then the only line.
 use Prim.Native.Nat.{ℕ, zero, suc, _+_}
 use mathlib.Core.Path.{_≡_}
-use mathlib.Core.Bool.{Bool, true, false, _&&_, cond}
+use mathlib.Core.Bool.{true, false, _&&_, cond}
 use mathlib.Core.List.{List, [], _∷_, _++_}
 use lib.Dec.{ltb, eqb}
 use lib.ListN.{length, replicate}
@@ -15,7 +15,7 @@ use Rattle.sheet.specs.declared.Reading.{Reading}
 use Rattle.sheet.specs.declared.Reading.the-variants.{Sheet as Read, Refused as Unread}
 use Rattle.sheet.specs.Line.{tab, inForm, singleLine, verdictOf}
 use Rattle.sheet.specs.Run.{Run, linesOf, rowsFrom}
-use Rattle.sheet.specs.Sheet.{Sheet, accepted, refused, readSheet}
+use Rattle.sheet.specs.Sheet.{accepted, refused, readSheet}
 use Rattle.sheet.specs.Sheet as Sheets
 use Rattle.sheet.specs.Answer.{Answers}
 use Rattle.refusal.specs.declared.Refusal.{Refusal}

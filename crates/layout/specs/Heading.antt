@@ -1,12 +1,12 @@
 -- The heading (document 01, Records 2 and 5, refusal 20): 128 numbers, and behind them the rows of the sparse columns' entries.
-use Prim.Native.Nat.{ℕ, zero, suc, _+_, _-_, _*_, _/_}
+use Prim.Native.Nat.{ℕ, zero, suc, _+_}
 use mathlib.Core.Bool.{Bool, true, false, not, _&&_, _||_, cond}
 use mathlib.Core.List.{List, [], _∷_, _++_}
 use lib.Dec.{ltb, leb, eqb}
 use lib.ListN.{length, getD, take, drop, replicate}
 use Rattle.storage.specs.Runs.{start, triangle}
 use Rattle.order.specs.Steps.{Step, rustOrder, after}
-use Rattle.order.specs.Progress.{all, outside, stepsLeft, done}
+use Rattle.order.specs.Progress.{all, stepsLeft, done}
 use Rattle.layout.specs.declared.Layout.{Layout}
 use Rattle.layout.specs.declared.Progress.{Progress}
 use Rattle.layout.specs.declared.State.{State}
@@ -14,7 +14,7 @@ use Rattle.layout.specs.declared.State.the-variants.{Idle, UnderWay, Fin
 use Rattle.layout.specs.declared.Pair.{Pair}
 use Rattle.layout.specs.declared.Pair.the-variants.{Dense, Sparse, Refused}
 use Rattle.layout.specs.Blocks.{sum, sorted, padded}
-use Rattle.layout.specs.Gate.{pairOf, diagonalOf}
+use Rattle.layout.specs.Gate.{pairOf}
 use Rattle.layout.specs.Shapes.{levels, numbersNeeded, doublesNeeded}
 
 -- ---- the 128 numbers: n p q k; levels and sheet index of eight sorted blocks; sparse, diagonal; state, steps left; 45 stages by rows; noughts

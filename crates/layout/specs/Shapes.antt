@@ -6,7 +6,6 @@ use lib.Dec.{ltb, eqb}
 use lib.ListN.{getD}
 use Rattle.storage.specs.Shape.{Shape, packed, diagonal, columns, entries, sizeOf}
 use Rattle.layout.specs.declared.Layout.{Layout}
-use Rattle.layout.specs.Blocks.{sum}
 
 -- levels of sorted block j
 abbrev pub levels : Layout → ℕ → ℕ

@@ -1,39 +1,23 @@
 -- Deviance and solution by computation, on the finished factor of document 01's worked sheet. The deviances are Python's.
-use Prim.Native.Nat.{ℕ, suc}
+use Prim.Native.Nat.{ℕ}
 use mathlib.Core.Path.{_≡_, refl}
 use mathlib.Core.Bool.{Bool, true, false}
-use mathlib.Core.List.{List, [], _∷_, _++_}
+use mathlib.Core.List.{List, [], _∷_}
 use lib.ListN.{replicate, set}
 use lib.Ieee as Ieee
 use lib.Ieee.{Float, nan, binary64}
-use Rattle.root.specs.Root.{sqrtOf}
-use Rattle.logarithm.specs.Ln.{lnOf}
 use Rattle.refusal.specs.Numbers.{refusal}
-use Rattle.storage.specs.Runs.{start, tab, cells}
-use Rattle.storage.specs.Shape.{fill}
-use Rattle.storage.specs.Part.{store}
-use Rattle.order.specs.Steps.{rustOrder}
-use Rattle.rules.specs.Sums.{sumFrom, lessFrom, logsFrom}
-use Rattle.rules.specs.Cholesky.{forward, rows, firstBad}
-use Rattle.rules.specs.Solves.{backward}
 use Rattle.layout.specs.declared.Layout.{Layout}
 use Rattle.layout.specs.declared.Progress.{Progress}
-use Rattle.layout.specs.declared.State.the-variants.{Idle, UnderWay, Finished}
-use Rattle.layout.specs.Shapes as Shapes
+use Rattle.layout.specs.declared.State.the-variants.{UnderWay, Finished}
 use Rattle.layout.specs.Heading.{written}
-use Rattle.workspace.specs.Memory.{Workspace, cleared}
-use Rattle.update.specs.Working.{refusedRow, factored, solved, subtracted, logged, started}
+use Rattle.workspace.specs.Compute.{word, words}
+use Rattle.update.specs.Compute.{steps}
 use Rattle.profile.specs.declared.Deviance.{Deviance}
 use Rattle.profile.specs.declared.Deviance.the-variants.{Value, Pivot, NoScale, Refused}
-use Rattle.profile.specs.declared.Solve.{Solve}
-use Rattle.profile.specs.declared.Solve.the-variants.{Solved, Refused as Denied}
-use Rattle.profile.specs.Deviance as Deviances
-use Rattle.profile.specs.Deviance.{devianceFromFactor, profileOf}
-use Rattle.profile.specs.Finish as Finish
+use Rattle.profile.specs.declared.Solve.the-variants.{Refused as Denied}
+use Rattle.profile.specs.Deviance.{devianceFromFactor}
 use Rattle.profile.specs.Finish.{Solving, solveOf}
-
-abbrev word : ℕ → Float
-word w = Ieee.ofBits binary64 w
 
 abbrev layout : ℕ → Layout
 layout n = record { n = n; p = 1; q = 1; k = 1; m = 1 ∷ replicate 7 0; order = replicate 8 0; sparse = false; diagonal = false }
@@ -64,10 +48,6 @@ doubles =
     ∷ word 0x3fe62e42fefa39ef
     ∷ []
 
-unfoldable leaves : ℕ
-unfolding start tab cells fill store sumFrom lessFrom logsFrom forward rows firstBad backward sqrtOf lnOf Ieee.add Ieee.sub Ieee.mul Ieee.div Ieee.le Ieee.lt Ieee.eq Ieee.ofInt Ieee.ofBits Ieee.toBits refusedRow factored solved subtracted logged started Shapes.loadedAt Shapes.workingAt Shapes.sumAt cleared rustOrder written
-leaves = 0
-
 unfoldable bitsOf : Deviance → ℕ
 unfolding Ieee.toBits
 bitsOf (Value v) = Ieee.toBits binary64 v
@@ -76,7 +56,7 @@ bitsOf NoScale = 2
 bitsOf (Refused r) = 3
 
 unfoldable deviance : ℕ → Progress → List Float → Bool → Deviance
-unfolding leaves devianceFromFactor
+unfolding steps devianceFromFactor
 deviance n g w reml = devianceFromFactor (written (layout n) g) w reml
 
 -- ((3 ln(2π/3)) + 2 ln 2) + 3
@@ -106,14 +86,8 @@ not-finished : deviance 3 underWay doubles false ≡ Refused (refusal 25 0 0)
 unfolding deviance
 not-finished = refl
 
--- ---- the solution
-unfoldable words : List Float → List ℕ
-unfolding Ieee.toBits
-words [] = []
-words (x ∷ l) = Ieee.toBits binary64 x ∷ words l
-
 unfoldable solving : Progress → List Float → ℕ → Solving
-unfolding leaves solveOf
+unfolding steps solveOf
 solving g w n = solveOf (written (layout 3) g) w false (replicate n (word 99))
 
 -- beta 1, b 2 · 1/2, u 1/2, .. when the kept theta is 2 and the loaded Z'X and Z'y are half as large: v is the same

@@ -1,12 +1,12 @@
 -- The profiled deviance (document 01, Record 6): `deviance_from_factor`, and `profile_deviance`, which is begin, the Rust's steps and this.
-use Prim.Native.Nat.{ℕ, suc, _+_}
+use Prim.Native.Nat.{ℕ, _+_}
 use mathlib.Core.Bool.{Bool, true, false, _||_, cond}
 use mathlib.Core.List.{List}
 use lib.ListN.{length}
 use lib.Ieee.{Float}
 use Rattle.storage.specs.Shape.{packed}
 use Rattle.order.specs.Steps.{rustOrder}
-use Rattle.rules.specs.Arithmetic.{Arithmetic, ieee}
+use Rattle.rules.specs.Arithmetic.{ieee}
 use Rattle.rules.specs.Finish.{devianceOf}
 use Rattle.layout.specs.declared.Layout.{Layout}
 use Rattle.layout.specs.declared.State.{State}

@@ -1,5 +1,5 @@
 -- The solution (document 01, Record 7; `solve_profile_blocked`, `solve_profile_finish`).
-use Prim.Native.Nat.{ℕ, zero, suc, _+_, _-_, _*_, _/_}
+use Prim.Native.Nat.{ℕ, zero, suc, _+_, _*_, _/_}
 use mathlib.Core.Bool.{Bool, cond}
 use mathlib.Core.List.{List, [], _∷_, _++_}
 use mathlib.Core.Option.{Option, none, some}
@@ -8,7 +8,7 @@ use lib.ListN.{length, getD, replicate}
 use lib.Ieee.{Float}
 use Rattle.storage.specs.Runs.{tab}
 use Rattle.storage.specs.Shape.{packed}
-use Rattle.rules.specs.Arithmetic.{Arithmetic, ieee}
+use Rattle.rules.specs.Arithmetic.{ieee}
 use Rattle.rules.specs.Sums.{dot}
 use Rattle.rules.specs.Cholesky.{at, forward, rows, cellOf as entryOf, radicand, finishPivots}
 use Rattle.rules.specs.Solves.{backward}

@@ -1,18 +1,15 @@
 -- The solves with the factor of the random effects (document 01, Record 7; `forward_solve_ld`, `backward_solve_ld`), block by block.
 -- A right side and its solution are the lists of their sorted blocks.
 use Prim.Native.Nat.{ℕ, zero, suc, _+_, _-_}
-use mathlib.Core.Bool.{Bool, cond}
 use mathlib.Core.List.{List, [], _∷_, _++_}
-use lib.Dec.{eqb}
 use lib.ListN.{getD}
 use lib.Ieee.{Float}
 use Rattle.storage.specs.Runs.{tab}
 use Rattle.storage.specs.Shape.{Shape, packed, diagonal, columns, entries}
-use Rattle.rules.specs.Arithmetic.{Arithmetic, ieee}
+use Rattle.rules.specs.Arithmetic.{ieee}
 use Rattle.rules.specs.Begin.{fixedCell}
 use Rattle.rules.specs.Cholesky.{at, forward}
 use Rattle.rules.specs.Solves.{lessDense, lessSparse, lessDenseT, lessSparseT, backward}
-use Rattle.layout.specs.declared.Layout.{Layout}
 use Rattle.layout.specs.Shapes.{pick, levels, shape, loadedShape}
 use Rattle.layout.specs.Heading.{layoutOf, entryRow}
 use Rattle.workspace.specs.Memory.{cellOf, loadedBlock, workingBlock, thetaOf}

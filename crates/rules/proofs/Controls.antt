@@ -1,18 +1,16 @@
 -- The rules by computation, on doubles where another order of operations, or another test, gives other bits. The words were worked out in Python's doubles.
 use Prim.Native.Nat.{ℕ, zero, suc}
 use mathlib.Core.Path.{_≡_, refl}
-use mathlib.Core.Bool.{Bool, true, false}
-use mathlib.Core.List.{List, [], _∷_}
-use mathlib.Core.Option.{Option, none, some}
+use mathlib.Core.List.{[], _∷_}
+use mathlib.Core.Option.{none, some}
 use lib.ListN.{getD}
 use lib.Ieee as Ieee
 use lib.Ieee.{Float, nan, binary64}
-use Rattle.root.specs.Root.{sqrtOf}
 use Rattle.logarithm.specs.Ln.{lnOf}
 use Rattle.rules.specs.Arithmetic.{ieee}
 use Rattle.rules.specs.Sums.{sumFrom, lessFrom, logsFrom}
-use Rattle.rules.specs.Begin.{diagonalCell, crossCell}
-use Rattle.rules.specs.Steps.{subtractDense, subtractDiagonal, subtractLast, subtractSparse}
+use Rattle.rules.specs.Begin.{crossCell}
+use Rattle.rules.specs.Steps.{subtractDense, subtractLast, subtractSparse}
 use Rattle.rules.specs.Cholesky.{firstBad, pivots, finishPivots, logsOfFirst, logsOfLater}
 use Rattle.rules.specs.Solves.{lessSparse, lessDense}
 

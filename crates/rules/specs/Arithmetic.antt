@@ -1,6 +1,6 @@
 -- The operations that the rules are written with, so that the same rules can be read over IEEE 754 doubles and over an exact arithmetic.
 use Prim.Native.Nat.{ℕ}
-use mathlib.Core.Bool.{Bool, true, false}
+use mathlib.Core.Bool.{Bool}
 use lib.IntN.{pos}
 use lib.Ieee as Ieee
 use lib.Ieee.{Float, binary64}

@@ -1,6 +1,6 @@
 -- Records 6 and 7: the deviance, and the finish of the solution (`deviance_from_factor`, `solve_profile_finish`).
-use Prim.Native.Nat.{ℕ, zero, suc, _-_, _≤_}
-use mathlib.Core.Bool.{Bool, true, false, cond}
+use Prim.Native.Nat.{ℕ, zero}
+use mathlib.Core.Bool.{Bool, cond}
 use Rattle.rules.specs.Arithmetic.{Arithmetic}
 use Rattle.rules.specs.Sums.{dot, logsFrom}
 

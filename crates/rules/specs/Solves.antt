@@ -1,11 +1,11 @@
 -- The solves of Record 7 (`forward_solve_ld`, `backward_solve_ld`), block by block. v is a block of the right side, w a block that is solved already.
 use Prim.Native.Nat.{ℕ, zero, suc, _+_, _-_}
-use mathlib.Core.Bool.{Bool, not, _&&_}
-use mathlib.Core.List.{List, [], _∷_, _++_}
+use mathlib.Core.Bool.{not, _&&_}
+use mathlib.Core.List.{List, [], _∷_}
 use lib.Dec.{eqb}
 use Rattle.rules.specs.Arithmetic.{Arithmetic}
 use Rattle.rules.specs.Sums.{dot, chain, lessFrom}
-use Rattle.rules.specs.Cholesky.{at, forward}
+use Rattle.rules.specs.Cholesky.{at}
 
 module _ (A : Arithmetic) where
   -- Going forward, less a dense cross block times w: summed from 0.0, subtracted once.

@@ -1,21 +1,21 @@
 -- Document 01's starred cases, by computation.
-use Prim.Native.Nat.{ℕ}
 use mathlib.Core.Path.{_≡_, refl}
 use mathlib.Core.Bool.{true, false}
-use mathlib.Core.List.{List, [], _∷_}
+use mathlib.Core.List.{[], _∷_}
 use lib.ListN.{length}
 use lib.Ieee as Ieee
 use lib.Ieee.{binary64}
-use Rattle.order.specs.Steps.{S, C, T, rustOrder}
+use Rattle.order.specs.Steps.{C, T, rustOrder}
 use Rattle.logarithm.specs.Ln.{lnOf}
 use Rattle.refusal.specs.declared.Answer.the-variants.{Accepted}
 use Rattle.layout.specs.declared.Pair.the-variants.{Dense, Sparse, Refused}
 use Rattle.layout.specs.Gate.{pairOf}
 use Rattle.layout.specs.Heading.{progressOf}
 use Rattle.refusal.specs.Numbers.{refusalOf}
+use Rattle.workspace.specs.Compute.{words}
 use Rattle.profile.specs.declared.Deviance.the-variants.{NoScale}
 use Rattle.starred.specs.Table.{oneWord, twoWord, halfWord, thirdWord, zeroWord, twoLn2Word}
-use Rattle.starred.specs.Evaluate.{sheetBytes, inputBytes, outputBytes, printed, loaded, stepsDone, finished, logDeterminantBits, solving, profiled, bitsOf, sigma2Bits, oneReadingBytes}
+use Rattle.starred.specs.Evaluate.{sheetBytes, inputBytes, outputBytes, printed, loaded, stepsDone, logDeterminantBits, solving, profiled, sigma2Bits, oneReadingBytes}
 
 -- the worked sheet's bytes give the worked output, byte for byte
 worked : printed inputBytes ≡ outputBytes
@@ -49,12 +49,12 @@ sigma2-reml : sigma2Bits (solving sheetBytes oneWord true .answer) ≡ halfWord
 unfolding solving sheetBytes sigma2Bits
 sigma2-reml = refl
 
-solution-ml : bitsOf (solving sheetBytes oneWord false .result) ≡ oneWord ∷ halfWord ∷ halfWord ∷ twoWord ∷ oneWord ∷ halfWord ∷ []
-unfolding solving sheetBytes bitsOf
+solution-ml : words (solving sheetBytes oneWord false .result) ≡ oneWord ∷ halfWord ∷ halfWord ∷ twoWord ∷ oneWord ∷ halfWord ∷ []
+unfolding solving sheetBytes words
 solution-ml = refl
 
-solution-reml : bitsOf (solving sheetBytes oneWord true .result) ≡ oneWord ∷ halfWord ∷ halfWord ∷ twoWord ∷ oneWord ∷ halfWord ∷ []
-unfolding solving sheetBytes bitsOf
+solution-reml : words (solving sheetBytes oneWord true .result) ≡ oneWord ∷ halfWord ∷ halfWord ∷ twoWord ∷ oneWord ∷ halfWord ∷ []
+unfolding solving sheetBytes words
 solution-reml = refl
 
 -- K = 3 has 10 steps

@@ -1,37 +1,27 @@
 -- The calls on the worked sheet, with all that has to be unfolded to compute them.
-use Prim.Native.Nat.{ℕ, suc}
+use Prim.Native.Nat.{ℕ}
 use mathlib.Core.Bool.{Bool, false}
 use mathlib.Core.List.{List, [], _∷_, _++_}
 use lib.ListN.{replicate, set}
 use lib.Ieee as Ieee
 use lib.Ieee.{Float, binary64}
-use Rattle.storage.specs.Runs.{start, tab, cells}
-use Rattle.storage.specs.Shape.{fill}
-use Rattle.storage.specs.Part.{store}
 use Rattle.order.specs.Steps.{Step, rustOrder}
-use Rattle.root.specs.Root.{sqrtOf}
-use Rattle.logarithm.specs.Ln.{lnOf}
-use Rattle.rules.specs.Arithmetic.{ieee}
-use Rattle.rules.specs.Sums.{sumFrom, lessFrom, logsFrom}
-use Rattle.rules.specs.Cholesky.{forward, rows, firstBad}
-use Rattle.rules.specs.Solves.{backward}
 use Rattle.sheet.specs.declared.Reading.{Reading}
-use Rattle.sheet.specs.Field.{digitOf, digitsFrom, numberAt, endAt, wordAt, tagAt, isFinite, isZero}
+use Rattle.sheet.specs.Field.{digitOf, digitsFrom, numberAt, endAt, wordAt, tagAt, isFinite}
 use Rattle.sheet.specs.Line.{sizeLine, blockLine, pairLine, singleLine, bareLine}
 use Rattle.sheet.specs.Run as Run
-use Rattle.sheet.specs.Sheet.{Outcome, accepted, refused, readLines, readSheet, sheetOf}
+use Rattle.sheet.specs.Sheet.{Outcome, accepted, refused, readLines, readSheet}
 use Rattle.sheet.specs.Answer.{readingOf}
 use Rattle.workspace.specs.Answers.{Outcome as Call}
-use Rattle.workspace.specs.Memory.{Workspace}
 use Rattle.workspace.specs.Load as Load
 use Rattle.workspace.specs.Load.{loadOf}
-use Rattle.layout.specs.Shapes as Shapes
-use Rattle.update.specs.Working.{refusedRow, factored, solved, subtracted, logged, started}
-use Rattle.update.specs.Calls.{beginOf, stepOf, runOf}
+use Rattle.workspace.specs.Compute.{words}
+use Rattle.update.specs.Compute.{steps}
+use Rattle.update.specs.Calls.{beginOf, runOf}
 use Rattle.profile.specs.declared.Deviance.{Deviance}
 use Rattle.profile.specs.declared.Solve.{Solve}
 use Rattle.profile.specs.declared.Solve.the-variants.{Solved, Refused}
-use Rattle.profile.specs.Deviance.{devianceFromFactor, profileOf, logDeterminant}
+use Rattle.profile.specs.Deviance.{profileOf, logDeterminant}
 use Rattle.profile.specs.Finish.{Solving, solveOf}
 use Rattle.factor.specs.Program as Program
 use Rattle.factor.specs.Program.{printOf}
@@ -55,31 +45,26 @@ unfoldable pub outputBytes : List ℕ
 unfolding linesOf
 outputBytes = linesOf outputLines
 
--- the definitions that every computation comes down to
-unfoldable pub leaves : ℕ
-unfolding start tab cells fill store sumFrom lessFrom logsFrom forward rows firstBad backward sqrtOf lnOf Ieee.add Ieee.sub Ieee.mul Ieee.div Ieee.le Ieee.lt Ieee.eq Ieee.ofInt Ieee.ofBits Ieee.toBits
-leaves = 0
-
 unfoldable pub readingHere : List ℕ → Reading
 unfolding digitOf digitsFrom numberAt endAt wordAt tagAt isFinite sizeLine blockLine pairLine singleLine bareLine Run.passOf Run.linesOf Run.rowFrom Run.rowsFrom Run.entriesFrom readLines readSheet
 readingHere s = readingOf (readSheet s)
 
 -- what `factor` prints
 unfoldable pub printed : List ℕ → List ℕ
-unfolding leaves readingHere printOf refusedRow factored solved subtracted logged started Shapes.loadedAt Shapes.workingAt
+unfolding steps readingHere printOf
 printed s = printOf s (readingHere s)
 
 -- a sheet in a fresh workspace, which has room for the worked sheet's 14 doubles
 unfoldable pub loaded : List ℕ → Call
-unfolding leaves readingHere loadOf Shapes.loadedAt
+unfolding steps readingHere loadOf
 loaded s = loadOf s (readingHere s) (replicate 128 0) (replicate 14 (Ieee.ofBits binary64 0))
 
 -- the same, begun with one theta, and some steps done
 unfoldable pub stepsDone : List ℕ → ℕ → List Step → Call
-unfolding loaded beginOf runOf refusedRow factored solved subtracted logged started Shapes.workingAt
-stepsDone s theta steps =
+unfolding loaded beginOf runOf
+stepsDone s theta l =
     let w = loaded s .left in
-    runOf (beginOf (w .heading) (w .doubles) (Ieee.ofBits binary64 theta ∷ []) .left) steps
+    runOf (beginOf (w .heading) (w .doubles) (Ieee.ofBits binary64 theta ∷ []) .left) l
 
 -- the Rust's order
 unfoldable pub finished : List ℕ → ℕ → Call
@@ -97,14 +82,8 @@ solving s theta reml =
     solveOf (w .heading) (w .doubles) reml (replicate 6 (Ieee.ofBits binary64 0))
 
 unfoldable pub profiled : List ℕ → ℕ → Bool → Deviance
-unfolding loaded profileOf refusedRow factored solved subtracted logged started Shapes.workingAt
+unfolding loaded profileOf
 profiled s theta reml = let w = loaded s .left in profileOf (w .heading) (w .doubles) (Ieee.ofBits binary64 theta ∷ []) reml .answer
-
--- the words of a list, and of sigma2, 0 where there is none
-unfoldable pub bitsOf : List Float → List ℕ
-unfolding Ieee.toBits
-bitsOf [] = []
-bitsOf (x ∷ l) = Ieee.toBits binary64 x ∷ bitsOf l
 
 unfoldable pub sigma2Bits : Solve → ℕ
 unfolding Ieee.toBits
@@ -118,15 +97,15 @@ thetaIn s (accepted sheet starts) = Program.thetaLines s (sheet .counts .k) (rec
 thetaIn s (refused number line) = []
 
 unfoldable pub loadedFirst : Outcome → Call
-unfolding leaves Load.loadSheet Shapes.loadedAt
+unfolding steps Load.loadSheet
 loadedFirst o = Load.loadParsed o (replicate 128 0) (replicate 200 (Ieee.ofBits binary64 0))
 
 -- the words of the solution's list of a sheet with its theta part
 unfoldable pub solutionBits : List ℕ → ℕ → ℕ → List ℕ
-unfolding leaves readingHere thetaIn loadedFirst beginOf runOf rustOrder solveOf bitsOf refusedRow factored solved subtracted logged started Shapes.workingAt
+unfolding steps readingHere thetaIn loadedFirst beginOf runOf rustOrder solveOf words
 solutionBits s k n =
     let o = readSheet s in
     let w = loadedFirst o .left in
     let b = beginOf (w .heading) (w .doubles) (thetaIn s o) .left in
     let v = runOf b (rustOrder k) .left in
-    bitsOf (solveOf (v .heading) (v .doubles) false (replicate n (Ieee.ofBits binary64 0)) .result)
+    words (solveOf (v .heading) (v .doubles) false (replicate n (Ieee.ofBits binary64 0)) .result)

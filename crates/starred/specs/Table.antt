@@ -1,7 +1,7 @@
 -- Document 01, "Worked sheets": the input and output, and what is said of them.
 use Prim.Native.Nat.{ℕ}
 use Prim.Native.String.{String}
-use mathlib.Core.List.{List, [], _∷_, _++_}
+use mathlib.Core.List.{List, [], _∷_}
 
 -- the sheet
 abbrev pub sheetLines : List String

@@ -1,33 +1,22 @@
 -- Begin and the steps by computation, on a workspace of two blocks whose sorted order is not the sheet's: block 0 of the sheet has one level, block 1 two.
 -- Every loaded number is 1, and theta is 2, 3.
-use Prim.Native.Nat.{ℕ, suc}
 use mathlib.Core.Path.{_≡_, refl}
 use mathlib.Core.Bool.{false}
 use mathlib.Core.List.{List, [], _∷_, _++_}
-use lib.ListN.{length, replicate, getD}
-use lib.Ieee as Ieee
-use lib.Ieee.{Float, nan, binary64}
-use Rattle.root.specs.Root.{sqrtOf}
-use Rattle.logarithm.specs.Ln.{lnOf}
-use Rattle.storage.specs.Runs.{start, tab, cells}
-use Rattle.storage.specs.Shape.{fill}
-use Rattle.storage.specs.Part.{store}
-use Rattle.order.specs.Steps.{Step, S, C, T, rustOrder}
-use Rattle.rules.specs.Sums.{sumFrom, lessFrom, logsFrom}
-use Rattle.rules.specs.Cholesky.{forward, rows, firstBad}
+use lib.ListN.{replicate}
+use lib.Ieee.{Float, nan}
+use Rattle.order.specs.Steps.{Step, C, T, rustOrder}
 use Rattle.layout.specs.declared.Layout.{Layout}
 use Rattle.refusal.specs.declared.Answer.the-variants.{Accepted}
-use Rattle.layout.specs.declared.State.the-variants.{Idle, UnderWay, Finished}
+use Rattle.layout.specs.declared.State.the-variants.{Idle}
 use Rattle.layout.specs.Shapes as Shapes
-use Rattle.layout.specs.Heading.{written, headed, layoutOf, progressOf, progressNumbers}
-use Rattle.workspace.specs.Memory.{Workspace, idle, workingBlock, cleared}
+use Rattle.layout.specs.Heading.{written, progressOf, progressNumbers}
+use Rattle.workspace.specs.Compute.{leaves, word, words}
+use Rattle.workspace.specs.Memory.{Workspace, idle, workingBlock}
 use Rattle.refusal.specs.Numbers.{refusalOf}
 use Rattle.workspace.specs.Answers.{Outcome, space}
-use Rattle.update.specs.Working.{refusedRow, factored, solved, subtracted, logged, started}
+use Rattle.update.specs.Compute.{steps}
 use Rattle.update.specs.Calls.{beginOf, stepOf, runOf}
-
-abbrev word : ℕ → Float
-word w = Ieee.ofBits binary64 w
 
 abbrev one : Float
 one = word 0x3ff0000000000000
@@ -51,20 +40,15 @@ unfolding written progressNumbers rustOrder
 fresh = space (written layout (idle 2)) (replicate 13 one ++ (word 0x4022000000000000 ∷ replicate 17 nan))
 
 unfoldable begun : Outcome
-unfolding fresh beginOf start tab cells fill store sumFrom lessFrom logsFrom forward rows firstBad sqrtOf lnOf Ieee.add Ieee.sub Ieee.mul Ieee.div Ieee.le Ieee.eq Ieee.ofBits Ieee.toBits refusedRow factored solved subtracted logged started Shapes.loadedAt Shapes.workingAt Shapes.sumAt cleared
+unfolding fresh steps beginOf
 begun = beginOf (fresh .heading) (fresh .doubles) (word 0x4000000000000000 ∷ word 0x4008000000000000 ∷ [])
 
 unfoldable done : List Step → Outcome
 unfolding begun runOf
-done steps = runOf (begun .left) steps
-
-unfoldable words : List Float → List ℕ
-unfolding Ieee.toBits
-words [] = []
-words (x ∷ l) = Ieee.toBits binary64 x ∷ words l
+done l = runOf (begun .left) l
 
 enough : Shapes.doublesNeeded layout ≡ 31
-unfolding Shapes.sumAt start
+unfolding leaves
 enough = refl
 
 accepted : begun .answer ≡ Accepted
@@ -92,7 +76,7 @@ fixed-cells = refl
 
 -- 22 comes before 21; 21 before 23 and 24
 nothing-under-way : refusalOf (stepOf (fresh .heading) (fresh .doubles) (C 9) .answer) .number ≡ 22
-unfolding fresh stepOf start Shapes.sumAt
+unfolding fresh steps stepOf
 nothing-under-way = refl
 
 no-such-step : refusalOf (done (T 0 1 ∷ []) .answer) .number ≡ 21

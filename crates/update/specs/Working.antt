@@ -1,14 +1,14 @@
 -- What begin and each step make of whole blocks (document 01, Record 4): the rules of `rules`, at the shapes of a layout. A block is the list of its doubles.
-use Prim.Native.Nat.{ℕ, zero, suc, _+_}
-use mathlib.Core.Bool.{Bool, true, false, not, _&&_, cond}
+use Prim.Native.Nat.{ℕ, zero}
+use mathlib.Core.Bool.{Bool, _&&_, cond}
 use mathlib.Core.List.{List}
-use mathlib.Core.Option.{Option, none, some}
-use lib.Dec.{ltb, eqb}
+use mathlib.Core.Option.{Option, none}
+use lib.Dec.{eqb}
 use lib.ListN.{getD}
 use lib.Ieee.{Float}
 use Rattle.storage.specs.Shape.{Shape, packed, diagonal, columns, entries, fill}
 use Rattle.order.specs.Elimination.{Rules}
-use Rattle.rules.specs.Arithmetic.{Arithmetic, ieee}
+use Rattle.rules.specs.Arithmetic.{ieee}
 use Rattle.rules.specs.Begin.{diagonalCell, crossCell, fixedCell}
 use Rattle.rules.specs.Steps.{subtractDense, subtractDiagonal, subtractLast, subtractSparse, divide}
 use Rattle.rules.specs.Cholesky.{at, forward, factor, radicand, pivots, logsOfFirst, logsOfLater}

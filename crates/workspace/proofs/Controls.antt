@@ -1,31 +1,21 @@
 -- Load and `replace_response` by computation, on a sheet of two blocks whose sorted order is not the sheet's: block 0 has one level, block 1 two.
 -- Its words are 1 to 14, so that each shows where it is put.
-use Prim.Native.Nat.{ℕ, suc}
+use Prim.Native.Nat.{ℕ}
 use mathlib.Core.Path.{_≡_, refl}
-use mathlib.Core.Bool.{true, false}
+use mathlib.Core.Bool.{true}
 use mathlib.Core.List.{List, [], _∷_, _++_}
-use mathlib.Core.Option.{none}
 use lib.ListN.{replicate, set, take, drop}
-use lib.Ieee as Ieee
-use lib.Ieee.{Float, nan, inf, binary64}
+use lib.Ieee.{Float, nan, inf}
 use Rattle.refusal.specs.declared.Answer.the-variants.{Accepted}
 use Rattle.refusal.specs.Numbers.{refusal, refusalOf, refuse}
-use Rattle.storage.specs.Runs.{start, tab, cells}
-use Rattle.storage.specs.Shape.{fill}
-use Rattle.storage.specs.Part.{store}
-use Rattle.order.specs.Steps.{rustOrder}
 use Rattle.sheet.specs.Run.{Entry}
 use Rattle.sheet.specs.Sheet.{Sheet}
 use Rattle.layout.specs.declared.State.the-variants.{Idle}
-use Rattle.layout.specs.Shapes as Shapes
-use Rattle.layout.specs.Heading.{layoutOf, progressOf}
-use Rattle.workspace.specs.Memory.{Workspace}
+use Rattle.layout.specs.Heading.{progressOf}
+use Rattle.workspace.specs.Compute.{leaves, word, words}
 use Rattle.workspace.specs.Answers.{Outcome}
 use Rattle.workspace.specs.Load.{loadSheet}
 use Rattle.workspace.specs.Response.{replaceOf}
-
-abbrev word : ℕ → Float
-word w = Ieee.ofBits binary64 w
 
 abbrev at : ℕ → ℕ → ℕ → Entry
 at col row w = record { line = 0; col = col; row = row; word = w }
@@ -43,14 +33,9 @@ sheet =
       yy = 14;
     }
 
-unfoldable words : List Float → List ℕ
-unfolding Ieee.toBits
-words [] = []
-words (x ∷ l) = Ieee.toBits binary64 x ∷ words l
-
 -- a workspace with room for two doubles and one number more
 unfoldable loaded : ℕ → Outcome
-unfolding loadSheet start tab cells fill store rustOrder Shapes.loadedAt Shapes.sumAt Ieee.ofBits words
+unfolding leaves loadSheet words
 loaded room = loadSheet sheet (replicate 129 7) (replicate room (word 99))
 
 -- diagonals 4 5 and 1; the pair by columns; Z'X over Z'y, column by column, of block 1 and then of block 0; the triangle; then +0.0; the rest stays

@@ -3,3 +3,4 @@ pub mod Answers
 pub mod Loaded
 pub mod Load
 pub mod Response
+pub mod Compute

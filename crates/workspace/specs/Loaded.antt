@@ -1,10 +1,10 @@
 -- What load makes of a sheet (document 01, Records 2 and 3): its layout with the gate's verdict, and the loaded numbers.
 use Prim.Native.Nat.{ℕ, zero, suc, _+_, _-_, _*_}
-use mathlib.Core.Bool.{Bool, true, false, _&&_, cond}
+use mathlib.Core.Bool.{Bool, false, _&&_, cond}
 use mathlib.Core.List.{List, [], _∷_, _++_}
 use mathlib.Core.Option.{Option, none, some}
 use lib.Dec.{ltb, leb, eqb}
-use lib.ListN.{getD, length}
+use lib.ListN.{getD}
 use lib.Ieee as Ieee
 use lib.Ieee.{Float, binary64}
 use Rattle.storage.specs.Runs.{start, triangle}
@@ -17,7 +17,7 @@ use Rattle.layout.specs.declared.Pair.the-variants.{Dense, Sparse, Refused as D
 use Rattle.refusal.specs.declared.Refusal.{Refusal}
 use Rattle.layout.specs.Blocks.{sum, each, sorted, padded}
 use Rattle.layout.specs.Gate.{pairOf, diagonalOf}
-use Rattle.layout.specs.Shapes.{Target, pick, levels, loadedShape, pairs, targets}
+use Rattle.layout.specs.Shapes.{Target, pick, levels, loadedShape, targets}
 use Rattle.layout.specs.Heading.{every, isSparse, sheetLevels}
 
 -- ---- rows keep sheet order: block 0 of the sheet has the first m rows, block 1 the next

@@ -1,0 +1,9 @@
+-- For computing examples: what the steps come down to. No contract cites this file.
+use Prim.Native.Nat.{ℕ}
+use Rattle.workspace.specs.Memory.{cleared}
+use Rattle.workspace.specs.Compute.{leaves}
+use Rattle.update.specs.Working.{refusedRow, factored, solved, subtracted, logged, started}
+
+unfoldable pub steps : ℕ
+unfolding leaves refusedRow factored solved subtracted logged started cleared
+steps = 0
