@@ -60,7 +60,7 @@ def dot(a, b):
     return total
 
 
-def factor(s):
+def factor(s, sparse=False):
     """The working factor's blocks, the sheet's rows of each sorted block, and theta in sorted order."""
     m, p, k = s["m"], s["p"], len(s["m"])
     start = [sum(m[:b]) for b in range(k)]
@@ -86,6 +86,9 @@ def factor(s):
                         a, b = L[i, h][r], L[j, h][c]
                         if i == j == k:
                             row[c] = chain(row[c], a, b)
+                        elif sparse and i == k:
+                            cells = [x for x, col in enumerate(rows[0]) if (col, rows[1][c]) in s["zz"]]
+                            row[c] = chain(row[c], [a[x] for x in cells], [b[x] for x in cells])
                         elif diagonal and i == j:
                             cells = [x for x, col in enumerate(rows[0]) if zz(col, rows[1][r]) != 0]
                             if r == c:
@@ -110,20 +113,27 @@ def pivots(s):
     return [f"pivot {j} {r} {word(L[j, j][r][r])}" for j in range(len(rows) + 1) for r in range(len(L[j, j]))]
 
 
-def solution(s):
-    """Record 7's list: beta, b, u, L_X by rows, w of y, w of each column. (No sheet here has a sparse pair.)"""
-    L, rows, t = factor(s)
+def solution(s, sparse=False):
+    """Record 7's list: beta, b, u, L_X by rows, w of y, w of each column."""
+    L, rows, t = factor(s, sparse)
     k, p, q = len(rows), s["p"], s["q"]
 
     def solve(v):
         z = [[v[r] for r in rows[i]] for i in range(k)]
         for i in range(k):
             for j in range(i):
-                z[i] = [x - dot(L[i, j][r], z[j]) for r, x in enumerate(z[i])]
+                if sparse:
+                    for c, source in enumerate(z[j]):
+                        r = next(r for r, at in enumerate(rows[i]) if (rows[j][c], at) in s["zz"])
+                        if source != 0:
+                            z[i][r] -= L[i, j][r][c] * source
+                else:
+                    z[i] = [x - dot(L[i, j][r], z[j]) for r, x in enumerate(z[i])]
             for c in range(len(z[i])):
                 z[i][c] = chain(z[i][c], L[i, i][c][:c], z[i][:c]) / L[i, i][c][c]
         for i in reversed(range(k)):
             for j in range(i + 1, k):
+                # of a sparse column the other cells are +0 and add nothing
                 z[i] = [x - dot([row[c] for row in L[j, i]], z[j]) for c, x in enumerate(z[i])]
             for c in reversed(range(len(z[i]))):
                 below = range(c + 1, len(z[i]))
@@ -160,6 +170,7 @@ def solution(s):
 SHEETS = [
     ("dense", sheet(1, [2, 3], 2, 40, lambda *at: True)),
     ("diagonal", sheet(2, [2, 3], 1, 30, lambda b, l, c, r: (l + r) % 2 == 0 if r < 2 else l == 1)),
+    ("wide", sheet(4, [3, 7], 2, 60, lambda b, l, c, r: l == (r * r + 1) % 3)),
     ("three", sheet(3, [1, 2, 2], 1, 25, lambda b, l, c, r: (b + l + r) % 3 != 0)),
 ]
 
@@ -169,3 +180,5 @@ if __name__ == "__main__":
         print("\n".join(text(s)))
         print("\n".join(pivots(s)))
         print("\n".join(solution(s)))
+    # a pair this small is never stored sparse by load; the rules for one are computed on it all the same
+    print("\n".join(solution(dict(SHEETS)["wide"], sparse=True)))

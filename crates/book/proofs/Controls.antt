@@ -4,11 +4,12 @@ use mathlib.Core.Path.{_≡_, refl}
 use mathlib.Core.Bool.{true, false}
 use mathlib.Core.List.{List, [], _∷_}
 use native.Mathlib.Decide.{ℕ-discrete}
-use lib.ListN.{replicate, take}
+use lib.ListN.{replicate, take, drop}
 use lib.Ieee.{Float, inf}
 use Rattle.order.specs.Steps.{S, C, T}
 use Rattle.sheet.specs.Sheet.{Sheet}
 use Rattle.refusal.specs.Numbers.{refusal}
+use Rattle.layout.specs.declared.State.the-variants.{Finished}
 use Rattle.layout.specs.Heading.{progressOf}
 use Rattle.workspace.specs.Memory.{Workspace}
 use Rattle.workspace.specs.Load.{loadSheet}
@@ -19,7 +20,7 @@ use Rattle.workspace.specs.Compute.{word, words}
 use Rattle.update.specs.Compute.{steps}
 use Rattle.book.specs.Calls as Calls
 use Rattle.book.specs.Calls.{Call, begin, step, replaceResponse, profileDeviance, Reply, refusalOf, replies, leftBy}
-use Rattle.book.specs.Book.{Book, entered, opened, bookReplies, bookAfter, bookLeft}
+use Rattle.book.specs.Book.{Book, entered, opened, bookReplies, bookAfter, bookLeft, bookState}
 
 abbrev sheet : Sheet
 sheet =
@@ -53,8 +54,8 @@ calls =
     ∷ step (C 0)
     ∷ step (C 0)
     ∷ step (T 1 0)
-    ∷ replaceResponse (one ∷ []) (one ∷ []) (inf true)
-    ∷ replaceResponse (word 0x4010000000000000 ∷ []) (word 0x4018000000000000 ∷ []) one
+    ∷ replaceResponse (one ∷ []) (one ∷ []) (inf true ∷ [])
+    ∷ replaceResponse (word 0x4010000000000000 ∷ []) (word 0x4018000000000000 ∷ []) (one ∷ [])
     ∷ step (S 1 1 0)
     ∷ profileDeviance (one ∷ []) true
     ∷ step (C 0)
@@ -129,3 +130,45 @@ last-refused = refl
 book-refused : refusalOf (entered sheet (step (C 1)) booked-after .reply) ≡ refusal 26 1 1
 unfolding booked-after
 book-refused = refl
+
+-- ---- a second list, to the end of an update by steps and by `profile_deviance`: 22 with all steps done, whatever the step
+abbrev calls-to-end : List Call
+calls-to-end =
+    begin (one ∷ [])
+    ∷ step (C 0)
+    ∷ step (T 1 0)
+    ∷ step (S 1 1 0)
+    ∷ step (C 1)
+    ∷ step (C 0)
+    ∷ step (C 9)
+    ∷ profileDeviance (one ∷ []) false
+    ∷ step (C 0)
+    ∷ []
+
+abbrev expected-to-end : List ℕ
+expected-to-end = 0 ∷ 0 ∷ 0 ∷ 0 ∷ 0 ∷ 22 ∷ 22 ∷ 0 ∷ 22 ∷ []
+
+calls-end : numbers (replies calls-to-end loaded) ≡ expected-to-end
+unfolding called
+calls-end = refl
+
+book-ends : numbers (bookReplies sheet calls-to-end (opened sheet)) ≡ expected-to-end
+unfolding booked
+book-ends = refl
+
+calls-finished : progressOf (leftBy calls-to-end loaded .heading) .state ≡ Finished
+unfolding left
+calls-finished = refl
+
+book-finished : bookState sheet (bookAfter sheet calls-to-end (opened sheet) .done) ≡ Finished
+unfolding booked-after
+book-finished = refl
+
+-- theta is kept, here 1
+called-theta : words (take 1 (drop 6 (leftBy calls-to-end loaded .doubles))) ≡ 0x3ff0000000000000 ∷ []
+unfolding left words
+called-theta = refl
+
+booked-theta : words (bookAfter sheet calls-to-end (opened sheet) .theta) ≡ 0x3ff0000000000000 ∷ []
+unfolding booked-after words
+booked-theta = refl

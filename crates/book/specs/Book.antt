@@ -1,13 +1,14 @@
 -- Record 5's book of a loaded sheet: it is fed each call and its arguments, never the workspace or its heading.
 use Prim.Native.Nat.{ℕ}
-use mathlib.Core.Bool.{Bool, false}
+use mathlib.Core.Bool.{Bool, false, _&&_}
 use mathlib.Core.List.{List, [], _∷_, _++_}
 use mathlib.Core.Option.{Option, none, some}
 use lib.Dec.{eqb}
-use lib.ListN.{length}
+use lib.ListN.{length, getD}
 use lib.Ieee.{Float}
 use Rattle.order.specs.Steps.{Step, S, C, T, named, after, rustOrder}
 use Rattle.order.specs.Progress.{all, join, stepsLeft}
+use Rattle.rules.specs.Arithmetic.{ieee}
 use Rattle.sheet.specs.Sheet.{Sheet}
 use Rattle.layout.specs.declared.Layout.{Layout}
 use Rattle.layout.specs.declared.State.{State}
@@ -44,7 +45,7 @@ pub record Entry : Type 0 where
 abbrev pub entry : Reply → Book → Entry
 entry r b = record { reply = r; next = b }
 
--- no step is done; every step is
+-- no step is done
 abbrev pub nothing : Step → Bool
 nothing s = false
 
@@ -69,7 +70,7 @@ module _ (sheet : Sheet) where
   abbrev pub inStep : Step → Answer → Answer
   inStep s Accepted = Accepted
   inStep (S i j h) (Refused r) = Accepted
-  inStep (C j) (Refused r) = pick (eqb (r .first) j) (Refused r) Accepted
+  inStep (C j) (Refused r) = pick (eqb (r .number) 26 && eqb (r .first) j) (Refused r) Accepted
   inStep (T i j) (Refused r) = Accepted
 
   -- ---- load: Record 3, none
@@ -86,14 +87,17 @@ module _ (sheet : Sheet) where
   onBegin theta b = onList 0 last theta (λ a. entry (plain a) b) (entry (plain Accepted) (book (b .loaded) theta (some nothing)))
 
   -- `replace_response`: its response for the old, none. Every length comes before any word.
-  abbrev pub onResponse : List Float → List Float → Float → Book → Entry
+  abbrev pub onResponse : List Float → List Float → List Float → Book → Entry
   onResponse zy xy yy b =
       let no : Answer → Entry = λ a. entry (plain a) b in
-      let good = entry (plain Accepted) (book (responded (headingOf sheet layout) (b .loaded) zy xy yy .left .doubles) (b .theta) none) in
+      let new = responded (headingOf sheet layout) (b .loaded) zy xy (getD yy 0 (ieee .zero)) .left .doubles in
+      let good = entry (plain Accepted) (book new (b .theta) none) in
       pick (eqb (length zy) (layout .q))
       (pick (eqb (length xy) (layout .p))
+      (pick (eqb (length yy) 1)
       (unlessAt (firstInfinite 0 zy) (λ i. no (refuse 14 0 i))
-      (unlessAt (firstInfinite 0 xy) (λ i. no (refuse 14 1 i)) (unlessAt (firstInfinite 0 (yy ∷ [])) (λ i. no (refuse 14 2 i)) good)))
+      (unlessAt (firstInfinite 0 xy) (λ i. no (refuse 14 1 i)) (unlessAt (firstInfinite 0 yy) (λ i. no (refuse 14 2 i)) good)))
+      (no (refuse 13 2 0)))
       (no (refuse 13 1 0)))
       (no (refuse 13 0 0))
 

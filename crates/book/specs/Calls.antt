@@ -19,7 +19,7 @@ pub data Call : Type 0 where
   begin : List Float → Call
   step : Step → Call
   -- Z'y, X'y, y'y
-  replaceResponse : List Float → List Float → Float → Call
+  replaceResponse : List Float → List Float → List Float → Call
   -- theta, and whether the mode is REML
   profileDeviance : List Float → Bool → Call
 

@@ -13,15 +13,18 @@ use Rattle.sheet.specs.Sheet.{Sheet, accepted, sheetOf}
 use Rattle.sheet.specs.declared.Starts.{Starts}
 use Rattle.layout.specs.declared.State.the-variants.{UnderWay, Finished}
 use Rattle.refusal.specs.declared.Answer.the-variants.{Accepted}
-use Rattle.layout.specs.Shapes.{sizes, loadedLength, workingAt, sumAt, numbersNeeded, doublesNeeded}
-use Rattle.layout.specs.Heading.{layoutOf, progressOf, stageOf}
-use Rattle.workspace.specs.Memory.{Workspace, workingBlock}
+use Rattle.layout.specs.Shapes.{sizes, loadedLength, workingAt, sumAt, doublesNeeded, shape, thetaAt}
+use Rattle.layout.specs.Heading.{layoutOf, progressOf, stageOf, entryRow}
+use Rattle.workspace.specs.Memory.{Workspace, workingBlock, cellOf}
 use Rattle.workspace.specs.Answers.{Outcome}
-use Rattle.workspace.specs.Load.{Loads}
+use Rattle.workspace.specs.Load.{Loads, headingOf}
 use Rattle.update.specs.Calls.{stepOf, madeBy, sumBy}
-use Rattle.profile.specs.Deviance.{logDeterminant}
+use Rattle.profile.specs.Deviance.{logDeterminant, lastPivot}
 use Rattle.book.specs.Calls.{Call, called, refusalOf, replies, leftBy}
 use Rattle.book.specs.Book.{Book, layout, last, opened, rust, inStep, bookReplies, bookAfter, bookLeft, bookState, bookSet}
+use Rattle.storage.specs.Part.{part, store}
+use Rattle.storage.specs.Shape.{Shape}
+use Rattle.update.specs.Working.{pivotCount}
 
 -- step s is undone and its forerunners are done, by the set d
 pub record ReadyBy (k : ℕ) (d : Step → Bool) (s : Step) : Type 0 where
@@ -52,6 +55,10 @@ pub record Writes (v : Workspace) (s : Step) (u : Workspace) : Type 0 where
   pub before-progress : take 22 (u .heading) ≡ take 22 (v .heading)
   pub behind-progress : drop 69 (u .heading) ≡ drop 69 (v .heading)
 
+-- the shape of factor j
+abbrev pub factorOf : Workspace → ℕ → Shape
+factorOf v j = shape (layoutOf (v .heading)) (entryRow (v .heading)) j j
+
 module _ (sheet : Sheet) where
   -- ---- "Refusals, loaded numbers, progress and steps left are as in document 01's book." The workspace v, once h and w, agrees with the book b.
   pub record Agrees (h : List ℕ) (w : List Float) (b : Book) (v : Workspace) : Type 0 where
@@ -62,7 +69,10 @@ module _ (sheet : Sheet) where
     pub set : (s : Step) → Named (last sheet) s → done (stageOf (progressOf (v .heading))) s ≡ bookSet sheet (b .done) s
     -- nothing past the formula's lengths was ever written
     pub doubles-behind : drop (doublesNeeded (layout sheet)) (v .doubles) ≡ drop (doublesNeeded (layout sheet)) w
-    pub numbers-behind : drop (numbersNeeded (layout sheet)) (v .heading) ≡ drop (numbersNeeded (layout sheet)) h
+    -- behind the progress the heading, with the rows of a sparse pair, is as load wrote it, and past the formula's length as it was
+    pub heading-behind : drop 69 (v .heading) ≡ drop 69 (store 0 (headingOf sheet (layout sheet)) h)
+    -- theta is kept with its update
+    pub theta-kept : (d : Step → Bool) → b .done ≡ some d → part (thetaAt (layout sheet)) (last sheet) (v .doubles) ≡ b .theta
     pub doubles-many : length (v .doubles) ≡ length w
     pub numbers-many : length (v .heading) ≡ length h
 
@@ -78,6 +88,10 @@ module _ (sheet : Sheet) where
     -- "until the last step or a refused pivot some step is ready"
     pub some-ready : (s : Step) × ReadyBy (last sheet) d s
 
+  -- the last pivot of block k
+  abbrev pub residualPivot : Workspace → Float
+  residualPivot v = lastPivot (v .heading) (v .doubles) false (layout sheet .p)
+
   -- ---- "a finished update leaves the factor and log determinant that document 01's begin and the Rust's order give a freshly loaded workspace with the
   -- same loaded numbers and theta"
   pub record FinishedClaim (b : Book) (v : Workspace) : Type 0 where
@@ -87,6 +101,8 @@ module _ (sheet : Sheet) where
         → workingBlock (v .heading) (v .doubles) i j ≡ workingBlock (rust sheet (b .loaded) (b .theta) .left .heading) (rust sheet (b .loaded) (b .theta) .left .doubles) i j
     pub log-determinant :
         logDeterminant (v .heading) (v .doubles) ≡ logDeterminant (rust sheet (b .loaded) (b .theta) .left .heading) (rust sheet (b .loaded) (b .theta) .left .doubles)
+    -- Record 6: on a factor made by the steps r2 is above 0 or NaN
+    pub scale : ieee .refused (ieee .times (residualPivot v) (residualPivot v)) ≡ false
 
   -- ---- one list of calls, from a workspace v that load of the sheet left out of h and w
   pub record Holds (h : List ℕ) (w : List Float) (v : Workspace) (calls : List Call) : Type 0 where
@@ -98,6 +114,10 @@ module _ (sheet : Sheet) where
     pub under-way :
         (d : Step → Bool) → bookAfter sheet calls (opened sheet) .done ≡ some d → bookState sheet (some d) ≡ UnderWay
         → UnderWayClaim (bookAfter sheet calls (opened sheet)) (leftBy calls v) d
+    -- no divisor is 0: the pivots of a factor whose C is done ("The zero-divisor errors in steps and solves cannot occur")
+    pub divisors :
+        (j r : ℕ) → j ≤ last sheet → bookSet sheet (bookAfter sheet calls (opened sheet) .done) (C j) ≡ true → r < pivotCount (factorOf (leftBy calls v) j)
+        → ieee .null (cellOf (factorOf (leftBy calls v) j) (workingBlock (leftBy calls v .heading) (leftBy calls v .doubles) j j) r r) ≡ false
     pub finished :
         bookState sheet (bookAfter sheet calls (opened sheet) .done) ≡ Finished → FinishedClaim (bookAfter sheet calls (opened sheet)) (leftBy calls v)
 

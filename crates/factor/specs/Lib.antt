@@ -1,2 +1,4 @@
 pub mod Print
 pub mod Program
+pub mod Worked
+pub mod Compute

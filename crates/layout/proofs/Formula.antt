@@ -1,12 +1,12 @@
 -- Record 2's formula for the doubles of a workspace, and the cells of each block.
 use Prim.Native.Nat.{ℕ, zero, suc, _+_, _*_, _/_, _≤_, _<_}
-use mathlib.Core.Path.{_≡_, refl, _∙_}
+use mathlib.Core.Path.{_≡_, refl, ap, _∙_}
 use mathlib.Core.Bool.{true, false, _&&_}
 use mathlib.Core.List.{List, [], _∷_, _++_}
 use native.Mathlib.Omega.{arith}
 use lib.Dec.{eqb}
 use borrow.Author.Tests.{eq-eqb, ne-eqb, lt-ltb, le-ltb}
-use Rattle.storage.proofs.Places.{size-packed, size-columns, size-diagonal}
+use Rattle.storage.proofs.Places.{size-packed, size-columns, size-diagonal, size-entries}
 use Rattle.layout.specs.declared.Layout.{Layout}
 use Rattle.layout.specs.Blocks.{sum}
 use Rattle.layout.specs.Shapes.{
@@ -25,6 +25,7 @@ use Rattle.layout.specs.Shapes.{
   loadedLength,
   sumAt,
   crossCells,
+  fixedCells,
   factorCells,
   doublesNeeded,
   doublesFormula,
@@ -61,6 +62,18 @@ module _ (y : Layout) where
   unfolding shape
   later-factor j g h d =
       rw (ne-eqb j (y .k) (λ e. omega arith), eq-eqb j j refl, ne-eqb j 0 (λ e. omega arith), d) (size-packed (levels y j))
+
+  -- a dense pair has rows times columns cells
+  pub cross-dense : (i j : ℕ) → j < i → i < y .k → y .sparse ≡ false → sizes y i j ≡ levels y i * levels y j
+  unfolding shape
+  cross-dense i j h g d =
+      rw (ne-eqb i (y .k) (λ e. omega arith), ne-eqb i j (λ e. omega arith), d) (size-columns (levels y i) (levels y j))
+
+  -- a sparse one has a cell for each column
+  pub cross-sparse : (i j : ℕ) → j < i → i < y .k → y .sparse ≡ true → sizes y i j ≡ levels y 0
+  unfolding shape
+  cross-sparse i j h g d =
+      rw (ne-eqb i (y .k) (λ e. omega arith), ne-eqb i j (λ e. omega arith), d) (size-entries (levels y 0) (λ x. 0))
 
   -- the fixed rows of factor j
   pub fixed-size : (j : ℕ) → j < y .k → sizes y (y .k) j ≡ (y .p + 1) * levels y j
@@ -125,18 +138,32 @@ module _ (y : Layout) where
       omega (arith, cells-append (sizes y) (across (y .k) n) (target (y .k) n ∷ []), fixed-rows n (omega arith), fixed-size n (omega arith))
 
   -- ---- the formula
-  pub doubles-formula : y .q ≡ sum (levels y) (y .k) → doublesNeeded y ≡ doublesFormula y
-  unfolding sumAt loadedLength crossCells factorCells
-  doubles-formula e =
+
+  -- X of a sparse pair is its entries
+  pub sparse-cross : y .k ≡ 2 → y .sparse ≡ true → crossCells y ≡ levels y 0
+  unfolding crossCells pairs across cellsOf
+  sparse-cross e d = ap (λ (n : ℕ). cellsOf (sizes y) (pairs n)) e ∙ omega (arith, cross-sparse 1 0 (omega arith) (omega arith) d)
+
+  -- the cells of the fixed rows and the last triangle
+  fixed-part : y .q ≡ sum (levels y) (y .k) → cellsOf (sizes y) (across (y .k) (y .k)) + sizes y (y .k) (y .k) ≡ fixedCells y
+  fixed-part e =
+      omega (arith, last-size, fixed-rows (y .k) (omega arith), ap (λ (x : ℕ). x * (y .p + 1)) e)
+
+  -- loaded are q diagonals, X and F
+  pub loaded-split : y .q ≡ sum (levels y) (y .k) → loadedLength y ≡ y .q + crossCells y + fixedCells y
+  unfolding loadedLength crossCells
+  loaded-split e =
       let k : ℕ = y .k in
-      let f : cellsOf (sizes y) (across k k) ≡ y .q * (y .p + 1) = rw e (fixed-rows k (omega arith) ∙ omega arith) in
       omega (
         arith,
         cells-targets (loadedSizes y) k,
-        cells-targets (sizes y) k,
         loaded-factors k (omega arith),
         loaded-pairs k,
         loaded-across k k (omega arith),
         loaded-last,
-        last-size,
+        fixed-part e,
       )
+
+  pub doubles-formula : y .q ≡ sum (levels y) (y .k) → doublesNeeded y ≡ doublesFormula y
+  unfolding sumAt crossCells factorCells
+  doubles-formula e = omega (arith, loaded-split e, cells-targets (sizes y) (y .k), fixed-part e)

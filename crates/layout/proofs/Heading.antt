@@ -5,9 +5,9 @@ use mathlib.Core.Bool.{Bool, true, false, not, _&&_, _||_, cond}
 use mathlib.Core.List.{List, [], _∷_, _++_}
 use native.Mathlib.Omega.{arith}
 use lib.Dec.{ltb, leb, eqb}
-use lib.ListN.{length, getD, replicate, length-append}
+use lib.ListN.{length, getD, length-append}
 use lib.Seq.{getD-append-add}
-use borrow.Author.Tests.{le-leb, lt-ltb}
+use borrow.Author.Tests.{le-leb, lt-ltb, ltb-true}
 use Rattle.storage.specs.Runs.{start}
 use Rattle.storage.specs.Part.{store}
 use Rattle.order.specs.Steps.{rustOrder}
@@ -30,6 +30,8 @@ use Rattle.layout.specs.Heading.{
   every,
   lawful,
   progressLawful,
+  idle,
+  underWay,
   headed,
 }
 use Rattle.layout.proofs.Lawful.{both, unless, every-of, every-at}
@@ -88,9 +90,9 @@ module _ (y : Layout) (g : Progress) where
 
 -- ---- never number 20
 
--- what `headed` asks of a list of numbers that reads as y and g
-abbrev asked : List ℕ → ℕ → Layout → Progress → Bool
-asked h doubles y g =
+-- what `headed` asks of a list of numbers that reads as y and g: all but the sparse rows, and those
+abbrev front : List ℕ → ℕ → Layout → Progress → Bool
+front h doubles y g =
     leb 128 (length h)
     && leb (getD h 20 0) 1
     && leb (getD h 21 0) 1
@@ -99,7 +101,12 @@ asked h doubles y g =
     && progressLawful (y .k) g
     && leb (numbersNeeded y) (length h)
     && leb (doublesNeeded y) doubles
-    && (not (y .sparse) || every (λ c. ltb (entryRow h c) (levels y 1)) (levels y 0))
+
+abbrev sparseRows : List ℕ → Layout → Bool
+sparseRows h y = every (λ c. ltb (entryRow h c) (levels y 1)) (levels y 0)
+
+abbrev asked : List ℕ → ℕ → Layout → Progress → Bool
+asked h doubles y g = front h doubles y g && (not (y .sparse) || sparseRows h y)
 
 headed-of : (h : List ℕ) (doubles : ℕ) (y : Layout) (g : Progress) → layoutOf h ≡ y → progressOf h ≡ g → 128 ≤ length h → getD h 20 0 ≤ 1
     → getD h 21 0 ≤ 1 → getD h 22 0 ≤ 2 → lawful y ≡ true → progressLawful (y .k) g ≡ true → numbersNeeded y ≤ length h → doublesNeeded y ≤ doubles
@@ -119,8 +126,7 @@ headed-of h doubles y g e f long sparse diagonal state ok going numbers room row
     going)
     (le-leb (numbersNeeded y) (length h) numbers))
     (le-leb (doublesNeeded y) doubles room))
-    (unless (y .sparse) (every (λ c. ltb (entryRow h c) (levels y 1)) (levels y 0))
-    (λ s. every-of (λ c. ltb (entryRow h c) (levels y 1)) (levels y 0) (λ c l. lt-ltb (entryRow h c) (levels y 1) (rows s c l))))
+    (unless (y .sparse) (sparseRows h y) (λ s. every-of (λ c. ltb (entryRow h c) (levels y 1)) (levels y 0) (λ c l. lt-ltb (entryRow h c) (levels y 1) (rows s c l))))
 
 bit-small : (b : Bool) → bit b ≤ 1
 bit-small true = omega arith
@@ -149,22 +155,44 @@ never-20 y g rows doubles ok going a b c sparse room =
     long : length (written y g ++ rows) ≡ 128 + length rows
     long = length-append (written y g) rows ∙ omega (arith, length-written y g)
 
--- ---- an update that has begun, for every number of blocks
+-- ---- number 20 for a sparse pair
 
--- no step is done
-abbrev pub begun : State → ℕ → Progress
-begun state k = record { state = state; left = length (rustOrder k); stages = replicate 45 0 }
+absent : (b : Bool) → (b ≡ true → ⊥) → b ≡ false
+absent true h = absurd (h refl)
+absent false h = refl
 
-idle-each : every (λ k. progressLawful k (begun Idle k)) 9 ≡ true
+last-fails : (a b : Bool) → b ≡ false → (a && b) ≡ false
+last-fails true b e = e
+last-fails false b e = refl
+
+-- a heading with a sparse row that is not below the levels of block 1 is refused
+pub sparse-row-refused : (h : List ℕ) (doubles c : ℕ) → layoutOf h .sparse ≡ true → c < levels (layoutOf h) 0 → levels (layoutOf h) 1 ≤ entryRow h c
+    → headed h doubles ≡ false
+unfolding headed
+sparse-row-refused h doubles c s l bad =
+    last-fails (front h doubles y (progressOf h)) (not (y .sparse) || sparseRows h y) (rw s (absent (sparseRows h y) wrong))
+  where
+    y : Layout
+    y = layoutOf h
+
+    wrong : sparseRows h y ≡ true → ⊥
+    wrong e =
+        let k : entryRow h c < levels y 1 =
+        ltb-true (entryRow h c) (levels y 1) (every-at (λ i. ltb (entryRow h i) (levels y 1)) (levels y 0) e c l) in
+        omega arith
+
+-- ---- progress none and an update just begun are lawful, for every number of blocks
+
+idle-each : every (λ k. progressLawful k (idle k)) 9 ≡ true
 unfolding every progressLawful rustOrder start
 idle-each = refl
 
-under-way-each : every (λ k. progressLawful k (begun UnderWay k)) 9 ≡ true
+under-way-each : every (λ k. progressLawful k (underWay k)) 9 ≡ true
 unfolding every progressLawful rustOrder start
 under-way-each = refl
 
-pub idle-lawful : (k : ℕ) → k ≤ 8 → progressLawful k (begun Idle k) ≡ true
-idle-lawful k h = every-at (λ k. progressLawful k (begun Idle k)) 9 idle-each k (omega arith)
+pub idle-lawful : (k : ℕ) → k ≤ 8 → progressLawful k (idle k) ≡ true
+idle-lawful k h = every-at (λ k. progressLawful k (idle k)) 9 idle-each k (omega arith)
 
-pub under-way-lawful : (k : ℕ) → k ≤ 8 → progressLawful k (begun UnderWay k) ≡ true
-under-way-lawful k h = every-at (λ k. progressLawful k (begun UnderWay k)) 9 under-way-each k (omega arith)
+pub under-way-lawful : (k : ℕ) → k ≤ 8 → progressLawful k (underWay k) ≡ true
+under-way-lawful k h = every-at (λ k. progressLawful k (underWay k)) 9 under-way-each k (omega arith)

@@ -1,5 +1,6 @@
 pub mod Places
 pub mod Formula
 pub mod Lawful
+pub mod Sorted
 pub mod Heading
 pub mod Controls

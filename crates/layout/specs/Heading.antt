@@ -123,9 +123,9 @@ forerun g [] = true
 forerun g (s ∷ l) = (not (done g s) || all (done g) (after s)) && forerun g l
 
 abbrev pub stateLawful : State → ℕ → ℕ → Bool
-stateLawful Idle left all = eqb left all
-stateLawful UnderWay left all = ltb 0 left
-stateLawful Finished left all = eqb left 0
+stateLawful Idle left every-step = eqb left every-step
+stateLawful UnderWay left every-step = ltb 0 left
+stateLawful Finished left every-step = eqb left 0
 
 unfoldable pub progressLawful : ℕ → Progress → Bool
 unfolding every rustOrder
@@ -135,7 +135,15 @@ progressLawful k g =
     && forerun (stageOf g) (rustOrder k)
     && stateLawful (g .state) (g .left) (length (rustOrder k))
 
--- ---- number 20: the heading h and a list of doubles of this length are no workspace
+-- progress none: nothing is done, every step is left
+abbrev pub idle : ℕ → Progress
+idle k = record { state = Idle; left = length (rustOrder k); stages = replicate 45 0 }
+
+-- an update just begun: every step is left
+abbrev pub underWay : ℕ → Progress
+underWay k = record { state = UnderWay; left = length (rustOrder k); stages = replicate 45 0 }
+
+-- ---- h and a list of this many doubles are a workspace; where they are not, number 20
 unfoldable pub headed : List ℕ → ℕ → Bool
 unfolding layoutOf progressOf lawful progressLawful every
 headed h doubles =

@@ -15,7 +15,8 @@ use Rattle.workspace.specs.Compute.{word, words}
 use Rattle.update.specs.Compute.{steps}
 use Rattle.profile.specs.declared.Deviance.{Deviance}
 use Rattle.profile.specs.declared.Deviance.the-variants.{Value, Pivot, NoScale, Refused}
-use Rattle.profile.specs.declared.Solve.the-variants.{Refused as Denied}
+use Rattle.profile.specs.declared.Solve.{Solve}
+use Rattle.profile.specs.declared.Solve.the-variants.{Solved, Refused as Denied}
 use Rattle.profile.specs.Deviance.{devianceFromFactor}
 use Rattle.profile.specs.Finish.{Solving, solveOf}
 
@@ -96,6 +97,29 @@ solution :
     ≡ 0x3ff0000000000000 ∷ 0x3ff0000000000000 ∷ 0x3fe0000000000000 ∷ 0x4000000000000000 ∷ 0x3ff0000000000000 ∷ 0x3fe0000000000000 ∷ []
 unfolding solving words
 solution = refl
+
+-- its deviance comes from its own r2, (9 - 4) - 4, which here is the last pivot's square
+unfoldable solutionBits : Solve → ℕ
+unfolding Ieee.toBits
+solutionBits (Solved s) = Ieee.toBits binary64 (s .deviance)
+solutionBits (Denied r) = 0
+
+unfoldable solvingBy : Bool → ℕ
+unfolding solving solutionBits
+solvingBy mode = solutionBits (solveOf (written (layout 3) finished) doubles mode (replicate 6 (word 99)) .answer)
+
+solution-ml : solvingBy false ≡ 0x401a6a963a085b3b
+unfolding solvingBy
+solution-ml = refl
+
+solution-reml : solvingBy true ≡ 0x401c3f89a3f0edd6
+unfolding solvingBy
+solution-reml = refl
+
+-- with another y'y, 10, r2 is 2 and sigma2 2/3, whatever the last pivot: 3 ln(2π·2/3) + 2 ln 2 + 3
+other-residual : solutionBits (solving finished (set doubles 5 (word 0x4024000000000000)) 6 .answer) ≡ 0x40215df7acd3187a
+unfolding solving solutionBits
+other-residual = refl
 
 -- 25 before 13; 13 leaves the list; 27, here X'X 1 - 2 · 1/2, leaves it +0.0
 solve-early : solving underWay doubles 5 .answer ≡ Denied (refusal 25 0 0)

@@ -3,7 +3,8 @@ use Prim.Native.Nat.{ℕ, _+_}
 use mathlib.Core.Bool.{Bool, true, false, _||_, cond}
 use mathlib.Core.List.{List}
 use lib.ListN.{length}
-use lib.Ieee.{Float}
+use lib.Ieee as Ieee
+use lib.Ieee.{Float, binary64}
 use Rattle.storage.specs.Shape.{packed}
 use Rattle.order.specs.Steps.{rustOrder}
 use Rattle.rules.specs.Arithmetic.{ieee}
@@ -22,6 +23,7 @@ use Rattle.workspace.specs.Answers.{Outcome}
 use Rattle.update.specs.Calls.{beginOf, runOf}
 use Rattle.profile.specs.declared.Deviance.{Deviance}
 use Rattle.profile.specs.declared.Deviance.the-variants.{Value, Pivot, NoScale, Refused}
+use mathlib.Core.Option.{Option, none, some}
 
 -- document 01's number and places of an answer: 0 where it is a value or "no scale", and 26 for a pivot
 abbrev pub refusalOf : Deviance → Refusal
@@ -29,6 +31,13 @@ refusalOf (Value v) = noRefusal
 refusalOf (Pivot j r) = refusal 26 j r
 refusalOf NoScale = noRefusal
 refusalOf (Refused r) = r
+
+-- the Rust's value of an answer: `f64::MAX` for a refused pivot and for "no scale"; none where the Rust has no such answer
+abbrev pub rustValue : Deviance → Option Float
+rustValue (Value v) = some v
+rustValue (Pivot j r) = some (Ieee.ofBits binary64 0x7fefffffffffffff)
+rustValue NoScale = some (Ieee.ofBits binary64 0x7fefffffffffffff)
+rustValue (Refused r) = none
 
 abbrev pub refusing : ℕ → Deviance
 refusing n = Refused (refusal n 0 0)

@@ -10,9 +10,11 @@ use Rattle.logarithm.specs.Ln.{lnOf}
 use Rattle.rules.specs.Arithmetic.{ieee}
 use Rattle.rules.specs.Sums.{sumFrom, lessFrom, logsFrom}
 use Rattle.rules.specs.Begin.{crossCell}
-use Rattle.rules.specs.Steps.{subtractDense, subtractLast, subtractSparse}
+use Rattle.rules.specs.Steps.{subtractDense, subtractLast, subtractSparse, subtractDiagonal}
 use Rattle.rules.specs.Cholesky.{firstBad, pivots, finishPivots, logsOfFirst, logsOfLater}
-use Rattle.rules.specs.Solves.{lessSparse, lessDense}
+use Rattle.rules.specs.Solves.{lessSparse, lessDense, lessSparseT}
+use lib.Dec.{eqb}
+use mathlib.Core.Bool.{true}
 
 abbrev word : ℕ → Float
 word w = Ieee.ofBits binary64 w
@@ -76,6 +78,21 @@ sparse-skips = refl
 dense-takes : bits (lessDense ieee (λ r c. word 0x7ff0000000000000) (λ c. word 0x8000000000000000) (λ r. word 0x3ff0000000000000) 1 0) ≡ 0x7ff8000000000000
 unfolding bits
 dense-takes = refl
+
+-- going backward a sparse pair takes its source of 0, once: 1 - (0.0 + inf · 0)
+sparse-back : bits (lessSparseT ieee (λ c. 0) (λ c. word 0x7ff0000000000000) (λ r. word 0) (λ c. word 0x3ff0000000000000) 0) ≡ 0x7ff8000000000000
+unfolding bits
+sparse-back = refl
+
+-- A diagonal S takes a cell that is 0 now, and subtracts the others all the same: 5 - (1·1 + 0·0). A cell that was not loaded is left out, NaN or not.
+diagonal-zero-now :
+    bits (subtractDiagonal ieee (λ r c. true) (λ r c. word 0x4014000000000000) (λ r c. getD (word 0x3ff0000000000000 ∷ word 0 ∷ []) c (word 0)) 2 0 0) ≡ 0x4010000000000000
+unfolding bits
+diagonal-zero-now = refl
+
+diagonal-nan-now : bits (subtractDiagonal ieee (λ r c. eqb c 1) (λ r c. word 0x4014000000000000) (λ r c. getD (nan ∷ word 0x3ff0000000000000 ∷ []) c (word 0)) 2 0 0) ≡ 0x4010000000000000
+unfolding bits
+diagonal-nan-now = refl
 
 -- C(0) adds one by one, a later C sums its own first: 2^53 plus ln 2 twice
 first-logs : bits (logsOfFirst ieee (word 0x4340000000000000) (λ r. word 0x4000000000000000) 2) ≡ 0x4340000000000000

@@ -2,14 +2,18 @@
 use Prim.Native.Nat.{ℕ, _<_}
 use Prim.Native.String.{String}
 use mathlib.Core.Path.{_≡_, refl}
+use mathlib.Core.Bool.{true, false}
 use mathlib.Core.List.{List, [], _∷_, _++_}
 use borrow.Author.Tests.{lt-ltb}
 use lib.ListN.{length, take}
 use Rattle.sheet.specs.declared.Counts.{Counts}
 use Rattle.sheet.specs.declared.Reading.the-variants.{Sheet as Read, Refused}
 use Rattle.sheet.specs.declared.Starts.{Starts}
-use Rattle.sheet.specs.Sheet.{Sheet, accepted, refused, readSheet, sheetOf}
-use Rattle.sheet.proofs.Notation.{bytes, replaced, without, read, load, refusal, faulty}
+use Rattle.sheet.specs.Line.{inForm, sizeLine, blockLine, verdictOf}
+use Rattle.sheet.specs.Run.{blockVerdict}
+use Rattle.sheet.specs.Sheet.{Sheet, accepted, refused, countsWithin, readSheet, sheetOf}
+use Rattle.sheet.specs.Text.{ended, with-line, reading}
+use Rattle.sheet.proofs.Notation.{without, read, load, refusal, faulty}
 
 -- ---- the worked sheet
 abbrev worked : List String
@@ -43,7 +47,7 @@ words =
 abbrev places : Starts
 places = record { counts = counts; block = 15; zz = 25; zx = 49; zy = 73; xx = 95; xy = 119; yy = 141; end = 161; line = 9 }
 
-worked-bytes : bytes worked
+worked-bytes : ended worked
     ≡ 115 ∷ 105 ∷ 122 ∷ 101 ∷ 9 ∷ 51 ∷ 9 ∷ 49 ∷ 9 ∷ 49 ∷ 9 ∷ 49 ∷ 9 ∷ 49 ∷ 10
     ∷ 98 ∷ 108 ∷ 111 ∷ 99 ∷ 107 ∷ 9 ∷ 49 ∷ 9 ∷ 49 ∷ 10
     ∷ 122 ∷ 122 ∷ 9 ∷ 48 ∷ 9 ∷ 48 ∷ 9 ∷ 52 ∷ 48 ∷ 48 ∷ 56 ∷ 48 ∷ 48 ∷ 48 ∷ 48 ∷ 48 ∷ 48 ∷ 48 ∷ 48 ∷ 48 ∷ 48 ∷ 48 ∷ 48 ∷ 10
@@ -53,24 +57,24 @@ worked-bytes : bytes worked
     ∷ 120 ∷ 121 ∷ 9 ∷ 48 ∷ 9 ∷ 52 ∷ 48 ∷ 49 ∷ 56 ∷ 48 ∷ 48 ∷ 48 ∷ 48 ∷ 48 ∷ 48 ∷ 48 ∷ 48 ∷ 48 ∷ 48 ∷ 48 ∷ 48 ∷ 10
     ∷ 121 ∷ 121 ∷ 9 ∷ 52 ∷ 48 ∷ 50 ∷ 50 ∷ 48 ∷ 48 ∷ 48 ∷ 48 ∷ 48 ∷ 48 ∷ 48 ∷ 48 ∷ 48 ∷ 48 ∷ 48 ∷ 48 ∷ 10
     ∷ []
-unfolding bytes
+unfolding ended
 worked-bytes = refl
 
-worked-is : read (bytes worked) ≡ accepted words places
-unfolding bytes read
+worked-is : read (ended worked) ≡ accepted words places
+unfolding ended read
 worked-is = refl
 
-worked-loads : (load (bytes worked) ≡ Read places) × (refusal (bytes worked) ≡ 0)
-unfolding bytes load refusal
+worked-loads : (load (ended worked) ≡ Read places) × (refusal (ended worked) ≡ 0)
+unfolding ended load refusal
 worked-loads = (refl, refl)
 
 -- the theta part stands behind the yy line: it is left for the program `factor`, and is too much for load
-with-theta : read (bytes (worked ++ ("theta 0 3ff0000000000000" ∷ []))) ≡ accepted words places
-unfolding bytes read
+with-theta : read (ended (worked ++ ("theta 0 3ff0000000000000" ∷ []))) ≡ accepted words places
+unfolding ended read
 with-theta = refl
 
-theta-left-over : load (bytes (worked ++ ("theta 0 3ff0000000000000" ∷ []))) ≡ Refused 2 9
-unfolding bytes load
+theta-left-over : load (ended (worked ++ ("theta 0 3ff0000000000000" ∷ []))) ≡ Refused 2 9
+unfolding ended load
 theta-left-over = refl
 
 -- ---- 1: no line is looked at
@@ -90,7 +94,7 @@ no-rows =
     ∷ "yy 4022000000000000"
     ∷ []
 
-no-rows-is : read (bytes no-rows)
+no-rows-is : read (ended no-rows)
     ≡ accepted
     (record {
       counts = record { n = 3; p = 2; q = 0; k = 0; flag = 1 };
@@ -114,17 +118,17 @@ no-rows-is : read (bytes no-rows)
       end = 151;
       line = 8;
     })
-unfolding bytes read no-rows
+unfolding ended read no-rows
 no-rows-is = refl
 
 -- ---- 2: lines that are ill-formed, missing or out of sequence
 -- the worked sheet with another line in the place of line n
 abbrev but : ℕ → String → List ℕ
-but n l = bytes (replaced n l worked)
+but n l = ended (with-line n l worked)
 
 ill-formed : (load [] ≡ Refused 2 1)
-    × (load (take 160 (bytes worked)) ≡ Refused 2 8)
-    × (load (bytes (worked ++ ("" ∷ []))) ≡ Refused 2 9)
+    × (load (take 160 (ended worked)) ≡ Refused 2 8)
+    × (load (ended (worked ++ ("" ∷ []))) ≡ Refused 2 9)
     × (load (but 1 "size 3 01 1 1 1") ≡ Refused 2 1)
     × (load (but 1 "size 3 -1 1 1 1") ≡ Refused 2 1)
     × (load (but 1 "size 3 +1 1 1 1") ≡ Refused 2 1)
@@ -138,16 +142,16 @@ ill-formed : (load [] ≡ Refused 2 1)
     × (load (but 3 "zz 0 0 400800000000000F") ≡ Refused 2 3)
     × (load (but 3 "zz 0 0 400800000000000") ≡ Refused 2 3)
     × (load (but 3 "zz 0 0 40080000000000000") ≡ Refused 2 3)
-unfolding bytes load
+unfolding ended load
 ill-formed = (refl, refl, refl, refl, refl, refl, refl, refl, refl, refl, refl, refl, refl, refl, refl, refl)
 
 -- a line that is missing has the number of what stands in its place; an index that is prescribed is never out of range
-missing : (load (bytes (without 2 worked)) ≡ Refused 2 2)
-    × (load (bytes (without 5 worked)) ≡ Refused 2 5)
-    × (load (bytes (without 8 worked)) ≡ Refused 2 8)
+missing : (load (ended (without 2 worked)) ≡ Refused 2 2)
+    × (load (ended (without 5 worked)) ≡ Refused 2 5)
+    × (load (ended (without 8 worked)) ≡ Refused 2 8)
     × (load (but 4 "zx 9 0 4000000000000000") ≡ Refused 2 4)
     × (load (but 5 "zx 0 0 4000000000000000") ≡ Refused 2 5)
-unfolding bytes load
+unfolding ended load
 missing = (refl, refl, refl, refl, refl)
 
 -- ---- 3 and 4, and their order on a line
@@ -155,7 +159,7 @@ not-finite : (load (but 3 "zz 0 0 7ff0000000000000") ≡ Refused 3 3)
     × (load (but 5 "zy 0 fff0000000000000") ≡ Refused 3 5)
     × (load (but 8 "yy 7ff8000000000000") ≡ Refused 3 8)
     × (load (but 3 "zz 0 7 7ff0000000000000") ≡ Refused 3 3)
-unfolding bytes load
+unfolding ended load
 not-finite = (refl, refl, refl, refl)
 
 out-of-range : (load (but 1 "size 0 1 1 1 1") ≡ Refused 4 1)
@@ -166,13 +170,66 @@ out-of-range : (load (but 1 "size 0 1 1 1 1") ≡ Refused 4 1)
     × (load (but 1 "size 3 1 1 9 1") ≡ Refused 4 1)
     × (load (but 1 "size 3 1 1 1 2") ≡ Refused 4 1)
     × (load (but 1 "size 18446744073709551617 1 1 1 1") ≡ Refused 4 1)
-    × (load (but 2 "block 0 1") ≡ Refused 4 2)
-    × (load (but 2 "block 65536 1") ≡ Refused 4 2)
-    × (load (but 2 "block 1 17") ≡ Refused 4 2)
     × (load (but 3 "zz 0 1 4008000000000000") ≡ Refused 4 3)
     × (load (but 3 "zz 1 0 4008000000000000") ≡ Refused 4 3)
-unfolding bytes load
-out-of-range = (refl, refl, refl, refl, refl, refl, refl, refl, refl, refl, refl, refl, refl)
+unfolding ended load
+out-of-range = (refl, refl, refl, refl, refl, refl, refl, refl, refl, refl)
+
+-- ---- the ends of the ranges: both ends are within, and what is one past an end is not
+abbrev size : ℕ → ℕ → ℕ → ℕ → ℕ → Counts
+size n p q k flag = record { n = n; p = p; q = q; k = k; flag = flag }
+
+counts-at-ends : (countsWithin (size 1 1 0 0 0) ≡ true) × (countsWithin (size 1000000000 32 524280 8 1) ≡ true)
+counts-at-ends = (refl, refl)
+
+counts-past-ends : (countsWithin (size 0 1 0 0 0) ≡ false)
+    × (countsWithin (size 1000000001 32 524280 8 1) ≡ false)
+    × (countsWithin (size 1 0 0 0 0) ≡ false)
+    × (countsWithin (size 1000000000 33 524280 8 1) ≡ false)
+    × (countsWithin (size 1000000000 32 524281 8 1) ≡ false)
+    × (countsWithin (size 1000000000 32 524280 9 1) ≡ false)
+    × (countsWithin (size 1000000000 32 524280 8 2) ≡ false)
+counts-past-ends = (refl, refl, refl, refl, refl, refl, refl)
+
+-- the same as lines: what the verdict on a size line and on a block line is, alone in the bytes
+abbrev size-verdict : String → ℕ
+size-verdict l = let z = sizeLine (ended (l ∷ [])) 0 in verdictOf (inForm (z .next)) true (countsWithin (z .counts))
+
+abbrev block-verdict : String → ℕ
+block-verdict l = blockVerdict (0, 0) (blockLine (ended (l ∷ [])) 0)
+
+size-lines : (size-verdict "size 1 1 0 0 0" ≡ 0)
+    × (size-verdict "size 1000000000 32 524280 8 1" ≡ 0)
+    × (size-verdict "size 0 1 0 0 0" ≡ 4)
+    × (size-verdict "size 1000000001 32 524280 8 1" ≡ 4)
+    × (size-verdict "size 1 0 0 0 0" ≡ 4)
+    × (size-verdict "size 1000000000 33 524280 8 1" ≡ 4)
+    × (size-verdict "size 1000000000 32 524281 8 1" ≡ 4)
+    × (size-verdict "size 1000000000 32 524280 9 1" ≡ 4)
+    × (size-verdict "size 1000000000 32 524280 8 2" ≡ 4)
+unfolding ended reading
+size-lines = (refl, refl, refl, refl, refl, refl, refl, refl, refl)
+
+block-lines : (block-verdict "block 1 1" ≡ 0)
+    × (block-verdict "block 65535 1" ≡ 0)
+    × (block-verdict "block 1 16" ≡ 0)
+    × (block-verdict "block 65535 16" ≡ 0)
+    × (block-verdict "block 0 1" ≡ 4)
+    × (block-verdict "block 65536 1" ≡ 4)
+    × (block-verdict "block 1 0" ≡ 4)
+    × (block-verdict "block 1 17" ≡ 4)
+unfolding ended reading
+block-lines = (refl, refl, refl, refl, refl, refl, refl, refl)
+
+-- in a sheet: what is within the ranges comes to 5 to 9, what is not is refused on its line
+blocks-in-sheet : (refusal (but 2 "block 65535 1") ≡ 8)
+    × (refusal (but 2 "block 1 16") ≡ 7)
+    × (load (but 2 "block 0 1") ≡ Refused 4 2)
+    × (load (but 2 "block 65536 1") ≡ Refused 4 2)
+    × (load (but 2 "block 1 0") ≡ Refused 4 2)
+    × (load (but 2 "block 1 17") ≡ Refused 4 2)
+unfolding ended load refusal
+blocks-in-sheet = (refl, refl, refl, refl, refl, refl)
 
 -- ---- two blocks: rows 0 and 1, and row 2. Entry (0, 2) and its mirror, and three entries on the diagonal, which are their own mirrors.
 crossed : List String
@@ -197,45 +254,45 @@ crossed =
     ∷ []
 
 abbrev crossed-but : ℕ → String → List ℕ
-crossed-but n l = bytes (replaced n l crossed)
+crossed-but n l = ended (with-line n l crossed)
 
-crossed-is : (refusal (bytes crossed) ≡ 0) × (faulty (bytes crossed) ≡ [])
-unfolding bytes refusal faulty crossed
+crossed-is : (refusal (ended crossed) ≡ 0) × (faulty (ended crossed) ≡ [])
+unfolding ended refusal faulty crossed
 crossed-is = (refl, refl)
 
 -- zz lines rise, and none comes twice: 2, before 3 and 4
 rising : (load (crossed-but 6 "zz 0 1 3ff0000000000000") ≡ Refused 2 6)
     × (load (crossed-but 6 "zz 0 2 3ff0000000000000") ≡ Refused 2 6)
     × (load (crossed-but 7 "zz 0 9 7ff0000000000000") ≡ Refused 2 7)
-unfolding bytes load crossed
+unfolding ended load crossed
 rising = (refl, refl, refl)
 
 -- ---- 5 to 8, in their order
 whole-sheet : (refusal (crossed-but 1 "size 5 1 3 2 0") ≡ 5)
-    × (refusal (bytes (replaced 1 "size 3 2 0 0 0" no-rows)) ≡ 5)
-    × (refusal (bytes no-rows) ≡ 6)
+    × (refusal (ended (with-line 1 "size 3 2 0 0 0" no-rows)) ≡ 5)
+    × (refusal (ended no-rows) ≡ 6)
     × (refusal (crossed-but 2 "block 2 2") ≡ 7)
     × (refusal (crossed-but 2 "block 4 2") ≡ 7)
     × (refusal (crossed-but 2 "block 4 1") ≡ 8)
-unfolding bytes refusal crossed no-rows
+unfolding ended refusal crossed no-rows
 whole-sheet = (refl, refl, refl, refl, refl, refl)
 
 -- ---- 9: a word that is +0 or -0; entries off the diagonal, inside a block; mirrors that differ are two faulty lines, and one that is absent leaves one
 zero-words : (refusal (crossed-but 6 "zz 1 1 8000000000000000") ≡ 9)
     × (faulty (crossed-but 6 "zz 1 1 8000000000000000") ≡ 6 ∷ [])
     × (faulty (crossed-but 6 "zz 1 1 0000000000000000") ≡ 6 ∷ [])
-unfolding bytes refusal faulty crossed
+unfolding ended refusal faulty crossed
 zero-words = (refl, refl, refl)
 
 abbrev inside : List ℕ
-inside = bytes (replaced 5 "zz 0 1 4000000000000000" (replaced 6 "zz 1 0 4000000000000000" (replaced 7 "zz 1 1 3ff0000000000000" crossed)))
+inside = ended (with-line 5 "zz 0 1 4000000000000000" (with-line 6 "zz 1 0 4000000000000000" (with-line 7 "zz 1 1 3ff0000000000000" crossed)))
 
 inside-block : (refusal inside ≡ 9) × (faulty inside ≡ 5 ∷ 6 ∷ [])
-unfolding bytes refusal faulty crossed
+unfolding ended refusal faulty crossed
 inside-block = (refl, refl)
 
-no-mirror : (refusal (bytes (without 7 crossed)) ≡ 9)
-    × (faulty (bytes (without 7 crossed)) ≡ 5 ∷ [])
+no-mirror : (refusal (ended (without 7 crossed)) ≡ 9)
+    × (faulty (ended (without 7 crossed)) ≡ 5 ∷ [])
     × (faulty (crossed-but 7 "zz 2 0 4000000000000001") ≡ 5 ∷ 7 ∷ [])
-unfolding bytes refusal faulty crossed
+unfolding ended refusal faulty crossed
 no-mirror = (refl, refl, refl)

@@ -1,40 +1,23 @@
--- A short notation for the examples: a sheet as lines of text, and what the definitions make of it.
+-- A short notation for the examples: what the definitions make of a sheet given as lines of text (specs/Text.antt).
 use Prim.Native.Nat.{ℕ, _-_}
-use Prim.Native.Char.{code}
-use Prim.Native.String.{String, [] as ε, _∷_ as _then_}
+use Prim.Native.String.{String}
 use mathlib.Core.Bool.{Bool, cond}
 use mathlib.Core.List.{List, [], _∷_, _++_}
-use lib.ListN.{set, take, drop}
-use lib.Dec.{eqb}
+use lib.ListN.{take, drop}
 use Rattle.sheet.specs.declared.Reading.{Reading}
-use Rattle.sheet.specs.Field.{digitOf, digitsFrom, numberAt, endAt, wordAt, tagAt, isFinite, isZero}
-use Rattle.sheet.specs.Line.{tab, lf, sizeLine, blockLine, pairLine, singleLine, bareLine}
-use Rattle.sheet.specs.Run.{Entry, passOf, linesOf, rowFrom, rowsFrom, entriesFrom}
-use Rattle.sheet.specs.Sheet.{Outcome, accepted, refused, readLines, readSheet, sheetOf}
-use Rattle.sheet.specs.Fault.{anyOf, levelsOf, blockOf, isFault, anyFaulty, refusalOf}
+use Rattle.sheet.specs.Run.{Entry}
+use Rattle.sheet.specs.Sheet.{Outcome, accepted, refused, readSheet, sheetOf}
+use Rattle.sheet.specs.Fault.{isFault, refusalOf}
 use Rattle.sheet.specs.Answer.{readingOf}
+use Rattle.sheet.specs.Text.{reading}
 
--- the bytes of a text in which a blank stands for a tab, and _ for a blank
-unfoldable pub bytesOf : String → List ℕ
-bytesOf ε = []
-bytesOf (c then rest) = cond (eqb (code c) 32) tab (cond (eqb (code c) 95) 32 (code c)) ∷ bytesOf rest
-
--- the bytes of lines, each ended by one LF
-unfoldable pub bytes : List String → List ℕ
-unfolding bytesOf
-bytes [] = []
-bytes (l ∷ rest) = bytesOf l ++ (lf ∷ bytes rest)
-
--- another text for line n, counted from 1; and the lines without line n
-abbrev pub replaced : ℕ → String → List String → List String
-replaced n l lines = set lines (n - 1) l
-
+-- the lines without line n, counted from 1
 abbrev pub without : ℕ → List String → List String
 without n lines = take (n - 1) lines ++ drop n lines
 
 -- what is read, and what load is told of the lines
 unfoldable pub read : List ℕ → Outcome
-unfolding digitOf digitsFrom numberAt endAt wordAt tagAt isFinite sizeLine blockLine pairLine singleLine bareLine passOf linesOf rowFrom rowsFrom entriesFrom readLines readSheet
+unfolding reading
 read s = readSheet s
 
 unfoldable pub load : List ℕ → Reading
@@ -47,7 +30,7 @@ numberOf (accepted sheet starts) = refusalOf sheet
 numberOf (refused number line) = number
 
 unfoldable pub refusal : List ℕ → ℕ
-unfolding load isZero anyOf levelsOf blockOf anyFaulty refusalOf
+unfolding load
 refusal s = numberOf (sheetOf s)
 
 -- the numbers of its faulty lines
@@ -60,5 +43,5 @@ faultsOf (accepted sheet starts) = linesWith (isFault sheet) (sheet .zz)
 faultsOf (refused number line) = []
 
 unfoldable pub faulty : List ℕ → List ℕ
-unfolding load isZero anyOf blockOf linesWith
+unfolding load linesWith
 faulty s = faultsOf (sheetOf s)

@@ -12,7 +12,7 @@ abbrev pub answerOf : Reading → Refusal
 answerOf (Read starts) = noRefusal
 answerOf (Refused number line) = refusal number line 0
 
--- an outcome without the sheet's words, as a program answers it
+-- an outcome without the sheet's words, before 5 to 9 are looked for
 abbrev pub readingOf : Outcome → Reading
 readingOf (accepted sheet starts) = Read starts
 readingOf (refused number line) = Refused number line

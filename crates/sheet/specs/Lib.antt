@@ -5,3 +5,4 @@ pub mod Sheet
 pub mod Whole
 pub mod Fault
 pub mod Answer
+pub mod Text

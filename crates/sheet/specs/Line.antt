@@ -1,4 +1,4 @@
--- The lines of a sheet (document 01, Record 1): a tag and its fields, with one tab isBetween two of them and one LF at the end.
+-- The lines of a sheet (document 01, Record 1): a tag and its fields, with one tab between two of them and one LF at the end.
 use Prim.Native.Nat.{ℕ}
 use mathlib.Core.Bool.{Bool, not, cond}
 use mathlib.Core.List.{List, [], _∷_}

@@ -7,7 +7,7 @@ pub struct Field {
     pub next: usize,
 }
 
-// A line of any tag but size: its one or two numbers and its word, 0 for what that tag has not; and the position past it, as in a field.
+// A line of any tag but size: its numbers, two at most, and its word, 0 for what that tag has not; and the position past it, as in a field.
 pub struct Line {
     pub first: u64,
     pub second: u64,

@@ -1,60 +1,54 @@
 -- The calls on the worked sheet, with all that has to be unfolded to compute them.
-use Prim.Native.Nat.{ℕ}
-use mathlib.Core.Bool.{Bool, false}
+use Prim.Native.Nat.{ℕ, _-_}
+use mathlib.Core.Bool.{Bool, false, true}
 use mathlib.Core.List.{List, [], _∷_, _++_}
-use lib.ListN.{replicate, set}
+use lib.ListN.{length, replicate}
 use lib.Ieee as Ieee
 use lib.Ieee.{Float, binary64}
 use Rattle.order.specs.Steps.{Step, rustOrder}
-use Rattle.sheet.specs.declared.Reading.{Reading}
-use Rattle.sheet.specs.Field.{digitOf, digitsFrom, numberAt, endAt, wordAt, tagAt, isFinite}
-use Rattle.sheet.specs.Line.{sizeLine, blockLine, pairLine, singleLine, bareLine}
-use Rattle.sheet.specs.Run as Run
-use Rattle.sheet.specs.Sheet.{Outcome, accepted, refused, readLines, readSheet}
-use Rattle.sheet.specs.Answer.{readingOf}
+use Rattle.sheet.specs.Text.{ended, with-line, reading}
+use Rattle.sheet.specs.Sheet.{Outcome, accepted, refused, readSheet, Sheet}
+use Rattle.refusal.specs.declared.Refusal.{Refusal}
+use Rattle.refusal.specs.Numbers.{refusalOf}
+use Rattle.layout.specs.declared.Pair.{Pair}
+use Rattle.layout.specs.Gate.{pairOf}
 use Rattle.workspace.specs.Answers.{Outcome as Call}
 use Rattle.workspace.specs.Load as Load
 use Rattle.workspace.specs.Load.{loadOf}
 use Rattle.workspace.specs.Compute.{words}
 use Rattle.update.specs.Compute.{steps}
-use Rattle.update.specs.Calls.{beginOf, runOf}
+use Rattle.update.specs.Calls.{beginOf, runOf, begun, stepped}
 use Rattle.profile.specs.declared.Deviance.{Deviance}
 use Rattle.profile.specs.declared.Solve.{Solve}
 use Rattle.profile.specs.declared.Solve.the-variants.{Solved, Refused}
 use Rattle.profile.specs.Deviance.{profileOf, logDeterminant}
-use Rattle.profile.specs.Finish.{Solving, solveOf}
+use Rattle.profile.specs.Finish.{Solving, solveOf, resultList}
 use Rattle.factor.specs.Program as Program
-use Rattle.factor.specs.Program.{printOf}
-use Rattle.starred.specs.Text.{linesOf}
-use Rattle.starred.specs.Table.{sheetLines, thetaLines, outputLines, oneReadingLine}
+use Rattle.factor.specs.Worked.{sheetLines, thetaLines, outputLines}
+use Rattle.factor.specs.Compute.{readingHere}
+use Rattle.starred.specs.Table.{oneReadingLine, oneWord, CountCase, GateCase, StepCase}
+use Rattle.layout.specs.declared.Layout.{Layout}
+use Rattle.workspace.specs.Memory.{Workspace}
+use Rattle.workspace.specs.Loaded.{withStorage, layoutOfSheet}
 
 unfoldable pub sheetBytes : List ℕ
-unfolding linesOf
-sheetBytes = linesOf sheetLines
+unfolding ended
+sheetBytes = ended sheetLines
 
 -- the sheet with n = p = 1
 unfoldable pub oneReadingBytes : List ℕ
-unfolding linesOf
-oneReadingBytes = linesOf (set sheetLines 0 oneReadingLine)
+unfolding ended
+oneReadingBytes = ended (with-line 1 oneReadingLine sheetLines)
 
 unfoldable pub inputBytes : List ℕ
-unfolding linesOf
-inputBytes = linesOf (sheetLines ++ thetaLines)
+unfolding ended
+inputBytes = ended (sheetLines ++ thetaLines)
 
 unfoldable pub outputBytes : List ℕ
-unfolding linesOf
-outputBytes = linesOf outputLines
+unfolding ended
+outputBytes = ended outputLines
 
-unfoldable pub readingHere : List ℕ → Reading
-unfolding digitOf digitsFrom numberAt endAt wordAt tagAt isFinite sizeLine blockLine pairLine singleLine bareLine Run.passOf Run.linesOf Run.rowFrom Run.rowsFrom Run.entriesFrom readLines readSheet
-readingHere s = readingOf (readSheet s)
-
--- what `factor` prints
-unfoldable pub printed : List ℕ → List ℕ
-unfolding steps readingHere printOf
-printed s = printOf s (readingHere s)
-
--- a sheet in a fresh workspace, which has room for the worked sheet's 14 doubles
+-- a sheet without a refusal 1 to 9, loaded into a workspace that has room for the worked sheet's 14 doubles
 unfoldable pub loaded : List ℕ → Call
 unfolding steps readingHere loadOf
 loaded s = loadOf s (readingHere s) (replicate 128 0) (replicate 14 (Ieee.ofBits binary64 0))
@@ -92,7 +86,7 @@ sigma2Bits (Refused r) = 0
 
 -- ---- sheets of several blocks, in a workspace of 200 doubles
 unfoldable pub thetaIn : List ℕ → Outcome → List Float
-unfolding singleLine Run.linesOf Run.rowsFrom Run.passOf
+unfolding reading
 thetaIn s (accepted sheet starts) = Program.thetaLines s (sheet .counts .k) (record { at = starts .end; line = starts .line; number = 0 }) .items
 thetaIn s (refused number line) = []
 
@@ -109,3 +103,49 @@ solutionBits s k n =
     let b = beginOf (w .heading) (w .doubles) (thetaIn s o) .left in
     let v = runOf b (rustOrder k) .left in
     words (solveOf (v .heading) (v .doubles) false (replicate n (Ieee.ofBits binary64 0)) .result)
+
+-- ---- a pair too small to be stored sparse, worked by the rules for a sparse one: no heading is tested
+unfoldable pub stepsUntested : Workspace → List Step → Workspace
+unfolding steps stepped
+stepsUntested v [] = v
+stepsUntested v (s ∷ l) = stepsUntested (stepped (v .heading) (v .doubles) s) l
+
+abbrev pub storedSparse : Sheet → Layout
+storedSparse sheet = withStorage (layoutOfSheet sheet) true true
+
+unfoldable pub sparseBits : List ℕ → Outcome → List ℕ
+unfolding thetaIn Load.headingOf Load.doublesOf layoutOfSheet begun stepsUntested rustOrder resultList words
+sparseBits s (accepted sheet starts) =
+    let h = Load.headingOf sheet (storedSparse sheet) in
+    let v = stepsUntested (begun h (Load.doublesOf sheet (storedSparse sheet)) (thetaIn s (accepted sheet starts))) (rustOrder 2) in
+    words (resultList (v .heading) (v .doubles))
+sparseBits s (refused number line) = []
+
+-- ---- the rows of the table
+unfoldable pub stepCounts : List CountCase → List ℕ
+unfolding rustOrder
+stepCounts [] = []
+stepCounts (c ∷ l) = length (rustOrder (c .blocks - 1)) ∷ stepCounts l
+
+unfoldable pub gateVerdicts : List GateCase → List Pair
+unfolding steps pairOf
+gateVerdicts [] = []
+gateVerdicts (g ∷ l) = pairOf (g .k) (g .rows) (g .cols) (g .oneEach) (g .entries) ∷ gateVerdicts l
+
+unfoldable pub stepRefusals : List StepCase → List Refusal
+unfolding stepsDone
+stepRefusals [] = []
+stepRefusals (c ∷ l) = refusalOf (stepsDone sheetBytes oneWord (c .steps) .answer) ∷ stepRefusals l
+
+-- one column of each
+abbrev pub countsSaid : List CountCase → List ℕ
+countsSaid [] = []
+countsSaid (c ∷ l) = c .steps ∷ countsSaid l
+
+abbrev pub verdictsSaid : List GateCase → List Pair
+verdictsSaid [] = []
+verdictsSaid (g ∷ l) = g .verdict ∷ verdictsSaid l
+
+abbrev pub refusalsSaid : List StepCase → List Refusal
+refusalsSaid [] = []
+refusalsSaid (c ∷ l) = c .refusal ∷ refusalsSaid l

@@ -1,4 +1,4 @@
-pub mod Text
 pub mod Table
 pub mod Sheets
 pub mod Evaluate
+pub mod Starred

@@ -1,18 +1,19 @@
 -- Begin and the steps by computation, on a workspace of two blocks whose sorted order is not the sheet's: block 0 of the sheet has one level, block 1 two.
 -- Every loaded number is 1, and theta is 2, 3.
+use Prim.Native.Nat.{ℕ, _+_}
 use mathlib.Core.Path.{_≡_, refl}
-use mathlib.Core.Bool.{false}
+use mathlib.Core.Bool.{false, true}
 use mathlib.Core.List.{List, [], _∷_, _++_}
-use lib.ListN.{replicate}
+use lib.ListN.{replicate, drop}
 use lib.Ieee.{Float, nan}
-use Rattle.order.specs.Steps.{Step, C, T, rustOrder}
+use Rattle.order.specs.Steps.{Step, C, T, rustOrder, S}
 use Rattle.layout.specs.declared.Layout.{Layout}
 use Rattle.refusal.specs.declared.Answer.the-variants.{Accepted}
 use Rattle.layout.specs.declared.State.the-variants.{Idle}
 use Rattle.layout.specs.Shapes as Shapes
-use Rattle.layout.specs.Heading.{written, progressOf, progressNumbers}
+use Rattle.layout.specs.Heading.{written, progressOf, progressNumbers, idle}
 use Rattle.workspace.specs.Compute.{leaves, word, words}
-use Rattle.workspace.specs.Memory.{Workspace, idle, workingBlock}
+use Rattle.workspace.specs.Memory.{Workspace, workingBlock}
 use Rattle.refusal.specs.Numbers.{refusalOf}
 use Rattle.workspace.specs.Answers.{Outcome, space}
 use Rattle.update.specs.Compute.{steps}
@@ -106,6 +107,65 @@ refused-none : progressOf (done (rustOrder 2) .left .heading) .state ≡ Idle
 unfolding done rustOrder
 refused-none = refl
 
-refused-clears : words (workingBlock (done (rustOrder 2) .left .heading) (done (rustOrder 2) .left .doubles) 0 0) ≡ 0 ∷ 0 ∷ []
-unfolding done rustOrder words
+refused-clears : words (drop 14 (done (rustOrder 2) .left .doubles)) ≡ replicate 17 0
+unfolding done words
 refused-clears = refl
+
+-- C(0) writes no other block: the cross cells are still 6
+others-stay : words (workingBlock (done (C 0 ∷ []) .left .heading) (done (C 0 ∷ []) .left .doubles) 1 0) ≡ 0x4018000000000000 ∷ 0x4018000000000000 ∷ []
+unfolding done words
+others-stay = refl
+
+-- ---- the slip of `rank_sub_diagonal`, which skips a diagonal S for all rows: block 1 a diagonal, its cells chosen by the loaded numbers
+abbrev diagonal : ℕ → Layout
+diagonal m =
+    record { n = 3; p = 1; q = 2 + m; k = 2; m = 2 ∷ m ∷ replicate 6 0; order = 0 ∷ 1 ∷ replicate 6 0; sparse = false; diagonal = true }
+
+unfoldable after : ℕ → List Float → List Float → List Step → Outcome
+unfolding steps written progressNumbers beginOf runOf
+after m loaded theta l = runOf (beginOf (written (diagonal m) (idle 2)) (loaded ++ replicate 30 nan) theta .left) l
+
+-- Pair 2^1000, 2^-100, theta 2^-500 twice: the second cell underflows to 0 when it is scaled. Block 1 is 5, and 5 - 1 after S(1,1,0).
+underflow :
+    words
+    (workingBlock (written (diagonal 1) (idle 2))
+    (after 1
+    (word 0 ∷ word 0 ∷ word 0x7e90000000000000 ∷ word 0x7e70000000000000 ∷ word 0x39b0000000000000 ∷ replicate 9 one)
+    (word 0x20b0000000000000 ∷ word 0x20b0000000000000 ∷ [])
+    (C 0 ∷ T 1 0 ∷ S 1 1 0 ∷ [])
+    .left
+    .doubles)
+    1 1)
+    ≡ 0x4010000000000000 ∷ []
+unfolding after words
+underflow = refl
+
+-- The same where the second cell underflows in the division of T(1,0): 2^-600 by a root of about 2^500.
+underflow-divided :
+    words
+    (workingBlock (written (diagonal 1) (idle 2))
+    (after 1
+    (word 0 ∷ word 0x7e70000000000000 ∷ word 0x4010000000000000 ∷ one ∷ word 0x1a70000000000000 ∷ replicate 9 one)
+    (one ∷ one ∷ [])
+    (C 0 ∷ T 1 0 ∷ S 1 1 0 ∷ [])
+    .left
+    .doubles)
+    1 1)
+    ≡ 0x4010000000000000 ∷ []
+unfolding after words
+underflow-divided = refl
+
+-- A NaN pivot fills column 0 of a pair with one entry in each row: the row that was loaded in that column becomes NaN, the other keeps 2.
+nan-column :
+    words
+    (workingBlock (written (diagonal 2) (idle 2))
+    (after 2
+    (word 0 ∷ one ∷ one ∷ one ∷ one ∷ word 0 ∷ word 0 ∷ one ∷ replicate 11 one)
+    (word 0x6570000000000000 ∷ one ∷ [])
+    (C 0 ∷ T 1 0 ∷ S 1 1 0 ∷ [])
+    .left
+    .doubles)
+    1 1)
+    ≡ 0x7ff8000000000000 ∷ 0x4000000000000000 ∷ []
+unfolding after words
+nan-column = refl

@@ -18,16 +18,12 @@ use Rattle.refusal.specs.declared.Answer.{Answer}
 use Rattle.refusal.specs.declared.Answer.the-variants.{Accepted, Refused}
 use Rattle.refusal.specs.Numbers.{refuse}
 use Rattle.layout.specs.Shapes.{Target, pick, targets, thetaAt, workingAt, sumAt}
-use Rattle.layout.specs.Heading.{layoutOf, progressOf, stageOf, entryRow, headed}
-use Rattle.workspace.specs.Memory.{Workspace, loadedBlock, workingBlock, loadedSome, logSum, headingWith, idle, cleared}
+use Rattle.layout.specs.Heading.{layoutOf, progressOf, stageOf, entryRow, headed, idle, underWay}
+use Rattle.workspace.specs.Memory.{Workspace, loadedBlock, workingBlock, loadedSome, logSum, headingWith, cleared}
 use Rattle.workspace.specs.Answers.{Outcome, space, untouched, firstInfinite, unlessAt}
 use Rattle.update.specs.Working.{rulesOf, started}
 
 -- ---- progress
--- an update just begun: every step is left
-abbrev pub underWay : ℕ → Progress
-underWay k = record { state = UnderWay; left = length (rustOrder k); stages = replicate 45 0 }
-
 -- one step more
 abbrev pub advanced : Progress → Step → Progress
 advanced g s =

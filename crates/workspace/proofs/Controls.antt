@@ -1,5 +1,5 @@
 -- Load and `replace_response` by computation, on a sheet of two blocks whose sorted order is not the sheet's: block 0 has one level, block 1 two.
--- Its words are 1 to 14, so that each shows where it is put.
+-- Its words are 1 to 14, so that each shows where it is put; the last diagonal entry, 5, is absent.
 use Prim.Native.Nat.{ℕ}
 use mathlib.Core.Path.{_≡_, refl}
 use mathlib.Core.Bool.{true}
@@ -8,12 +8,14 @@ use lib.ListN.{replicate, set, take, drop}
 use lib.Ieee.{Float, nan, inf}
 use Rattle.refusal.specs.declared.Answer.the-variants.{Accepted}
 use Rattle.refusal.specs.Numbers.{refusal, refusalOf, refuse}
+use Rattle.storage.specs.Runs.{tab}
 use Rattle.sheet.specs.Run.{Entry}
 use Rattle.sheet.specs.Sheet.{Sheet}
-use Rattle.layout.specs.declared.State.the-variants.{Idle}
-use Rattle.layout.specs.Heading.{progressOf}
+use Rattle.layout.specs.Blocks.{sum}
+use Rattle.layout.specs.Heading.{sheetLevels, progressOf}
 use Rattle.workspace.specs.Compute.{leaves, word, words}
-use Rattle.workspace.specs.Answers.{Outcome}
+use Rattle.workspace.specs.Answers.{Outcome, untouched}
+use Rattle.workspace.specs.Loaded.{layoutOfSheet, entryRowIn, rowOf}
 use Rattle.workspace.specs.Load.{loadSheet}
 use Rattle.workspace.specs.Response.{replaceOf}
 
@@ -25,7 +27,7 @@ sheet =
     record {
       counts = record { n = 5; p = 1; q = 3; k = 2; flag = 1 };
       blocks = record { m = 1; e = 1 } ∷ record { m = 2; e = 1 } ∷ [];
-      zz = at 0 0 1 ∷ at 0 1 2 ∷ at 0 2 3 ∷ at 1 0 2 ∷ at 1 1 4 ∷ at 2 0 3 ∷ at 2 2 5 ∷ [];
+      zz = at 0 0 1 ∷ at 0 1 2 ∷ at 0 2 3 ∷ at 1 0 2 ∷ at 1 1 4 ∷ at 2 0 3 ∷ [];
       zx = 6 ∷ 7 ∷ 8 ∷ [];
       zy = 9 ∷ 10 ∷ 11 ∷ [];
       xx = 12 ∷ [];
@@ -38,10 +40,10 @@ unfoldable loaded : ℕ → Outcome
 unfolding leaves loadSheet words
 loaded room = loadSheet sheet (replicate 129 7) (replicate room (word 99))
 
--- diagonals 4 5 and 1; the pair by columns; Z'X over Z'y, column by column, of block 1 and then of block 0; the triangle; then +0.0; the rest stays
+-- diagonals 4, absent and 1; the pair by columns; Z'X over Z'y, column by column, of block 1 and then of block 0; the triangle; then +0.0; the rest stays
 load-writes :
     words (loaded 33 .left .doubles)
-    ≡ 4 ∷ 5 ∷ 1 ∷ 2 ∷ 3 ∷ 7 ∷ 10 ∷ 8 ∷ 11 ∷ 6 ∷ 9 ∷ 12 ∷ 13 ∷ 14 ∷ (replicate 17 0 ++ (99 ∷ 99 ∷ []))
+    ≡ 4 ∷ 0 ∷ 1 ∷ 2 ∷ 3 ∷ 7 ∷ 10 ∷ 8 ∷ 11 ∷ 6 ∷ 9 ∷ 12 ∷ 13 ∷ 14 ∷ (replicate 17 0 ++ (99 ∷ 99 ∷ []))
 unfolding loaded
 load-writes = refl
 
@@ -65,33 +67,99 @@ too-short : loaded 30 ≡ record { answer = refuse 12 0 0; left = record { headi
 unfolding loaded
 too-short = refl
 
--- ---- a response: Z'y by sheet rows, X'y, y'y
-unfoldable replaced : List Float → List Float → Float → Outcome
+-- a heading of 127 numbers is too short as well
+short-heading : loadSheet sheet (replicate 127 7) (replicate 31 (word 99)) ≡ untouched (replicate 127 7) (replicate 31 (word 99)) 12 0 0
+unfolding loaded
+short-heading = refl
+
+-- ---- a response: Z'y by sheet rows, X'y, y'y, on a workspace whose working doubles are 99
+unfoldable replaced : List Float → List Float → List Float → Outcome
 unfolding loaded replaceOf
-replaced zy xy yy = let v = loaded 33 .left in replaceOf (v .heading) (v .doubles) zy xy yy
+replaced zy xy yy = let v = loaded 33 .left in replaceOf (v .heading) (take 14 (v .doubles) ++ replicate 19 (word 99)) zy xy yy
 
 response-writes :
-    words (replaced (word 20 ∷ word 21 ∷ word 22 ∷ []) (word 23 ∷ []) (word 24) .left .doubles)
-    ≡ 4 ∷ 5 ∷ 1 ∷ 2 ∷ 3 ∷ 7 ∷ 21 ∷ 8 ∷ 22 ∷ 6 ∷ 20 ∷ 12 ∷ 23 ∷ 24 ∷ (replicate 17 0 ++ (99 ∷ 99 ∷ []))
+    words (replaced (word 20 ∷ word 21 ∷ word 22 ∷ []) (word 23 ∷ []) (word 24 ∷ []) .left .doubles)
+    ≡ 4 ∷ 0 ∷ 1 ∷ 2 ∷ 3 ∷ 7 ∷ 21 ∷ 8 ∷ 22 ∷ 6 ∷ 20 ∷ 12 ∷ 23 ∷ 24 ∷ replicate 19 99
 unfolding replaced
 response-writes = refl
 
 -- every length before any word, and the place of a word
-lengths-first : refusalOf (replaced (word 20 ∷ nan ∷ word 22 ∷ []) [] nan .answer) ≡ refusal 13 1 0
+lengths-first : refusalOf (replaced (word 20 ∷ nan ∷ word 22 ∷ []) [] (nan ∷ []) .answer) ≡ refusal 13 1 0
 unfolding replaced
 lengths-first = refl
 
-second-word : refusalOf (replaced (word 20 ∷ nan ∷ word 22 ∷ []) (nan ∷ []) nan .answer) ≡ refusal 14 0 1
+last-length : refusalOf (replaced (word 20 ∷ nan ∷ word 22 ∷ []) (nan ∷ []) [] .answer) ≡ refusal 13 2 0
+unfolding replaced
+last-length = refl
+
+second-word : refusalOf (replaced (word 20 ∷ nan ∷ word 22 ∷ []) (nan ∷ []) (nan ∷ []) .answer) ≡ refusal 14 0 1
 unfolding replaced
 second-word = refl
 
-third-list : refusalOf (replaced (word 20 ∷ word 21 ∷ word 22 ∷ []) (word 23 ∷ []) (inf true) .answer) ≡ refusal 14 2 0
+third-list : refusalOf (replaced (word 20 ∷ word 21 ∷ word 22 ∷ []) (word 23 ∷ []) (inf true ∷ []) .answer) ≡ refusal 14 2 0
 unfolding replaced
 third-list = refl
 
--- an update that is under way ends
+-- An update that is under way ends, and so does a finished one: state 2, no step left, each target at its last stage.
 ends-update :
-    progressOf (replaceOf (set (loaded 33 .left .heading) 22 1) (loaded 33 .left .doubles) (word 20 ∷ word 21 ∷ word 22 ∷ []) (word 23 ∷ []) (word 24) .left .heading) .state
-    ≡ Idle
+    take 69 (replaceOf (set (loaded 33 .left .heading) 22 1) (loaded 33 .left .doubles) (word 20 ∷ word 21 ∷ word 22 ∷ []) (word 23 ∷ []) (word 24 ∷ []) .left .heading)
+    ≡ take 69 (loaded 33 .left .heading)
 unfolding loaded replaceOf
 ends-update = refl
+
+abbrev finished : List ℕ
+finished = take 22 (loaded 33 .left .heading) ++ (2 ∷ 0 ∷ 1 ∷ 1 ∷ 2 ∷ 1 ∷ 2 ∷ 3 ∷ replicate 98 0)
+
+ends-finished :
+    replaceOf finished (loaded 33 .left .doubles) (word 20 ∷ word 21 ∷ word 22 ∷ []) (word 23 ∷ []) (word 24 ∷ []) .left .heading
+    ≡ take 128 (loaded 33 .left .heading)
+unfolding loaded replaceOf
+ends-finished = refl
+
+-- a heading against Record 5, here steps left one too many, is 20 before any list is looked at, and all stays
+heading-first :
+    replaceOf (set (loaded 33 .left .heading) 23 11) (loaded 33 .left .doubles) [] [] []
+    ≡ untouched (set (loaded 33 .left .heading) 23 11) (loaded 33 .left .doubles) 20 0 0
+unfolding loaded replaceOf
+heading-first = refl
+
+-- ---- the gate: three blocks of 400, 400 and 1 levels are refused with 10, pair (1,0), though the workspace is too short as well
+abbrev wide : Sheet
+wide =
+    record {
+      counts = record { n = 5; p = 1; q = 801; k = 3; flag = 1 };
+      blocks = record { m = 1; e = 1 } ∷ record { m = 400; e = 1 } ∷ record { m = 400; e = 1 } ∷ [];
+      zz = [];
+      zx = [];
+      zy = [];
+      xx = 12 ∷ [];
+      xy = 13 ∷ [];
+      yy = 14;
+    }
+
+pair-refused : loadSheet wide [] [] ≡ untouched [] [] 10 1 0
+unfolding leaves loadSheet
+pair-refused = refl
+
+-- and two of 400 levels without an entry with 11
+pair-full : loadSheet (record { counts = record { n = 5; p = 1; q = 800; k = 2; flag = 1 }; blocks = record { m = 400; e = 1 } ∷ record { m = 400; e = 1 } ∷ []; zz = []; zx = []; zy = []; xx = 12 ∷ []; xy = 13 ∷ []; yy = 14 }) [] [] ≡ untouched [] [] 11 1 0
+unfolding leaves loadSheet
+pair-full = refl
+
+-- the row, in block 1, of the entry of each column: here block 1 starts at row 2 of the sheet
+abbrev turned : Sheet
+turned =
+    record {
+      counts = record { n = 5; p = 1; q = 4; k = 2; flag = 1 };
+      blocks = record { m = 2; e = 1 } ∷ record { m = 2; e = 1 } ∷ [];
+      zz = at 0 3 1 ∷ at 1 2 1 ∷ at 2 1 1 ∷ at 3 0 1 ∷ [];
+      zx = [];
+      zy = [];
+      xx = 12 ∷ [];
+      xy = 13 ∷ [];
+      yy = 14;
+    }
+
+entry-rows : tab 2 (entryRowIn turned (layoutOfSheet turned)) ≡ 1 ∷ 0 ∷ []
+unfolding leaves layoutOfSheet rowOf sum sheetLevels
+entry-rows = refl

@@ -18,14 +18,15 @@ use Rattle.layout.specs.declared.Layout.{Layout}
 use Rattle.refusal.specs.declared.Refusal.{Refusal}
 use Rattle.refusal.specs.declared.Answer.the-variants.{Refused}
 use Rattle.layout.specs.Shapes.{pick, levels, pairs, numbersNeeded, doublesNeeded}
-use Rattle.layout.specs.Heading.{written}
-use Rattle.workspace.specs.Memory.{idle, noughts}
+use Rattle.layout.specs.Blocks.{sum}
+use Rattle.layout.specs.Heading.{written, idle, sheetLevels}
+use Rattle.workspace.specs.Memory.{noughts}
 use Rattle.workspace.specs.Answers.{Outcome, accept, untouched, space}
-use Rattle.workspace.specs.Loaded.{firstDenied, layoutOfSheet, entryRowIn, loadedNumbers}
+use Rattle.workspace.specs.Loaded.{rowOf, firstDenied, layoutOfSheet, entryRowIn, loadedNumbers}
 
 -- the heading of a sheet just loaded: progress none, and the rows of a sparse pair's entries
 unfoldable pub headingOf : Sheet → Layout → List ℕ
-unfolding written tab
+unfolding written tab rowOf sum sheetLevels
 headingOf sheet y = written y (idle (y .k)) ++ pick (y .sparse) (tab (levels y 0) (entryRowIn sheet y)) []
 
 -- the doubles: the loaded numbers, and every working double +0.0

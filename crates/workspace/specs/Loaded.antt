@@ -21,10 +21,11 @@ use Rattle.layout.specs.Shapes.{Target, pick, levels, loadedShape, targets}
 use Rattle.layout.specs.Heading.{every, isSparse, sheetLevels}
 
 -- ---- rows keep sheet order: block 0 of the sheet has the first m rows, block 1 the next
--- the row of level c of sorted block j
+-- the first row of sorted block j
 abbrev pub rowStart : Layout → ℕ → ℕ
 rowStart y j = sum (sheetLevels y (y .k)) (getD (y .order) j 0)
 
+-- the row of its level c
 abbrev pub sheetRow : Layout → ℕ → ℕ → ℕ
 sheetRow y j c = rowStart y j + c
 
@@ -46,7 +47,7 @@ unfoldable pub rowOf : (Entry → Bool) → List Entry → ℕ
 rowOf test [] = 0
 rowOf test (e ∷ l) = let rest = rowOf test l in cond (test e) (e .row) rest
 
-module _ (sheet : Sheet) (y : Layout) where
+module _ (y : Layout) where
   -- an entry of pair (i, j): its column is a level of block j, the larger one, its row a level of block i
   abbrev pub ofPair : ℕ → ℕ → Entry → Bool
   ofPair i j e = inBlock y j (e .col) && inBlock y i (e .row)
@@ -55,14 +56,15 @@ module _ (sheet : Sheet) (y : Layout) where
   abbrev pub ofColumn : ℕ → ℕ → ℕ → Entry → Bool
   ofColumn i j c e = eqb (e .col) (sheetRow y j c) && inBlock y i (e .row)
 
+module _ (sheet : Sheet) (y : Layout) where
   -- each column has exactly one entry
   abbrev pub oneEach : ℕ → ℕ → Bool
-  oneEach i j = every (λ c. eqb (countOf (ofColumn i j c) (sheet .zz)) 1) (levels y j)
+  oneEach i j = every (λ c. eqb (countOf (ofColumn y i j c) (sheet .zz)) 1) (levels y j)
 
   -- what the gate says of pair (i, j)
   unfoldable pub pairIn : ℕ → ℕ → Pair
   unfolding countOf every pairOf
-  pairIn i j = pairOf (y .k) (levels y i) (levels y j) (oneEach i j) (countOf (ofPair i j) (sheet .zz))
+  pairIn i j = pairOf (y .k) (levels y i) (levels y j) (oneEach i j) (countOf (ofPair y i j) (sheet .zz))
 
 -- the first pair that the gate refuses, pairs in turn: 10 or 11, j, jj
 abbrev pub denied : Pair → Target → Option Refusal → Option Refusal
@@ -113,7 +115,7 @@ layoutOfSheet sheet =
 
 -- the row, in block 1, of sparse column c's entry
 abbrev pub entryRowIn : Sheet → Layout → ℕ → ℕ
-entryRowIn sheet y c = rowOf (ofColumn sheet y 1 0 c) (sheet .zz) - rowStart y 1
+entryRowIn sheet y c = rowOf (ofColumn y 1 0 c) (sheet .zz) - rowStart y 1
 
 -- ---- the loaded numbers
 abbrev pub double : ℕ → Float

@@ -2,15 +2,13 @@
 use Prim.Native.Nat.{ℕ, zero, suc, _+_, _-_}
 use mathlib.Core.Bool.{Bool, not, _&&_}
 use mathlib.Core.List.{List}
-use lib.ListN.{length, getD, replicate}
+use lib.ListN.{getD, replicate}
 use lib.Ieee.{Float}
 use Rattle.storage.specs.Shape.{Shape, sizeOf, hasCell, cell}
 use Rattle.storage.specs.Part.{part, store}
-use Rattle.order.specs.Steps.{rustOrder}
 use Rattle.rules.specs.Arithmetic.{ieee}
 use Rattle.layout.specs.declared.Layout.{Layout}
 use Rattle.layout.specs.declared.Progress.{Progress}
-use Rattle.layout.specs.declared.State.the-variants.{Idle}
 use Rattle.layout.specs.Shapes.{shape, loadedShape, loadedAt, thetaAt, workingAt, sumAt}
 use Rattle.layout.specs.Heading.{progressNumbers, layoutOf, entryRow}
 
@@ -49,10 +47,6 @@ module _ (h : List ℕ) (w : List Float) where
 -- the heading with a new progress, and nothing else new
 abbrev pub headingWith : List ℕ → Progress → List ℕ
 headingWith h g = store 22 (progressNumbers g) h
-
--- progress none: nothing is done, every step is left
-abbrev pub idle : ℕ → Progress
-idle k = record { state = Idle; left = length (rustOrder k); stages = replicate 45 0 }
 
 -- the working doubles all +0.0: theta, the blocks and the sum
 unfoldable pub noughts : Layout → List Float

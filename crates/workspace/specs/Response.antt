@@ -10,8 +10,8 @@ use Rattle.storage.specs.Part.{store}
 use Rattle.rules.specs.Arithmetic.{ieee}
 use Rattle.layout.specs.declared.Layout.{Layout}
 use Rattle.layout.specs.Shapes.{Target, target, pick, across, loadedShape, loadedAt}
-use Rattle.layout.specs.Heading.{layoutOf, entryRow, headed}
-use Rattle.workspace.specs.Memory.{cellOf, loadedBlock, headingWith, idle}
+use Rattle.layout.specs.Heading.{layoutOf, entryRow, headed, idle}
+use Rattle.workspace.specs.Memory.{cellOf, loadedBlock, headingWith}
 use Rattle.workspace.specs.Answers.{Outcome, accept, untouched, firstInfinite, unlessAt}
 use Rattle.workspace.specs.Loaded.{sheetRow}
 
@@ -41,16 +41,18 @@ responded h w zy xy yy =
     let k = layoutOf h .k in
     accept (headingWith h (idle k)) (storeResponse h w zy xy yy (across k k ++ (target k k ∷ [])) w)
 
--- 20; 13, every length first; 14. Lists: 0 is Z'y, 1 is X'y, 2 is y'y, one number.
-unfoldable pub replaceOf : List ℕ → List Float → List Float → List Float → Float → Outcome
+-- 20; 13, every length first; 14. Lists: 0 is Z'y, 1 is X'y, 2 is y'y, of one number.
+unfoldable pub replaceOf : List ℕ → List Float → List Float → List Float → List Float → Outcome
 unfolding headed firstInfinite responded
 replaceOf h w zy xy yy =
     pick (headed h (length w))
     (pick (eqb (length zy) (layoutOf h .q))
     (pick (eqb (length xy) (layoutOf h .p))
+    (pick (eqb (length yy) 1)
     (unlessAt (firstInfinite 0 zy) (λ i. untouched h w 14 0 i)
     (unlessAt (firstInfinite 0 xy) (λ i. untouched h w 14 1 i)
-    (unlessAt (firstInfinite 0 (yy ∷ [])) (λ i. untouched h w 14 2 i) (responded h w zy xy yy))))
+    (unlessAt (firstInfinite 0 yy) (λ i. untouched h w 14 2 i) (responded h w zy xy (getD yy 0 (ieee .zero))))))
+    (untouched h w 13 2 0))
     (untouched h w 13 1 0))
     (untouched h w 13 0 0))
     (untouched h w 20 0 0)
