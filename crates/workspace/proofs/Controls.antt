@@ -12,8 +12,9 @@ use Rattle.storage.specs.Runs.{tab}
 use Rattle.sheet.specs.Run.{Entry}
 use Rattle.sheet.specs.Sheet.{Sheet}
 use Rattle.layout.specs.Blocks.{sum}
-use Rattle.layout.specs.Heading.{sheetLevels, progressOf}
+use Rattle.layout.specs.Heading.{sheetLevels, progressOf, layoutOf}
 use Rattle.workspace.specs.Compute.{leaves, word, words}
+use Rattle.workspace.specs.Memory.{thetaOf}
 use Rattle.workspace.specs.Answers.{Outcome, untouched}
 use Rattle.workspace.specs.Loaded.{layoutOfSheet, entryRowIn, rowOf}
 use Rattle.workspace.specs.Load.{loadSheet}
@@ -163,3 +164,8 @@ turned =
 entry-rows : tab 2 (entryRowIn turned (layoutOfSheet turned)) ≡ 1 ∷ 0 ∷ []
 unfolding leaves layoutOfSheet rowOf sum sheetLevels
 entry-rows = refl
+
+-- kept theta is in sheet order: of 20, 21, sorted block 0 has 21
+kept-theta : words (tab 2 (thetaOf (loaded 33 .left .heading) (replicate 14 (word 1) ++ (word 20 ∷ word 21 ∷ replicate 15 (word 1))))) ≡ 21 ∷ 20 ∷ []
+unfolding loaded words layoutOf
+kept-theta = refl
