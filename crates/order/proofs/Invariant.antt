@@ -47,7 +47,7 @@ module _ (R : Rules) (k : ℕ) (start : ℕ → ℕ → R .Block) where
       }
 
   -- a finished block is column h of round h
-  finished : (i h : ℕ) → final R start i h ≡ column R h (value R start h) i
+  pub finished : (i h : ℕ) → final R start i h ≡ column R h (value R start h) i
   unfolding value
   finished i h = rw (le-ltb h h (omega arith), eq-eqb h h refl)
 

@@ -5,3 +5,4 @@ pub mod Steps
 pub mod Cholesky
 pub mod Solves
 pub mod Finish
+pub mod Exact
