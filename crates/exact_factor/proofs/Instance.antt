@@ -94,7 +94,7 @@ three =
     }
 
 three-is-exact : Exact three
-three-is-exact = record { zero-plus = zero-plus; plus-minus = plus-minus; minus-plus = minus-plus; over-times = over-times; root-square = root-square; root-some = root-some }
+three-is-exact = record { zero-plus = zero-plus; plus-minus = plus-minus; plus-zero = plus-zero; minus-zero = minus-zero; times-zero = times-zero; zero-times = zero-times; minus-plus = minus-plus; over-times = over-times; root-square = root-square; root-some = root-some }
   where
     zero-plus : (a : Three) → sum nought a ≡ a
     zero-plus nought = refl
@@ -141,6 +141,22 @@ three-is-exact = record { zero-plus = zero-plus; plus-minus = plus-minus; minus-
     minus-plus minus-unit unit = refl
     minus-plus minus-unit minus-unit = refl
 
+    plus-zero : (a : Three) → sum a nought ≡ a
+    plus-zero nought = refl
+    plus-zero unit = refl
+    plus-zero minus-unit = refl
+    minus-zero : (a : Three) → difference a nought ≡ a
+    minus-zero nought = refl
+    minus-zero unit = refl
+    minus-zero minus-unit = refl
+    times-zero : (a : Three) → product a nought ≡ nought
+    times-zero nought = refl
+    times-zero unit = refl
+    times-zero minus-unit = refl
+    zero-times : (a : Three) → product nought a ≡ nought
+    zero-times nought = refl
+    zero-times unit = refl
+    zero-times minus-unit = refl
     over-times : (a d : Three) → is-nought d ≡ false → product (quotient a d) d ≡ a
     over-times nought nought e = absurd (true≢false e)
     over-times nought unit e = refl

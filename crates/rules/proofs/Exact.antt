@@ -12,7 +12,6 @@ use lib.Seq.{getD-append-seam}
 use Rattle.rules.specs.Arithmetic.{Arithmetic}
 use Rattle.rules.specs.Sums.{dot, chain, sumFrom, lessFrom}
 use Rattle.rules.specs.Cholesky.{at, forward, besidePivot, radicandOf, cellOf, rowOf, rows, factor, radicand, next, firstBad, pivots}
-use Rattle.rules.specs.Steps.{subtractDense, subtractLast}
 use Rattle.rules.specs.Exact.{Exact, Solves, Factors}
 
 -- the last of a longer list
@@ -116,13 +115,10 @@ module _ (A : Arithmetic) where
     dot-chain s f g zero = X .zero-plus s
     dot-chain s f g (suc n) = X .plus-minus (dot A f g n) (chain A s f g n) (A .times (f n) (g n)) ∙ dot-chain s f g n
 
-    -- so taking products away one by one, or their sum once, is the same: the last triangle's S is a dense one there
-    chain-is : (s : A .Num) (f g : ℕ → A .Num) (n : ℕ) → chain A s f g n ≡ A .minus s (dot A f g n)
+    -- so taking products away one by one, or their sum once, is the same
+    pub chain-is : (s : A .Num) (f g : ℕ → A .Num) (n : ℕ) → chain A s f g n ≡ A .minus s (dot A f g n)
     chain-is s f g n =
         sym (X .minus-plus (dot A f g n) (chain A s f g n)) ∙ ap (λ (v : A .Num). A .minus v (dot A f g n)) (dot-chain s f g n)
-
-    pub last-is-dense : (t a : ℕ → ℕ → A .Num) (inner r c : ℕ) → subtractLast A t a inner r c ≡ subtractDense A t a a inner r c
-    last-is-dense t a inner r c = chain-is (t r c) (a r) (a c) inner
 
     -- T: forward substitution solves
     pub forward-solves :

@@ -1,3 +1,4 @@
 pub mod Sums
 pub mod Exact
+pub mod Forms
 pub mod Controls

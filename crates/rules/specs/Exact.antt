@@ -2,7 +2,8 @@
 -- Doubles are no such arithmetic. Rules that meet these identities wherever nothing is rounded are the paper's, and only their order is document 01's.
 use Prim.Native.Nat.{ℕ, suc, _≤_, _<_}
 use mathlib.Core.Path.{_≡_}
-use mathlib.Core.Bool.{false}
+use mathlib.Core.Bool.{false, cond}
+use lib.Dec.{eqb}
 use Rattle.rules.specs.Arithmetic.{Arithmetic}
 use Rattle.rules.specs.Sums.{dot}
 
@@ -10,6 +11,10 @@ use Rattle.rules.specs.Sums.{dot}
 pub record Exact (A : Arithmetic) : Type 0 where
   pub zero-plus : (a : A .Num) → A .plus (A .zero) a ≡ a
   pub plus-minus : (a b p : A .Num) → A .plus (A .plus a p) (A .minus b p) ≡ A .plus a b
+  pub plus-zero : (a : A .Num) → A .plus a (A .zero) ≡ a
+  pub minus-zero : (a : A .Num) → A .minus a (A .zero) ≡ a
+  pub times-zero : (a : A .Num) → A .times a (A .zero) ≡ A .zero
+  pub zero-times : (a : A .Num) → A .times (A .zero) a ≡ A .zero
   pub minus-plus : (p x : A .Num) → A .minus (A .plus p x) p ≡ x
   pub over-times : (a d : A .Num) → A .null d ≡ false → A .times (A .over a d) d ≡ a
   pub root-square : (x : A .Num) → A .refused x ≡ false → A .times (A .root x) (A .root x) ≡ x
@@ -23,3 +28,7 @@ module _ (A : Arithmetic) where
   -- L L' = b in the lower triangle of n rows: what C makes of a triangle b
   abbrev pub Factors : (b L : ℕ → ℕ → A .Num) → ℕ → Type 0
   Factors b L n = (r c : ℕ) → c ≤ r → r < n → dot A (L r) (L c) (suc c) ≡ b r c
+
+  -- a sparse block, whose column x has its one entry v x in row `row x`, as a dense one
+  abbrev pub spread : (row : ℕ → ℕ) (v : ℕ → A .Num) → ℕ → ℕ → A .Num
+  spread row v r x = cond (eqb (row x) r) (v x) (A .zero)
