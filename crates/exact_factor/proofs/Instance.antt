@@ -145,18 +145,22 @@ three-is-exact = record { zero-plus = zero-plus; plus-minus = plus-minus; plus-z
     plus-zero nought = refl
     plus-zero unit = refl
     plus-zero minus-unit = refl
+
     minus-zero : (a : Three) → difference a nought ≡ a
     minus-zero nought = refl
     minus-zero unit = refl
     minus-zero minus-unit = refl
+
     times-zero : (a : Three) → product a nought ≡ nought
     times-zero nought = refl
     times-zero unit = refl
     times-zero minus-unit = refl
+
     zero-times : (a : Three) → product nought a ≡ nought
     zero-times nought = refl
     zero-times unit = refl
     zero-times minus-unit = refl
+
     over-times : (a d : Three) → is-nought d ≡ false → product (quotient a d) d ≡ a
     over-times nought nought e = absurd (true≢false e)
     over-times nought unit e = refl
