@@ -1,0 +1,73 @@
+-- What an accepted load leaves is a workspace: its heading is not refused with 20.
+use Prim.Native.Nat.{ℕ, _+_, _≤_}
+use mathlib.Core.Path.{_≡_, refl, sym, ap, subst, _∙_}
+use mathlib.Core.Bool.{Bool, true, false, _&&_, true≢false, and-eq-true-iff}
+use mathlib.Core.List.{List}
+use mathlib.Core.Option.{Option, none, some}
+use native.Mathlib.Omega.{arith}
+use lib.Dec.{leb}
+use lib.ListN.{length}
+use lib.Ieee.{Float}
+use borrow.Author.Tests.{leb-true}
+use Rattle.refusal.specs.declared.Refusal.{Refusal}
+use Rattle.refusal.specs.declared.Answer.{Answer}
+use Rattle.refusal.specs.declared.Answer.the-variants.{Accepted, Refused}
+use Rattle.storage.specs.Part.{store}
+use Rattle.storage.proofs.Parts.{length-store}
+use Rattle.sheet.specs.declared.Reading.{Reading}
+use Rattle.sheet.specs.declared.Reading.the-variants.{Sheet as Read, Refused as Unread}
+use Rattle.sheet.specs.Sheet.{Sheet, accepted, refused, sheetOf}
+use Rattle.sheet.specs.Sheet as Sheets
+use Rattle.sheet.specs.Answer.{Answers}
+use Rattle.layout.specs.declared.Layout.{Layout}
+use Rattle.layout.specs.Shapes.{pick, pairs, numbersNeeded, doublesNeeded}
+use Rattle.layout.specs.Heading.{headed}
+use Rattle.workspace.specs.Answers.{Outcome, accept, untouched}
+use Rattle.workspace.specs.Loaded.{firstDenied, layoutOfSheet}
+use Rattle.workspace.specs.Load.{Loads, headingOf, doublesOf, roomy, afterGate, loadSheet, loadParsed, loadOf}
+use Rattle.workspace.proofs.Lengths.{length-doubles}
+use Rattle.workspace.proofs.Headed.{load-stored}
+
+abbrev isAccepted : Answer → Bool
+isAccepted Accepted = true
+isAccepted (Refused r) = false
+
+-- an accepted outcome is a workspace
+abbrev Good : Outcome → Type 0
+Good o = isAccepted (o .answer) ≡ true → headed (o .left .heading) (length (o .left .doubles)) ≡ true
+
+module _ (h : List ℕ) (w : List Float) where
+  refused-good : (n a b : ℕ) → Good (untouched h w n a b)
+  refused-good n a b e = absurd (true≢false (sym e))
+
+  room-good : (sheet : Sheet) (y : Layout) (b : Bool) → (b ≡ true → Good (accept (store 0 (headingOf sheet y) h) (store 0 (doublesOf sheet y) w)))
+      → Good (pick b (accept (store 0 (headingOf sheet y) h) (store 0 (doublesOf sheet y) w)) (untouched h w 12 0 0))
+  room-good sheet y true f = f refl
+  room-good sheet y false f = refused-good 12 0 0
+
+  gate-good : (sheet : Sheet) (y : Layout) (g : Option Refusal)
+      → (g ≡ none → roomy y h w ≡ true → Good (accept (store 0 (headingOf sheet y) h) (store 0 (doublesOf sheet y) w))) → Good (afterGate g sheet y h w)
+  gate-good sheet y none f = room-good sheet y (roomy y h w) (f refl)
+  gate-good sheet y (some r) f = λ e. absurd (true≢false (sym e))
+
+  module _ (s : List ℕ) where
+    sheet-good : (sheet : Sheet) (starts : _) → sheetOf s ≡ accepted sheet starts → Answers (accepted sheet starts) (Read starts) → Good (loadSheet sheet h w)
+    unfolding loadSheet
+    sheet-good sheet starts e a =
+        let y : Layout = layoutOfSheet sheet in
+        gate-good sheet y (firstDenied sheet y (pairs (y .k)))
+        (λ gate room ok.
+        let fits : doublesNeeded y ≤ length w = leb-true (doublesNeeded y) (length w) (and-eq-true-iff (leb (numbersNeeded y) (length h)) (leb (doublesNeeded y) (length w)) .0 room .1) in
+        load-stored s sheet starts e (a .0) gate (length (store 0 (doublesOf sheet y) w))
+        (omega (arith, fits, length-doubles sheet y, length-store 0 (doublesOf sheet y) w (omega (arith, fits, length-doubles sheet y)))) h)
+
+    parsed-good : (p : Sheets.Outcome) → sheetOf s ≡ p → (r : Reading) → Answers p r → Good (loadOf s r h w)
+    unfolding loadOf
+    parsed-good p e (Unread number line) a = refused-good number line 0
+    parsed-good (refused number line) e (Read starts) a = subst (λ (p : Sheets.Outcome). Good (loadParsed p h w)) (sym e) (refused-good number line 0)
+    parsed-good (accepted sheet starts) e (Read found) a =
+        subst (λ (p : Sheets.Outcome). Good (loadParsed p h w)) (sym e) (sheet-good sheet starts e (a .0, refl))
+
+    -- "20 never comes", of a workspace just loaded
+    pub loads-headed : (o : Outcome) → Loads s h w o → o .answer ≡ Accepted → headed (o .left .heading) (length (o .left .doubles)) ≡ true
+    loads-headed o l e = subst Good (sym (l .comes)) (parsed-good (sheetOf s) refl (l .reading) (l .read)) (ap isAccepted e)
