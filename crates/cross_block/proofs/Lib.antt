@@ -1,0 +1,5 @@
+pub mod Laws
+pub mod Turns
+pub mod Sparse
+pub mod Vectors
+pub mod Skips

@@ -1,0 +1,519 @@
+// Cholesky, its logarithms and the substitutions on a lower triangle that is packed by rows, each in its place.
+
+ghost use mathlib.Core.Path.{_≡_};
+ghost use Prim.Native.Nat.{ℕ, _+_, _*_, _≤_, _<_};
+ghost use lib.ListN.{length};
+ghost use Rattle.storage.specs.Runs.{start, triangle};
+ghost use Rattle.rules.specs.Arithmetic.{ieee};
+ghost use Rattle.re_lower.specs.Lower.{
+  chained,
+  besideDone,
+  TriangleDone,
+  DiagonalDone,
+  logsOfTriangle,
+  logsOfDiagonal,
+  rowSolved,
+  belowPivot,
+  backSolved,
+};
+
+// Whether a block has a factor: yes, or no because of the pivot of this row.
+pub enum Pivots {
+    Accepted,
+    Refused(usize),
+}
+
+// Where each row of a packed triangle starts: entry r is r (r + 1) / 2. A packed block has at most 316 rows.
+const STARTS: [usize; 317] = [
+    0,
+    1,
+    3,
+    6,
+    10,
+    15,
+    21,
+    28,
+    36,
+    45,
+    55,
+    66,
+    78,
+    91,
+    105,
+    120,
+    136,
+    153,
+    171,
+    190,
+    210,
+    231,
+    253,
+    276,
+    300,
+    325,
+    351,
+    378,
+    406,
+    435,
+    465,
+    496,
+    528,
+    561,
+    595,
+    630,
+    666,
+    703,
+    741,
+    780,
+    820,
+    861,
+    903,
+    946,
+    990,
+    1035,
+    1081,
+    1128,
+    1176,
+    1225,
+    1275,
+    1326,
+    1378,
+    1431,
+    1485,
+    1540,
+    1596,
+    1653,
+    1711,
+    1770,
+    1830,
+    1891,
+    1953,
+    2016,
+    2080,
+    2145,
+    2211,
+    2278,
+    2346,
+    2415,
+    2485,
+    2556,
+    2628,
+    2701,
+    2775,
+    2850,
+    2926,
+    3003,
+    3081,
+    3160,
+    3240,
+    3321,
+    3403,
+    3486,
+    3570,
+    3655,
+    3741,
+    3828,
+    3916,
+    4005,
+    4095,
+    4186,
+    4278,
+    4371,
+    4465,
+    4560,
+    4656,
+    4753,
+    4851,
+    4950,
+    5050,
+    5151,
+    5253,
+    5356,
+    5460,
+    5565,
+    5671,
+    5778,
+    5886,
+    5995,
+    6105,
+    6216,
+    6328,
+    6441,
+    6555,
+    6670,
+    6786,
+    6903,
+    7021,
+    7140,
+    7260,
+    7381,
+    7503,
+    7626,
+    7750,
+    7875,
+    8001,
+    8128,
+    8256,
+    8385,
+    8515,
+    8646,
+    8778,
+    8911,
+    9045,
+    9180,
+    9316,
+    9453,
+    9591,
+    9730,
+    9870,
+    10011,
+    10153,
+    10296,
+    10440,
+    10585,
+    10731,
+    10878,
+    11026,
+    11175,
+    11325,
+    11476,
+    11628,
+    11781,
+    11935,
+    12090,
+    12246,
+    12403,
+    12561,
+    12720,
+    12880,
+    13041,
+    13203,
+    13366,
+    13530,
+    13695,
+    13861,
+    14028,
+    14196,
+    14365,
+    14535,
+    14706,
+    14878,
+    15051,
+    15225,
+    15400,
+    15576,
+    15753,
+    15931,
+    16110,
+    16290,
+    16471,
+    16653,
+    16836,
+    17020,
+    17205,
+    17391,
+    17578,
+    17766,
+    17955,
+    18145,
+    18336,
+    18528,
+    18721,
+    18915,
+    19110,
+    19306,
+    19503,
+    19701,
+    19900,
+    20100,
+    20301,
+    20503,
+    20706,
+    20910,
+    21115,
+    21321,
+    21528,
+    21736,
+    21945,
+    22155,
+    22366,
+    22578,
+    22791,
+    23005,
+    23220,
+    23436,
+    23653,
+    23871,
+    24090,
+    24310,
+    24531,
+    24753,
+    24976,
+    25200,
+    25425,
+    25651,
+    25878,
+    26106,
+    26335,
+    26565,
+    26796,
+    27028,
+    27261,
+    27495,
+    27730,
+    27966,
+    28203,
+    28441,
+    28680,
+    28920,
+    29161,
+    29403,
+    29646,
+    29890,
+    30135,
+    30381,
+    30628,
+    30876,
+    31125,
+    31375,
+    31626,
+    31878,
+    32131,
+    32385,
+    32640,
+    32896,
+    33153,
+    33411,
+    33670,
+    33930,
+    34191,
+    34453,
+    34716,
+    34980,
+    35245,
+    35511,
+    35778,
+    36046,
+    36315,
+    36585,
+    36856,
+    37128,
+    37401,
+    37675,
+    37950,
+    38226,
+    38503,
+    38781,
+    39060,
+    39340,
+    39621,
+    39903,
+    40186,
+    40470,
+    40755,
+    41041,
+    41328,
+    41616,
+    41905,
+    42195,
+    42486,
+    42778,
+    43071,
+    43365,
+    43660,
+    43956,
+    44253,
+    44551,
+    44850,
+    45150,
+    45451,
+    45753,
+    46056,
+    46360,
+    46665,
+    46971,
+    47278,
+    47586,
+    47895,
+    48205,
+    48516,
+    48828,
+    49141,
+    49455,
+    49770,
+    50086,
+];
+
+// Where row r starts.
+pub fn row_start(r: usize) -> usize
+    requires { ⌜ r ≤ 316 ⌝ }
+    ensures { λ v. ⌜ v ≡ start triangle r ⌝ }
+{
+    STARTS[r]
+}
+
+// A pivot's radicand is refused where it is at most 0; NaN passes.
+pub fn refused(x: f64) -> bool
+    ensures { λ r. ⌜ r ≡ ieee .refused x ⌝ }
+{
+    x <= 0.0
+}
+
+// s less the products of t[a], .., t[a + n - 1] with t[b], .., one by one.
+pub fn chain(t: &[f64], a: usize, b: usize, n: usize, s: f64) -> f64
+    requires { ⌜ (a + n ≤ length (now t)) × (b + n ≤ length (now t)) ⌝ }
+    ensures { λ r. ⌜ r ≡ chained s (now (t .entry)) a (now (t .entry)) b n ⌝ }
+{
+    let mut v = s;
+    let mut y = 0;
+    while y < n {
+        v = v - t[a + y] * t[b + y];
+        y += 1;
+    }
+    v
+}
+
+// Row r, which lies from `from` on, left of its pivot: solved in place with the rows above it.
+fn row_beside(t: &mut [f64], from: usize, r: usize)
+    requires { ⌜ (from ≡ start triangle r) × (from + r ≤ length (now t)) ⌝ }
+    ensures { λ _. ⌜ now (t .exit) ≡ besideDone (now (t .entry)) from r ⌝ }
+{
+    let mut c = 0;
+    let mut at = 0;
+    while c < r {
+        let v = t[from + c];
+        t[from + c] = chain(t, from, at, c, v) / t[at + c];
+        c += 1;
+        at += c;
+    }
+}
+
+// C: the packed triangle of n rows that t begins with becomes its factor, unless a pivot is refused.
+// Row by row: each cell has the operations of the reference's columns in their order.
+pub fn chol(t: &mut [f64], n: usize) -> Pivots
+    requires { ⌜ start triangle n ≤ length (now t) ⌝ }
+    ensures { λ p. ⌜ TriangleDone (now (t .entry)) (now (t .exit)) n p ⌝ }
+{
+    let mut r = 0;
+    let mut from = 0;
+    while r < n {
+        row_beside(t, from, r);
+        let v = t[from + r];
+        let d = chain(t, from, from, r, v);
+        if refused(d) {
+            return Pivots::Refused(r);
+        }
+        t[from + r] = root::sqrt(d);
+        r += 1;
+        from += r;
+    }
+    Pivots::Accepted
+}
+
+// C on a diagonal: its n cells become their roots, unless one is refused.
+pub fn chol_diagonal(t: &mut [f64], n: usize) -> Pivots
+    requires { ⌜ n ≤ length (now t) ⌝ }
+    ensures { λ p. ⌜ DiagonalDone (now (t .entry)) (now (t .exit)) n p ⌝ }
+{
+    let mut r = 0;
+    while r < n {
+        let d = t[r];
+        if refused(d) {
+            return Pivots::Refused(r);
+        }
+        t[r] = root::sqrt(d);
+        r += 1;
+    }
+    Pivots::Accepted
+}
+
+// s and the logarithms of the n pivots of a packed factor, one by one.
+pub fn log_pivots(t: &[f64], n: usize, s: f64) -> f64
+    requires { ⌜ start triangle n ≤ length (now t) ⌝ }
+    ensures { λ r. ⌜ r ≡ logsOfTriangle (now (t .entry)) n s ⌝ }
+{
+    let mut v = s;
+    let mut r = 0;
+    let mut from = 0;
+    while r < n {
+        v = v + logarithm::ln(t[from + r]);
+        r += 1;
+        from += r;
+    }
+    v
+}
+
+// s and the logarithms of the n pivots of a diagonal, one by one.
+pub fn log_diagonal(t: &[f64], n: usize, s: f64) -> f64
+    requires { ⌜ n ≤ length (now t) ⌝ }
+    ensures { λ r. ⌜ r ≡ logsOfDiagonal (now (t .entry)) n s ⌝ }
+{
+    let mut v = s;
+    let mut r = 0;
+    while r < n {
+        v = v + logarithm::ln(t[r]);
+        r += 1;
+    }
+    v
+}
+
+// s less the products of t[0], .., t[n - 1] with l[from], .., one by one.
+fn chain_row(t: &[f64], l: &[f64], from: usize, n: usize, s: f64) -> f64
+    requires { ⌜ (n ≤ length (now t)) × (from + n ≤ length (now l)) ⌝ }
+    ensures { λ r. ⌜ r ≡ chained s (now (t .entry)) 0 (now (l .entry)) from n ⌝ }
+{
+    let mut v = s;
+    let mut y = 0;
+    while y < n {
+        v = v - t[y] * l[from + y];
+        y += 1;
+    }
+    v
+}
+
+// T on one row: the n cells that t begins with are solved in place with the packed factor l.
+pub fn solve_row(t: &mut [f64], l: &[f64], n: usize)
+    requires { ⌜ (n ≤ length (now t)) × (start triangle n ≤ length (now l)) ⌝ }
+    ensures { λ _. ⌜ now (t .exit) ≡ rowSolved (now (t .entry)) (now (l .entry)) n ⌝ }
+{
+    let mut x = 0;
+    let mut from = 0;
+    while x < n {
+        let v = t[x];
+        t[x] = chain_row(t, l, from, x, v) / l[from + x];
+        x += 1;
+        from += x;
+    }
+}
+
+// s less the products of column i of the packed factor l, below its pivot, with t[i + 1], .., t[n - 1], one by one. Row i + 1 starts at `from`.
+fn chain_column(t: &[f64], l: &[f64], i: usize, from: usize, n: usize, s: f64) -> f64
+    requires { ⌜ (i < n) × (n ≤ length (now t)) × (start triangle n ≤ length (now l)) × (from ≡ start triangle (i + 1)) ⌝ }
+    ensures { λ r. ⌜ r ≡ belowPivot s (now (l .entry)) (now (t .entry)) i n ⌝ }
+{
+    let mut v = s;
+    let mut q = i + 1;
+    let mut row = from;
+    while q < n {
+        v = v - l[row + i] * t[q];
+        q += 1;
+        row += q;
+    }
+    v
+}
+
+// Backward substitution: the n cells that t begins with are solved in place with the transpose of the packed factor l, the last first.
+pub fn backward(t: &mut [f64], l: &[f64], n: usize)
+    requires { ⌜ (n ≤ length (now t)) × (start triangle n ≤ length (now l)) ⌝ }
+    ensures { λ _. ⌜ now (t .exit) ≡ backSolved (now (t .entry)) (now (l .entry)) n ⌝ }
+{
+    let mut i = n;
+    let mut from = n * (n + 1) / 2;
+    while i > 0 {
+        let below = from;
+        from -= i;
+        i -= 1;
+        let v = t[i];
+        t[i] = chain_column(t, l, i, below, n, v) / l[from + i];
+    }
+}
