@@ -6,16 +6,17 @@ use mathlib.Core.Logic.{_⊎_}
 use native.Mathlib.Omega.{arith}
 use lib.ListN.{length, getD, set}
 use lib.Ieee.{Float, nan, binary64, sub, div}
-use Rattle.storage.specs.Runs.{start, triangle, dense, tab}
-use Rattle.storage.specs.Shape.{Shape, packed, diagonal, columns, sizeOf, placeOf, fill}
-use Rattle.storage.specs.Part.{store}
-use Rattle.storage.proofs.Cells.{length-tab, getD-tab}
+use Rattle.rules.specs.Steps.{divide}
+use Rattle.storage.specs.Runs.{start, triangle, dense, tab, single}
+use Rattle.storage.specs.Shape.{Shape, packed, diagonal, columns, sizeOf, placeOf, fill, entries}
+use Rattle.storage.specs.Part.{store, part}
+use Rattle.storage.proofs.Cells.{length-tab, getD-tab, cells-ext}
 use Rattle.storage.proofs.Places.{place-below}
 use Rattle.storage.proofs.Parts.{store-one, store-nil}
 use Rattle.storage.proofs.Blocks.{is-fill, cell-part}
 use Rattle.rules.specs.Arithmetic.{ieee}
 use Rattle.rules.specs.Sums.{dot, chain}
-use Rattle.cross_block.specs.Blocks.{block, EachShape}
+use Rattle.cross_block.specs.Blocks.{block, EachShape, dividedColumns}
 use Rattle.cross_block.specs.Done.{Done, Cells, Writes, quotient, lessDots, lessSquares, lessLast}
 use Rattle.cross_block.proofs.Laws.{any-default, read-block, has-dense, has-packed, next, next-run, done-length, own, same-block}
 
@@ -131,3 +132,15 @@ module _ (off n src : ℕ) (a w₀ : List Float) (h : Float → Float) (fits : o
   pub made-all : (i : ℕ) → i ≡ n → (w : List Float) → Made i w → EachShape n (λ s. w ≡ store off (fill s (λ r c. h (block src s a r c))) w₀)
   made-all i e w so s q =
       subst (λ (k : ℕ). Made k w) e so ∙ ap (λ (l : List Float). store off l w₀) (as-block n src a h s q)
+
+-- T of a sparse block by a diagonal: its entries are a dense block of one row
+pub divided-entries : (off cols pivots : ℕ) (row : ℕ → ℕ) (w : List Float)
+    → dividedColumns off 1 cols pivots w
+    ≡ store off (fill (entries cols row) (divide ieee (block off (entries cols row) w) (λ c. block pivots (diagonal cols) w c c))) w
+unfolding fill
+divided-entries off cols pivots row w =
+    ap (λ (l : List Float). store off l w)
+    (cells-ext single cols (λ j i. divide ieee (block off (columns 1 cols) w) (λ c. block pivots (diagonal cols) w c c) i j)
+    (λ j i. divide ieee (block off (entries cols row) w) (λ c. block pivots (diagonal cols) w c c) (row j) j)
+    (λ j i p q. let e : i ≡ 0 = omega arith in
+    ap (λ (k : ℕ). ieee .over (getD (part off (start single cols) w) (start single j + k) (ieee .zero)) (block pivots (diagonal cols) w j j)) e))
