@@ -15,14 +15,16 @@ use Rattle.storage.specs.Runs.{start, dense, tab}
 use Rattle.storage.specs.Shape.{Shape, columns, sizeOf, fill, cell}
 use Rattle.storage.specs.Part.{part, store}
 use Rattle.storage.proofs.Starts.{start-below}
-use Rattle.storage.proofs.Cells.{length-tab, getD-tab}
+use Rattle.storage.proofs.Cells.{length-tab, getD-tab, tab-ext}
 use Rattle.storage.proofs.Parts.{length-part, length-store, getD-part, part-else, store-left, store-right, store-in, store-else, store-one, store-nil, store-part}
 use Rattle.storage.proofs.Blocks.{length-fill, cell-fill, is-fill, fill-cell, cell-stored}
 use Rattle.rules.specs.Arithmetic.{ieee}
 use Rattle.rules.specs.Sums.{lessFrom}
-use Rattle.cross_block.specs.Blocks.{block, entry}
-use Rattle.cross_block.specs.Done.{lessSparseCell}
-use Rattle.cross_block.proofs.Laws.{any-default, read-block, has-dense}
+use Rattle.blocks.specs.Blocks.{block, entry}
+use Rattle.blocks.proofs.Laws.{any-default, read-block, has-dense}
+use Rattle.axpy.specs.Axpy.{at, run}
+use Rattle.axpy.proofs.Sums.{read-run}
+use Rattle.cross_block.specs.Blocks.{lessSparseCell, lessColumn}
 
 -- a list stored inside what is stored
 pub store-inside : {A : Type 0} (off : ℕ) (L w : List A) (j : ℕ) (l : List A) → off + length L ≤ length w → j + length l ≤ length L
@@ -62,31 +64,6 @@ column-stored rows cols c f f′ g here new old =
     subst (λ (i : ℕ). getD (store (start (dense rows) c) l L) (start (dense rows) i + r) nan ≡ f′ r i) (sym e)
     (store-in (start (dense rows) c) l L fits nan r (omega arith) ∙ getD-tab rows g r nan m ∙ new r m))))
 
--- ---- a column less a multiple of another
-
-module _ (at rows ax : ℕ) (w₀ : List Float) (v : Float) (fits : at + rows ≤ length w₀) (apart : (at + rows ≤ ax) ⊎ (ax + rows ≤ at)) where
-  abbrev becomes : ℕ → Float
-  becomes r = sub binary64 (getD w₀ (at + r) nan) (mul binary64 (getD w₀ (ax + r) nan) v)
-
-  pub column-none : w₀ ≡ store at (tab 0 becomes) w₀
-  unfolding tab
-  column-none = sym (store-nil at w₀)
-
-  pub column-more : (r : ℕ) → r < rows → (w : List Float) → w ≡ store at (tab r becomes) w₀
-      → set w (at + r) (sub binary64 (getD w (at + r) nan) (mul binary64 (getD w (ax + r) nan) v)) ≡ store at (tab (suc r) becomes) w₀
-  unfolding tab
-  column-more r more w so =
-      let l : List Float = tab r becomes in
-      let e : length l ≡ r = length-tab r becomes in
-      let p : getD w (at + r) nan ≡ getD w₀ (at + r) nan =
-      ap (λ (x : List Float). getD x (at + r) nan) so ∙ store-else at l w₀ (omega arith) nan (at + r) (inr (omega arith)) in
-      let q : getD w (ax + r) nan ≡ getD w₀ (ax + r) nan =
-      ap (λ (x : List Float). getD x (ax + r) nan) so
-      ∙ store-else at l w₀ (omega arith) nan (ax + r) (⊎-elim (λ h. inr (omega arith)) (λ h. inl (omega arith)) apart) in
-      ap₂ (λ (x y : Float). set w (at + r) (sub binary64 x (mul binary64 y v))) p q
-      ∙ ap₂ (λ (x : List Float) (k : ℕ). set x (at + k) (becomes r)) so (sym e)
-      ∙ store-one at l w₀ (omega arith) (becomes r) (omega arith)
-
 -- ---- the loop over the sparse block's columns
 
 module _ (off rows cols a v inner : ℕ) (row : ℕ → ℕ) (w₀ : List Float)
@@ -123,9 +100,9 @@ module _ (off rows cols a v inner : ℕ) (row : ℕ → ℕ) (w₀ : List Float)
         any-default w (v + x) nan (ieee .zero) (omega (arith, sparse-length))
         ∙ sym (getD-part v inner w x (ieee .zero) more) ∙ ap (λ (l : List Float). getD l x (ieee .zero)) (other v inner apart-v)
 
-    module _ (c : ℕ) (here : c < cols) (e : c ≡ row x) (at ax : ℕ) (p : at ≡ off + start (dense rows) c) (q : ax ≡ a + start (dense rows) x) where
+    module _ (c : ℕ) (here : c < cols) (e : c ≡ row x) (to ax : ℕ) (p : to ≡ off + start (dense rows) c) (q : ax ≡ a + start (dense rows) x) where
       abbrev made : ℕ → Float
-      made r = sub binary64 (getD w (at + r) nan) (mul binary64 (getD w (ax + r) nan) (getD w (v + x) nan))
+      made r = sub binary64 (getD w (to + r) nan) (mul binary64 (getD w (ax + r) nan) (getD w (v + x) nan))
 
       new : (r : ℕ) → r < rows → made r ≡ rule (suc x) r c
       unfolding lessFrom
@@ -145,9 +122,19 @@ module _ (off rows cols a v inner : ℕ) (row : ℕ → ℕ) (w₀ : List Float)
           ap (λ (b : Bool). cond b (ieee .minus (rule x r y) (ieee .times (block a (columns rows inner) w₀ r x) (entry v inner w₀ x))) (rule x r y))
           (sym (ne-eqb (row x) y (λ k. h (sym k ∙ sym e))))
 
-      pub sparse-more : (w′ : List Float) → w′ ≡ store at (tab rows made) w → w′ ≡ store off (fill s (rule (suc x))) w₀
+      pub sparse-more : (w′ : List Float) → w′ ≡ store to (tab rows made) w → w′ ≡ store off (fill s (rule (suc x))) w₀
       sparse-more w′ f =
           f ∙ ap₂ (λ (i : ℕ) (l : List Float). store i (tab rows made) l) p so
           ∙ store-inside off (fill s (rule x)) w₀ (start (dense rows) c) (tab rows made) (omega (arith, long))
           (omega (arith, long, length-tab rows made, start-below (dense rows) c cols here))
           ∙ ap (λ (l : List Float). store off l w₀) (column-stored rows cols c (rule x) (rule (suc x)) made here new old)
+
+-- a column less a multiple of another, whose doubles are read first
+pub column-less : (w w′ acc acc₁ : List Float) (to rows ax : ℕ) (f : Float) → rows ≤ length acc → acc₁ ≡ run 0 rows (λ i. at w (ax + i)) acc
+    → w′ ≡ run to rows (λ i. ieee .minus (at w (to + i)) (ieee .times (at acc₁ i) f)) w → w′ ≡ lessColumn to rows ax f w
+column-less w w′ acc acc₁ to rows ax f room first so =
+    so
+    ∙ ap (λ (l : List Float). store to l w)
+    (tab-ext rows _ _
+    (λ i l. ap (λ (x : Float). ieee .minus (at w (to + i)) (ieee .times x f))
+    (ap (λ (x : List Float). at x i) first ∙ read-run 0 rows (λ j. at w (ax + j)) acc (omega arith) i i l (omega arith))))

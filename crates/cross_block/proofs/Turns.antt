@@ -1,106 +1,31 @@
--- A turn of each loop: one cell more.
+-- A turn of each loop: one double more of a scaled run, one column more of T.
 use Prim.Native.Nat.{ℕ, zero, suc, _+_, _≤_, _<_}
-use mathlib.Core.Path.{_≡_, sym, ap, ap₂, subst, _∙_}
-use mathlib.Core.List.{List, [], _∷_, _++_}
-use mathlib.Core.Logic.{_⊎_}
+use mathlib.Core.Path.{_≡_, refl, sym, ap, ap₂, _∙_}
+use mathlib.Core.List.{List}
+use mathlib.Core.Logic.{_⊎_, inl, inr, ⊎-elim}
 use native.Mathlib.Omega.{arith}
-use lib.ListN.{length, getD, set}
-use lib.Ieee.{Float, nan, binary64, sub, div}
-use Rattle.rules.specs.Steps.{divide}
+use lib.ListN.{length, getD}
+use lib.Ieee.{Float, nan}
 use Rattle.storage.specs.Runs.{start, triangle, dense, tab, single}
 use Rattle.storage.specs.Shape.{Shape, packed, diagonal, columns, sizeOf, placeOf, fill, entries}
 use Rattle.storage.specs.Part.{store, part}
-use Rattle.storage.proofs.Cells.{length-tab, getD-tab, cells-ext}
+use Rattle.storage.proofs.Starts.{start-below, start-le, start-dense, start-single}
+use Rattle.storage.proofs.Cells.{length-tab, getD-tab, tab-ext, cells-ext}
 use Rattle.storage.proofs.Places.{place-below}
-use Rattle.storage.proofs.Parts.{store-one, store-nil}
+use Rattle.storage.proofs.Parts.{store-else}
 use Rattle.storage.proofs.Blocks.{is-fill, cell-part}
 use Rattle.rules.specs.Arithmetic.{ieee}
-use Rattle.rules.specs.Sums.{dot, chain}
-use Rattle.cross_block.specs.Blocks.{block, EachShape, dividedColumns}
-use Rattle.cross_block.specs.Done.{Done, Cells, Writes, quotient, lessDots, lessSquares, lessLast}
-use Rattle.cross_block.proofs.Laws.{any-default, read-block, has-dense, has-packed, next, next-run, done-length, own, same-block}
-
--- a run whose cells are all written
-pub whole : (off : ℕ) (len : ℕ → ℕ) (rule : List Float → ℕ → ℕ → Float) (n : ℕ) (entry : List Float) → off + start len n ≤ length entry
-    → (j : ℕ) → j < n → (i : ℕ) (w : List Float) → i ≡ len j → Cells off len rule j entry i w → Writes off len rule j entry w
-whole off len rule n entry fits j run i w e so w₀ q u =
-    next-run off len (rule w₀) w₀ n (omega arith) j run w (subst (λ (k : ℕ). Done off len (rule w₀) w₀ j k w) e (so w₀ q u))
-
--- S of a dense block: cell r of column c
-pub dense-turn : (off rows cols a b inner : ℕ) (entry : List Float) (c r at : ℕ) (w : List Float) (v : Float)
-    → c < cols → r < rows → at ≡ off + start (dense rows) c → off + sizeOf (columns rows cols) ≤ length entry
-    → (off + sizeOf (columns rows cols) ≤ a) ⊎ (a + sizeOf (columns rows inner) ≤ off)
-    → (off + sizeOf (columns rows cols) ≤ b) ⊎ (b + sizeOf (columns cols inner) ≤ off)
-    → v ≡ dot ieee (block a (columns rows inner) w r) (block b (columns cols inner) w c) inner
-    → Cells off (dense rows) (lessDots off rows cols a b inner) c entry r w
-    → Cells off (dense rows) (lessDots off rows cols a b inner) c entry (suc r) (set w (at + r) (sub binary64 (getD w (at + r) nan) v))
-dense-turn off rows cols a b inner entry c r at w v run more e fits apart apart′ f so w₀ q u =
-    let rule : ℕ → ℕ → Float = lessDots off rows cols a b inner w₀ in
-    let now : Done off (dense rows) rule w₀ c r w = so w₀ q u in
-    let g = same-block off (dense rows) rule w₀ cols (omega arith) c run r (omega arith) w now in
-    next off (dense rows) rule w₀ cols (omega arith) c run r (omega arith) w now more (at + r) (omega arith) (sub binary64 (getD w (at + r) nan) v)
-    (ap₂ (ieee .minus)
-    (own off (dense rows) rule w₀ cols (omega arith) c run r (omega arith) w now (at + r) nan (omega arith)
-    ∙ read-block (columns rows cols) off w₀ r c (at + r) (has-dense rows cols r c more run) (omega arith) (omega arith))
-    (f
-    ∙ ap₂ (λ (x y : ℕ → ℕ → Float). dot ieee (x r) (y c) inner) (g a (columns rows inner) apart) (g b (columns cols inner) apart′)))
-
--- a loop over runs: one run more
-pub run-turn : (off : ℕ) (len : ℕ → ℕ) (rule : List Float → ℕ → ℕ → Float) (n : ℕ) (w₀ : List Float) → off + start len n ≤ length w₀
-    → (j : ℕ) → j < n → (w w′ : List Float) → Done off len (rule w₀) w₀ j 0 w → Writes off len rule j w w′ → Done off len (rule w₀) w₀ (suc j) 0 w′
-run-turn off len rule n w₀ fits j run w w′ so f = f w₀ (sym (done-length off len (rule w₀) w₀ n fits j run 0 (omega arith) w so)) so
-
--- S of a triangle: cell c of row r
-pub rank-turn : (off rows a inner : ℕ) (entry : List Float) (r c at : ℕ) (w : List Float) (v : Float)
-    → r < rows → c ≤ r → at ≡ off + start triangle r → off + sizeOf (packed rows) ≤ length entry
-    → (off + sizeOf (packed rows) ≤ a) ⊎ (a + sizeOf (columns rows inner) ≤ off)
-    → v ≡ dot ieee (block a (columns rows inner) w r) (block a (columns rows inner) w c) inner
-    → Cells off triangle (lessSquares off rows a inner) r entry c w
-    → Cells off triangle (lessSquares off rows a inner) r entry (suc c) (set w (at + c) (sub binary64 (getD w (at + c) nan) v))
-rank-turn off rows a inner entry r c at w v run more e fits apart f so w₀ q u =
-    let rule : ℕ → ℕ → Float = lessSquares off rows a inner w₀ in
-    let now : Done off triangle rule w₀ r c w = so w₀ q u in
-    let g = same-block off triangle rule w₀ rows (omega arith) r run c (omega arith) w now a (columns rows inner) apart in
-    next off triangle rule w₀ rows (omega arith) r run c (omega arith) w now (omega arith) (at + c) (omega arith) (sub binary64 (getD w (at + c) nan) v)
-    (ap₂ (ieee .minus)
-    (own off triangle rule w₀ rows (omega arith) r run c (omega arith) w now (at + c) nan (omega arith)
-    ∙ read-block (packed rows) off w₀ r c (at + c) (has-packed rows r c run more) (omega arith) (omega arith))
-    (f ∙ ap (λ (x : ℕ → ℕ → Float). dot ieee (x r) (x c) inner) g))
-
--- S(k,k,h): cell c of row r
-pub last-turn : (off rows a inner : ℕ) (entry : List Float) (r c at : ℕ) (w : List Float) (v : Float)
-    → r < rows → c ≤ r → at ≡ off + start triangle r → off + sizeOf (packed rows) ≤ length entry
-    → (off + sizeOf (packed rows) ≤ a) ⊎ (a + sizeOf (columns rows inner) ≤ off)
-    → v ≡ chain ieee (getD w (at + c) nan) (block a (columns rows inner) w r) (block a (columns rows inner) w c) inner
-    → Cells off triangle (lessLast off rows a inner) r entry c w
-    → Cells off triangle (lessLast off rows a inner) r entry (suc c) (set w (at + c) v)
-last-turn off rows a inner entry r c at w v run more e fits apart f so w₀ q u =
-    let rule : ℕ → ℕ → Float = lessLast off rows a inner w₀ in
-    let now : Done off triangle rule w₀ r c w = so w₀ q u in
-    let g = same-block off triangle rule w₀ rows (omega arith) r run c (omega arith) w now a (columns rows inner) apart in
-    next off triangle rule w₀ rows (omega arith) r run c (omega arith) w now (omega arith) (at + c) (omega arith) v
-    (f
-    ∙ ap₂ (λ (s : Float) (x : ℕ → ℕ → Float). chain ieee s (x r) (x c) inner)
-    (own off triangle rule w₀ rows (omega arith) r run c (omega arith) w now (at + c) nan (omega arith)
-    ∙ read-block (packed rows) off w₀ r c (at + c) (has-packed rows r c run more) (omega arith) (omega arith))
-    g)
-
--- T by a diagonal: cell r of column c
-pub divide-turn : (off rows cols pivots : ℕ) (entry : List Float) (c r at : ℕ) (w : List Float) (p : Float)
-    → c < cols → r < rows → at ≡ off + start (dense rows) c → off + sizeOf (columns rows cols) ≤ length entry
-    → (off + sizeOf (columns rows cols) ≤ pivots) ⊎ (pivots + sizeOf (diagonal cols) ≤ off)
-    → p ≡ block pivots (diagonal cols) entry c c
-    → Cells off (dense rows) (quotient off rows cols pivots) c entry r w
-    → Cells off (dense rows) (quotient off rows cols pivots) c entry (suc r) (set w (at + r) (div binary64 (getD w (at + r) nan) p))
-divide-turn off rows cols pivots entry c r at w p run more e fits apart f so w₀ q u =
-    let rule : ℕ → ℕ → Float = quotient off rows cols pivots w₀ in
-    let now : Done off (dense rows) rule w₀ c r w = so w₀ q u in
-    let g = same-block off (dense rows) rule w₀ cols (omega arith) c run 0 (omega arith) entry u pivots (diagonal cols) apart in
-    next off (dense rows) rule w₀ cols (omega arith) c run r (omega arith) w now more (at + r) (omega arith) (div binary64 (getD w (at + r) nan) p)
-    (ap₂ (ieee .over)
-    (own off (dense rows) rule w₀ cols (omega arith) c run r (omega arith) w now (at + r) nan (omega arith)
-    ∙ read-block (columns rows cols) off w₀ r c (at + r) (has-dense rows cols r c more run) (omega arith) (omega arith))
-    (f ∙ ap (λ (x : ℕ → ℕ → Float). x c c) g))
+use Rattle.rules.specs.Sums.{chain}
+use Rattle.rules.specs.Steps.{divide}
+use Rattle.rules.specs.Cholesky.{forward}
+use Rattle.rules.specs.Cholesky.{at as solved}
+use Rattle.rules.proofs.Exact.{forward-cell}
+use Rattle.blocks.specs.Blocks.{block}
+use Rattle.blocks.specs.Done.{Done}
+use Rattle.blocks.proofs.Laws.{any-default, read-block, has-dense, has-packed, has-diagonal, own, same-block, run-written, written}
+use Rattle.axpy.specs.Axpy.{at, run, along, products}
+use Rattle.axpy.proofs.Sums.{along-ext, less-along, summed}
+use Rattle.cross_block.specs.Blocks.{dividedColumns, solvedColumn}
 
 -- ---- a run of n doubles, each made of one that is loaded
 
@@ -112,26 +37,86 @@ as-block n src a h s e =
     is-fill (ieee .zero) s (λ r c. h (block src s a r c)) (tab n g) (omega (arith, length-tab n g))
     (λ r c k. getD-tab n g (placeOf s r c) (ieee .zero) (omega (arith, place-below s r c k)) ∙ ap h (sym (cell-part (ieee .zero) s src a r c k)))
 
-module _ (off n src : ℕ) (a w₀ : List Float) (h : Float → Float) (fits : off + n ≤ length w₀) (from : src + n ≤ length a) where
-  abbrev pub Made : ℕ → List Float → Type 0
-  Made i w = w ≡ store off (tab i (λ k. h (getD a (src + k) (ieee .zero)))) w₀
+module _ (off n src : ℕ) (w₀ : List Float) (h : Float → Float) (fits : off + n ≤ length w₀) (from : src + n ≤ length w₀) (apart : (off + n ≤ src) ⊎ (src + n ≤ off)) where
+  -- what each double becomes
+  abbrev pub made : ℕ → Float
+  made i = h (at w₀ (src + i))
 
-  pub made-none : Made 0 w₀
-  unfolding tab
-  made-none = sym (store-nil off w₀)
+  pub source-same : (i : ℕ) → i < n → (w : List Float) → w ≡ run off i made w₀ → at w (src + i) ≡ at w₀ (src + i)
+  source-same i more w so =
+      ap (λ (l : List Float). at l (src + i)) so
+      ∙ store-else off (tab i made) w₀ (omega (arith, length-tab i made)) nan (src + i)
+      (⊎-elim (λ k. inr (omega (arith, length-tab i made))) (λ k. inl (omega arith)) apart)
 
-  pub made-more : (i : ℕ) → i < n → (w : List Float) → Made i w → Made (suc i) (set w (off + i) (h (getD a (src + i) nan)))
-  unfolding tab
-  made-more i more w so =
-      let l : List Float = tab i (λ k. h (getD a (src + k) (ieee .zero))) in
-      let e : length l ≡ i = length-tab i (λ k. h (getD a (src + k) (ieee .zero))) in
-      ap₂ (λ (x : List Float) (k : ℕ). set x (off + k) (h (getD a (src + i) nan))) so (sym e)
-      ∙ store-one off l w₀ (omega arith) (h (getD a (src + i) nan)) (omega arith)
-      ∙ ap (λ (x : Float). store off (l ++ (h x ∷ [])) w₀) (any-default a (src + i) nan (ieee .zero) (omega arith))
+  pub as-shape : (w : List Float) → w ≡ run off n made w₀ → (s : Shape) → sizeOf s ≡ n → w ≡ store off (fill s (λ r c. h (block src s w₀ r c))) w₀
+  as-shape w so s e =
+      so
+      ∙ ap (λ (l : List Float). store off l w₀)
+      (tab-ext n made (λ i. h (getD w₀ (src + i) (ieee .zero))) (λ i l. ap h (any-default w₀ (src + i) nan (ieee .zero) (omega arith))) ∙ as-block n src w₀ h s e)
 
-  pub made-all : (i : ℕ) → i ≡ n → (w : List Float) → Made i w → EachShape n (λ s. w ≡ store off (fill s (λ r c. h (block src s a r c))) w₀)
-  made-all i e w so s q =
-      subst (λ (k : ℕ). Made k w) e so ∙ ap (λ (l : List Float). store off l w₀) (as-block n src a h s q)
+-- ---- T by a diagonal: one column more
+pub divide-turn : (off rows cols pivots : ℕ) (w₀ : List Float) → off + sizeOf (columns rows cols) ≤ length w₀ → pivots + sizeOf (diagonal cols) ≤ length w₀
+    → (off + sizeOf (columns rows cols) ≤ pivots) ⊎ (pivots + sizeOf (diagonal cols) ≤ off)
+    → (c : ℕ) → c < cols → (w w′ : List Float) → length w ≡ length w₀
+    → Done off (dense rows) (λ x r. divide ieee (block off (columns rows cols) w₀) (λ y. block pivots (diagonal cols) w₀ y y) r x) w₀ c 0 w
+    → (to : ℕ) → to ≡ off + start (dense rows) c → w′ ≡ run to rows (λ i. ieee .over (at w (to + i)) (at w (pivots + c))) w
+    → Done off (dense rows) (λ x r. divide ieee (block off (columns rows cols) w₀) (λ y. block pivots (diagonal cols) w₀ y y) r x) w₀ (suc c) 0 w′
+divide-turn off rows cols pivots w₀ fits fits′ apart c more w w′ long so to e then =
+    let rule : ℕ → ℕ → Float = λ x r. divide ieee (block off (columns rows cols) w₀) (λ y. block pivots (diagonal cols) w₀ y y) r x in
+    run-written off (dense rows) rule w₀ cols fits c more w w′ so to rows _ e refl
+    (λ i l.
+    ap₂ (ieee .over)
+    (own off (dense rows) rule w₀ cols fits c more 0 (omega arith) w so (to + i) nan (omega arith)
+    ∙ read-block (columns rows cols) off w₀ i c (to + i) (has-dense rows cols i c l more) fits (omega arith))
+    (read-block (diagonal cols) pivots w c c (pivots + c) (has-diagonal cols c more) (omega arith) (omega (arith, start-single c))
+    ∙ ap (λ (x : ℕ → ℕ → Float). x c c) (same-block off (dense rows) rule w₀ cols fits c more 0 (omega arith) w so pivots (diagonal cols) apart)))
+    then
+
+-- ---- T by a triangle
+pub column-solved : (w w′ acc acc₁ acc₂ : List Float) (to off rows row c : ℕ) → rows ≤ length acc → acc₁ ≡ run 0 rows (λ i. at w (to + i)) acc
+    → acc₂ ≡ products (ieee .minus) acc₁ rows w off rows w row 1 0 c → w′ ≡ run to rows (λ i. ieee .over (at acc₂ i) (at w (row + c))) w
+    → w′ ≡ solvedColumn to off rows row c w
+column-solved w w′ acc acc₁ acc₂ to off rows row c room first then so =
+    so
+    ∙ ap (λ (l : List Float). store to l w)
+    (tab-ext rows _ _
+    (λ i l. ap (λ (x : Float). ieee .over x (at w (row + c)))
+    (summed (ieee .minus) rows w off rows w row 1 0 c acc acc₁ acc₂ (λ j. at w (to + j)) room first then i l)))
+
+module _ (off rows cols l : ℕ) (w₀ : List Float) (fits : off + sizeOf (columns rows cols) ≤ length w₀) (fits′ : l + sizeOf (packed cols) ≤ length w₀)
+    (apart : (off + sizeOf (columns rows cols) ≤ l) ⊎ (l + sizeOf (packed cols) ≤ off)) where
+  -- cell r of column c, solved
+  abbrev pub solvedCell : ℕ → ℕ → Float
+  solvedCell c r = solved ieee (forward ieee (block off (columns rows cols) w₀ r) (block l (packed cols) w₀) cols) c
+
+  pub solve-turn : (c : ℕ) → c < cols → (w w′ : List Float) → length w ≡ length w₀ → Done off (dense rows) solvedCell w₀ c 0 w
+      → (to row : ℕ) → to ≡ off + start (dense rows) c → row ≡ l + start triangle c → w′ ≡ solvedColumn to off rows row c w
+      → Done off (dense rows) solvedCell w₀ (suc c) 0 w′
+  solve-turn c more w w′ long so to row e d then =
+      let same : block l (packed cols) w ≡ block l (packed cols) w₀ = same-block off (dense rows) solvedCell w₀ cols fits c more 0 (omega arith) w so l (packed cols) apart in
+      run-written off (dense rows) solvedCell w₀ cols fits c more w w′ so to rows _ e refl
+      (λ i h.
+      ap₂ (ieee .over)
+      (less-along (at w (to + i)) (block off (columns rows c) w i) (block row (columns 1 c) w 0) c
+      ∙ chain-same
+      (own off (dense rows) solvedCell w₀ cols fits c more 0 (omega arith) w so (to + i) nan (omega arith)
+      ∙ read-block (columns rows cols) off w₀ i c (to + i) (has-dense rows cols i c h more) fits (omega arith))
+      (λ y k.
+      sym (read-block (columns rows c) off w i y (off + (start (dense rows) y + i)) (has-dense rows c i y h k) (omega (arith, start-le (dense rows) c cols (omega arith))) refl)
+      ∙ written off (dense rows) solvedCell w₀ cols fits c (omega arith) w so y i (off + (start (dense rows) y + i)) k h refl)
+      (λ y k.
+      sym (read-block (columns 1 c) row w 0 y (row + y) (has-dense 1 c 0 y (omega arith) k) (omega (arith, start-dense 1 c, start-below triangle c cols more)) (omega (arith, start-dense 1 y)))
+      ∙ read-block (packed cols) l w c y (row + y) (has-packed cols c y more (omega arith)) (omega arith) (omega arith)
+      ∙ ap (λ (x : ℕ → ℕ → Float). x c y) same))
+      (read-block (packed cols) l w c c (row + c) (has-packed cols c c more (omega arith)) (omega arith) (omega arith)
+      ∙ ap (λ (x : ℕ → ℕ → Float). x c c) same)
+      ∙ sym (forward-cell ieee (block off (columns rows cols) w₀ i) (block l (packed cols) w₀) cols c more))
+      then
+    where
+      chain-same : {s s′ : Float} {a a′ b b′ : ℕ → Float} → s ≡ s′ → ((y : ℕ) → y < c → a y ≡ a′ y) → ((y : ℕ) → y < c → b y ≡ b′ y)
+          → chain ieee s a b c ≡ chain ieee s′ a′ b′ c
+      chain-same {s} {s′} {a} {a′} {b} {b′} p q r =
+          sym (less-along s a b c) ∙ along-ext (ieee .minus) s s′ a a′ b b′ c p q r ∙ less-along s′ a′ b′ c
 
 -- T of a sparse block by a diagonal: its entries are a dense block of one row
 pub divided-entries : (off cols pivots : ℕ) (row : ℕ → ℕ) (w : List Float)

@@ -1,71 +1,37 @@
--- What begin and the steps S and T write into a cross block or a triangle (document 01, Record 4), over the whole list w that holds the blocks:
--- the target's cells become the rule's, and every other double stays.
-use Prim.Native.Nat.{ℕ, _+_, _<_}
-use mathlib.Core.Path.{_≡_}
+-- What begin's scaling, T and the sparse S make of a cross block or of fixed rows (document 01, Record 4), over the whole list w that holds the
+-- blocks: the target's cells become the rule's, and every other double stays.
+use Prim.Native.Nat.{ℕ, _+_}
 use mathlib.Core.List.{List}
-use lib.ListN.{getD}
 use lib.Ieee.{Float}
-use Rattle.storage.specs.Shape.{Shape, packed, diagonal, columns, sizeOf, fill, cell}
-use Rattle.storage.specs.Runs.{tab}
-use Rattle.storage.specs.Part.{part, store}
+use Rattle.storage.specs.Shape.{Shape, packed, diagonal, columns, fill}
+use Rattle.storage.specs.Part.{store}
 use Rattle.rules.specs.Arithmetic.{ieee}
 use Rattle.rules.specs.Begin.{crossCell, fixedCell}
-use Rattle.rules.specs.Steps.{subtractDense, subtractLast, subtractSparse, divide}
-use Rattle.rules.specs.Solves.{lessDense, lessSparse, lessDenseT, lessSparseT}
+use Rattle.rules.specs.Steps.{subtractSparse, divide}
+use Rattle.rules.specs.Cholesky.{at, forward}
+use Rattle.blocks.specs.Blocks.{block, entry}
+use Rattle.axpy.specs.Axpy.{run, along}
+use Rattle.axpy.specs.Axpy.{at as double}
 
--- cell (r, c) of the block with shape s that lies from `off` on
-abbrev pub block : ℕ → Shape → List Float → ℕ → ℕ → Float
-block off s w = cell (ieee .zero) s (part off (sizeOf s) w)
+-- begin, a cross block: the loaded block at src times theta of the column block, then of the row block
+abbrev pub scaledTwice : Shape → ℕ → ℕ → Float → Float → List Float → List Float
+scaledTwice s off src column row w = store off (fill s (λ r c. crossCell ieee column row (block src s w r c))) w
 
--- entry x of the n entries that lie from `off` on: a sparse block, or a vector
-abbrev pub entry : ℕ → ℕ → List Float → ℕ → Float
-entry off n w x = getD (part off n w) x (ieee .zero)
-
--- the row of the entry of sparse column x, from the heading h
-abbrev pub rowFrom : List ℕ → ℕ → ℕ → ℕ
-rowFrom h first x = getD h (first + x) 0
-
--- each of n entries lies in one of m rows
-abbrev pub RowsBelow : List ℕ → ℕ → ℕ → ℕ → Type 0
-RowsBelow h first n m = (x : ℕ) → x < n → rowFrom h first x < m
-
--- for every shape that has n cells: what holds of a run of doubles cell by cell, holds of it as a dense block and as a list of entries
-abbrev pub EachShape : ℕ → (Shape → Type 0) → Type 0
-EachShape n P = (s : Shape) → sizeOf s ≡ n → P s
-
--- begin, a cross block: the loaded block at src of a, times theta of the column block, then of the row block
-abbrev pub scaledTwice : Shape → ℕ → ℕ → Float → Float → List Float → List Float → List Float
-scaledTwice s off src column row a w = store off (fill s (λ r c. crossCell ieee column row (block src s a r c))) w
-
--- begin, the fixed rows: the loaded block at src of a, times theta of the column block
-abbrev pub scaledOnce : Shape → ℕ → ℕ → Float → List Float → List Float → List Float
-scaledOnce s off src t a w = store off (fill s (λ r c. fixedCell ieee t (block src s a r c))) w
+-- begin, the fixed rows: the loaded block at src times theta of the column block
+abbrev pub scaledOnce : Shape → ℕ → ℕ → Float → List Float → List Float
+scaledOnce s off src t w = store off (fill s (λ r c. fixedCell ieee t (block src s w r c))) w
 
 -- T by a diagonal: each column divided by its pivot
 abbrev pub dividedColumns : (off rows cols pivots : ℕ) → List Float → List Float
 dividedColumns off rows cols pivots w =
     store off (fill (columns rows cols) (divide ieee (block off (columns rows cols) w) (λ c. block pivots (diagonal cols) w c c))) w
 
--- S of a dense block: less block a times block b transposed
-abbrev pub subtractedDense : (off rows cols a b inner : ℕ) → List Float → List Float
-subtractedDense off rows cols a b inner w =
+-- T by the packed factor at l: forward substitution in each row
+abbrev pub solvedRows : (off rows cols l : ℕ) → List Float → List Float
+solvedRows off rows cols l w =
     store off
-    (fill (columns rows cols)
-    (subtractDense ieee (block off (columns rows cols) w) (block a (columns rows inner) w) (block b (columns cols inner) w) inner))
+    (fill (columns rows cols) (λ r c. at ieee (forward ieee (block off (columns rows cols) w r) (block l (packed cols) w) cols) c))
     w
-
--- S of a triangle: less block a times itself transposed
-abbrev pub subtractedRank : (off rows a inner : ℕ) → List Float → List Float
-subtractedRank off rows a inner w =
-    store off
-    (fill (packed rows)
-    (subtractDense ieee (block off (packed rows) w) (block a (columns rows inner) w) (block a (columns rows inner) w) inner))
-    w
-
--- S(k,k,h): the same, product by product
-abbrev pub subtractedLast : (off rows a inner : ℕ) → List Float → List Float
-subtractedLast off rows a inner w =
-    store off (fill (packed rows) (subtractLast ieee (block off (packed rows) w) (block a (columns rows inner) w) inner)) w
 
 -- S(k,1,0) with a sparse block (1,0), whose entries are at v: less block a times it transposed, product by product
 abbrev pub subtractedSparse : (off rows cols a v inner : ℕ) (row : ℕ → ℕ) → List Float → List Float
@@ -75,22 +41,19 @@ subtractedSparse off rows cols a v inner row w =
     (subtractSparse ieee row (block off (columns rows cols) w) (block a (columns rows inner) w) (entry v inner w) inner))
     w
 
--- Record 7, a solve's vectors lie in the list v, the blocks in w: v of `rows` entries at off less the dense block at a times the `cols` entries at z
-abbrev pub lessProduct : (off rows z cols a : ℕ) → List Float → List Float → List Float
-lessProduct off rows z cols a w v =
-    store off (tab rows (lessDense ieee (block a (columns rows cols) w) (entry z cols v) (entry off rows v) cols)) v
+-- ---- one column, from `to` on
+-- column c solved with the columns before it, which lie from off on, and with row c of the factor, which lies from `row` on
+abbrev pub solvedColumn : (to off rows row c : ℕ) → List Float → List Float
+solvedColumn to off rows row c w =
+    run to rows
+    (λ i. ieee .over (along (ieee .minus) (double w (to + i)) (block off (columns rows c) w i) (block row (columns 1 c) w 0) c) (double w (row + c)))
+    w
 
--- v of `cols` entries at off less the transpose of the dense block at a times the `rows` entries at z
-abbrev pub lessProductT : (off cols z rows a : ℕ) → List Float → List Float → List Float
-lessProductT off cols z rows a w v =
-    store off (tab cols (lessDenseT ieee (block a (columns rows cols) w) (entry z rows v) (entry off cols v) rows)) v
+-- cell (r, c) of a sparse S after n of the inner columns
+abbrev pub lessSparseCell : (off rows cols a v inner : ℕ) (row : ℕ → ℕ) → List Float → ℕ → ℕ → ℕ → Float
+lessSparseCell off rows cols a v inner row w n =
+    subtractSparse ieee row (block off (columns rows cols) w) (block a (columns rows inner) w) (entry v inner w) n
 
--- v of `cols` entries at off less the transpose of the sparse block at x times the `rows` entries at z
-abbrev pub lessSparseProductT : (off cols z rows x : ℕ) (row : ℕ → ℕ) → List Float → List Float → List Float
-lessSparseProductT off cols z rows x row w v =
-    store off (tab cols (lessSparseT ieee row (entry x cols w) (entry z rows v) (entry off cols v))) v
-
--- v of `rows` entries at off less the sparse block at x times the `cols` entries at z, where a source of ±0 is skipped
-abbrev pub lessSparseProduct : (off rows z cols x : ℕ) (row : ℕ → ℕ) → List Float → List Float → List Float
-lessSparseProduct off rows z cols x row w v =
-    store off (tab rows (lessSparse ieee row (entry x cols w) (entry z cols v) (entry off rows v) cols)) v
+-- the `rows` doubles from `to` on less f times those from ax on
+abbrev pub lessColumn : (to rows ax : ℕ) (f : Float) → List Float → List Float
+lessColumn to rows ax f w = run to rows (λ r. ieee .minus (double w (to + r)) (ieee .times (double w (ax + r)) f)) w

@@ -60,6 +60,14 @@ module _ (A : Arithmetic) where
     unfolding rows
     row-stays j r h = List·getD-append (rows A b r) _ [] j (omega (arith, length-rows r))
 
+    -- however many follow it
+    pub rows-stay : (j m n : ℕ) → j < m → m ≤ n → getD (rows A b n) j [] ≡ getD (rows A b m) j []
+    rows-stay j m zero h k = absurd (omega arith)
+    rows-stay j m (suc n) h k =
+        by-cases (decLt n m)
+        (λ l. let e : m ≡ suc n = omega arith in rw e)
+        (λ l. row-stays j n (omega arith) ∙ rows-stay j m n h (omega arith))
+
     pub row-made : (r : ℕ) → getD (rows A b (suc r)) r [] ≡ rowOf A b (factor A b r) r
     unfolding rows
     row-made r = getD-at (rows A b r) _ [] [] r (length-rows r)

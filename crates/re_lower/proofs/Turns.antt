@@ -18,6 +18,7 @@ use Rattle.rules.specs.Arithmetic.{ieee}
 use Rattle.rules.specs.Sums.{chain, lessFrom, logsFrom}
 use Rattle.rules.specs.Cholesky.{at, forward, besidePivot, factor, radicand}
 use Rattle.re_lower.specs.Lower.{lower, pivot, chained}
+use Rattle.re_lower.specs.Band.{solvedTo}
 use Rattle.re_lower.proofs.Laws.{any-default, chain-ext, length-forward, forward-ext, rows-grow}
 
 -- a store from the start on
@@ -30,10 +31,6 @@ module _ {A : Type 0} (w l : List A) (fits : length l ≤ length w) (d : A) (i :
   first-behind h = store-behind 0 l w (omega arith) d i (omega arith)
 
 -- ---- a row left of its pivot
-
--- row r of the triangle that w₀ begins with, when c cells are solved
-abbrev pub solvedTo : List Float → ℕ → ℕ → List Float
-solvedTo w₀ from c = forward ieee (λ x. at ieee w₀ (from + x)) (lower w₀) c
 
 module _ (w₀ : List Float) (from r : ℕ) (e : from ≡ start triangle r) (fits : from + r ≤ length w₀) where
   many : (c : ℕ) → length (solvedTo w₀ from c) ≡ c

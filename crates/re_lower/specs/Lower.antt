@@ -1,10 +1,10 @@
 -- What the calls on one block make of its list (document 01, Record 4, C, T and the logarithms): the rules of `rules` at the shapes of `storage`.
 use Prim.Native.Nat.{ℕ, suc, _+_, _-_}
 use mathlib.Core.Path.{_≡_}
-use mathlib.Core.List.{List, _++_}
+use mathlib.Core.List.{List, [], _∷_, _++_}
 use mathlib.Core.Option.{Option, none, some}
 use lib.Ieee.{Float}
-use Rattle.storage.specs.Shape.{packed, diagonal, fill, cell}
+use Rattle.storage.specs.Shape.{packed, diagonal, fill, cell, placeOf}
 use Rattle.storage.specs.Part.{store}
 use Rattle.rules.specs.Arithmetic.{ieee}
 use Rattle.rules.specs.Sums.{chain, logsFrom}
@@ -16,6 +16,10 @@ use Rattle.re_lower.specs.declared.Pivots.the-variants.{Accepted, Refuse
 -- cell (r, c) of the packed triangle that a list begins with: where it lies does not depend on how many rows there are
 abbrev pub lower : List Float → ℕ → ℕ → Float
 lower t r c = cell (ieee .zero) (packed r) t r c
+
+-- the list with v as its cell (r, c)
+abbrev pub withCell : List Float → ℕ → ℕ → Float → List Float
+withCell t r c v = store (placeOf (packed r) r c) (v ∷ []) t
 
 -- pivot r of the diagonal that a list begins with
 abbrev pub pivot : List Float → ℕ → Float

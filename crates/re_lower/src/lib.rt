@@ -1,21 +1,11 @@
-// Cholesky, its logarithms and the substitutions on a lower triangle that is packed by rows, each in its place.
+// A lower triangle that is packed by rows, cell by cell, and C on a diagonal.
 
 ghost use mathlib.Core.Path.{_≡_};
 ghost use Prim.Native.Nat.{ℕ, _+_, _*_, _≤_, _<_};
 ghost use lib.ListN.{length};
 ghost use Rattle.storage.specs.Runs.{start, triangle};
 ghost use Rattle.rules.specs.Arithmetic.{ieee};
-ghost use Rattle.re_lower.specs.Lower.{
-  chained,
-  besideDone,
-  TriangleDone,
-  DiagonalDone,
-  logsOfTriangle,
-  logsOfDiagonal,
-  rowSolved,
-  belowPivot,
-  backSolved,
-};
+ghost use Rattle.re_lower.specs.Lower.{lower, withCell, chained, DiagonalDone};
 
 // Whether a block has a factor: yes, or no because of the pivot of this row.
 pub enum Pivots {
@@ -352,6 +342,23 @@ pub fn row_start(r: usize) -> usize
     STARTS[r]
 }
 
+// Cell (r, c) of a packed triangle.
+pub fn get(t: &[f64], r: usize, c: usize) -> f64
+    requires { ⌜ (c ≤ r) × (r ≤ 315) × (start triangle r + c < length (now t)) ⌝ }
+    ensures { λ v. ⌜ v ≡ lower (now (t .entry)) r c ⌝ }
+{
+    let at = row_start(r) + c;
+    t[at]
+}
+
+// v goes to cell (r, c) of a packed triangle.
+pub fn set(t: &mut [f64], r: usize, c: usize, v: f64)
+    requires { ⌜ (c ≤ r) × (r ≤ 315) × (start triangle r + c < length (now t)) ⌝ }
+    ensures { λ _. ⌜ now (t .exit) ≡ withCell (now (t .entry)) r c v ⌝ }
+{
+    t[row_start(r) + c] = v;
+}
+
 // A pivot's radicand is refused where it is at most 0; NaN passes.
 pub fn refused(x: f64) -> bool
     ensures { λ r. ⌜ r ≡ ieee .refused x ⌝ }
@@ -373,43 +380,6 @@ pub fn chain(t: &[f64], a: usize, b: usize, n: usize, s: f64) -> f64
     v
 }
 
-// Row r, which lies from `from` on, left of its pivot: solved in place with the rows above it.
-fn row_beside(t: &mut [f64], from: usize, r: usize)
-    requires { ⌜ (from ≡ start triangle r) × (from + r ≤ length (now t)) ⌝ }
-    ensures { λ _. ⌜ now (t .exit) ≡ besideDone (now (t .entry)) from r ⌝ }
-{
-    let mut c = 0;
-    let mut at = 0;
-    while c < r {
-        let v = t[from + c];
-        t[from + c] = chain(t, from, at, c, v) / t[at + c];
-        c += 1;
-        at += c;
-    }
-}
-
-// C: the packed triangle of n rows that t begins with becomes its factor, unless a pivot is refused.
-// Row by row: each cell has the operations of the reference's columns in their order.
-pub fn chol(t: &mut [f64], n: usize) -> Pivots
-    requires { ⌜ start triangle n ≤ length (now t) ⌝ }
-    ensures { λ p. ⌜ TriangleDone (now (t .entry)) (now (t .exit)) n p ⌝ }
-{
-    let mut r = 0;
-    let mut from = 0;
-    while r < n {
-        row_beside(t, from, r);
-        let v = t[from + r];
-        let d = chain(t, from, from, r, v);
-        if refused(d) {
-            return Pivots::Refused(r);
-        }
-        t[from + r] = root::sqrt(d);
-        r += 1;
-        from += r;
-    }
-    Pivots::Accepted
-}
-
 // C on a diagonal: its n cells become their roots, unless one is refused.
 pub fn chol_diagonal(t: &mut [f64], n: usize) -> Pivots
     requires { ⌜ n ≤ length (now t) ⌝ }
@@ -425,95 +395,4 @@ pub fn chol_diagonal(t: &mut [f64], n: usize) -> Pivots
         r += 1;
     }
     Pivots::Accepted
-}
-
-// s and the logarithms of the n pivots of a packed factor, one by one.
-pub fn log_pivots(t: &[f64], n: usize, s: f64) -> f64
-    requires { ⌜ start triangle n ≤ length (now t) ⌝ }
-    ensures { λ r. ⌜ r ≡ logsOfTriangle (now (t .entry)) n s ⌝ }
-{
-    let mut v = s;
-    let mut r = 0;
-    let mut from = 0;
-    while r < n {
-        v = v + logarithm::ln(t[from + r]);
-        r += 1;
-        from += r;
-    }
-    v
-}
-
-// s and the logarithms of the n pivots of a diagonal, one by one.
-pub fn log_diagonal(t: &[f64], n: usize, s: f64) -> f64
-    requires { ⌜ n ≤ length (now t) ⌝ }
-    ensures { λ r. ⌜ r ≡ logsOfDiagonal (now (t .entry)) n s ⌝ }
-{
-    let mut v = s;
-    let mut r = 0;
-    while r < n {
-        v = v + logarithm::ln(t[r]);
-        r += 1;
-    }
-    v
-}
-
-// s less the products of t[0], .., t[n - 1] with l[from], .., one by one.
-fn chain_row(t: &[f64], l: &[f64], from: usize, n: usize, s: f64) -> f64
-    requires { ⌜ (n ≤ length (now t)) × (from + n ≤ length (now l)) ⌝ }
-    ensures { λ r. ⌜ r ≡ chained s (now (t .entry)) 0 (now (l .entry)) from n ⌝ }
-{
-    let mut v = s;
-    let mut y = 0;
-    while y < n {
-        v = v - t[y] * l[from + y];
-        y += 1;
-    }
-    v
-}
-
-// T on one row: the n cells that t begins with are solved in place with the packed factor l.
-pub fn solve_row(t: &mut [f64], l: &[f64], n: usize)
-    requires { ⌜ (n ≤ length (now t)) × (start triangle n ≤ length (now l)) ⌝ }
-    ensures { λ _. ⌜ now (t .exit) ≡ rowSolved (now (t .entry)) (now (l .entry)) n ⌝ }
-{
-    let mut x = 0;
-    let mut from = 0;
-    while x < n {
-        let v = t[x];
-        t[x] = chain_row(t, l, from, x, v) / l[from + x];
-        x += 1;
-        from += x;
-    }
-}
-
-// s less the products of column i of the packed factor l, below its pivot, with t[i + 1], .., t[n - 1], one by one. Row i + 1 starts at `from`.
-fn chain_column(t: &[f64], l: &[f64], i: usize, from: usize, n: usize, s: f64) -> f64
-    requires { ⌜ (i < n) × (n ≤ length (now t)) × (start triangle n ≤ length (now l)) × (from ≡ start triangle (i + 1)) ⌝ }
-    ensures { λ r. ⌜ r ≡ belowPivot s (now (l .entry)) (now (t .entry)) i n ⌝ }
-{
-    let mut v = s;
-    let mut q = i + 1;
-    let mut row = from;
-    while q < n {
-        v = v - l[row + i] * t[q];
-        q += 1;
-        row += q;
-    }
-    v
-}
-
-// Backward substitution: the n cells that t begins with are solved in place with the transpose of the packed factor l, the last first.
-pub fn backward(t: &mut [f64], l: &[f64], n: usize)
-    requires { ⌜ (n ≤ length (now t)) × (start triangle n ≤ length (now l)) ⌝ }
-    ensures { λ _. ⌜ now (t .exit) ≡ backSolved (now (t .entry)) (now (l .entry)) n ⌝ }
-{
-    let mut i = n;
-    let mut from = n * (n + 1) / 2;
-    while i > 0 {
-        let below = from;
-        from -= i;
-        i -= 1;
-        let v = t[i];
-        t[i] = chain_column(t, l, i, below, n, v) / l[from + i];
-    }
 }

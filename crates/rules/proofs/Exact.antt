@@ -46,7 +46,7 @@ module _ (A : Arithmetic) where
     unfolding forward
     forward-last n = seam (forward A b L n) _ (A .zero) n (length-forward n)
 
-    forward-cell : (n c : ℕ) → c < n → at A (forward A b L n) c ≡ A .over (chain A (b c) (at A (forward A b L n)) (L c) c) (L c c)
+    pub forward-cell : (n c : ℕ) → c < n → at A (forward A b L n) c ≡ A .over (chain A (b c) (at A (forward A b L n)) (L c) c) (L c c)
     forward-cell zero c h = absurd (omega (arith, h))
     forward-cell (suc n) c h =
         by-cases (decLt c n)

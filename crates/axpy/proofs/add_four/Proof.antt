@@ -1,0 +1,149 @@
+-- `axpy::add_four`: the first i of the sums have their products.
+use borrow.Author.Needs.{needs}
+use mathlib.Core.Path.{_≡_, refl, ap}
+use Prim.Native.Nat.{ℕ, _≤_, _-_, _+_}
+use native.Mathlib.Omega.{arith}
+use native.Mathlib.Numerals.{add-one}
+use lib.ListN.{length, length-set}
+use lib.Ieee.{Float}
+use Rattle.rules.specs.Arithmetic.{ieee}
+use Rattle.axpy.specs.Axpy.{at, run, oneMore}
+use Rattle.axpy.proofs.Loops.{made-none, made-next, made-all}
+use Rattle.axpy.proofs.add_four.Statement.{statement}
+use Rattle.axpy.proofs.add_four.Tie as tie
+use Rattle.axpy.proofs.add_four.Reads as reads
+use Rattle.axpy.proofs.add_four.Lts as lts
+
+abbrev Inv-loop : tie.InvT-loop
+Inv-loop acc₀ n w p p1 p2 p3 f f1 f2 f3 i₀ acc i =
+    (i ≤ n) × (length acc ≡ length acc₀) × (acc ≡ run 0 i (oneMore (ieee .plus) w p3 f3 (oneMore (ieee .plus) w p2 f2 (oneMore (ieee .plus) w p1 f1 (oneMore (ieee .plus) w p f (at acc₀))))) acc₀)
+
+abbrev μ-loop : tie.MeasureT-loop
+μ-loop acc₀ n w p p1 p2 p3 f f1 f2 f3 i₀ acc i = n - i
+
+-- src/lib.rt:40:5
+loop-holds : tie.Need-loop-holds Inv-loop μ-loop
+loop-holds c =
+    let a = c .args in
+    (omega arith, refl, made-none 0 (a .n) (oneMore (ieee .plus) (a .w .now) (a .p3) (a .f3) (oneMore (ieee .plus) (a .w .now) (a .p2) (a .f2) (oneMore (ieee .plus) (a .w .now) (a .p1) (a .f1) (oneMore (ieee .plus) (a .w .now) (a .p) (a .f) (at (a .acc .now)))))) (a .acc .now) (omega arith))
+
+-- src/lib.rt:41:18
+mul-acc : tie.Need-mul-acc Inv-loop μ-loop
+mul-acc c = search needs
+
+-- src/lib.rt:41:18
+slice-read-acc : tie.Need-slice-read-acc Inv-loop μ-loop
+slice-read-acc c = search needs
+
+-- src/lib.rt:41:29
+add-acc : tie.Need-add-acc Inv-loop μ-loop
+add-acc c = search needs
+
+-- src/lib.rt:41:27
+mul-acc-2 : tie.Need-mul-acc-2 Inv-loop μ-loop
+mul-acc-2 c = search needs
+
+-- src/lib.rt:41:27
+shared-slice-read-acc : tie.Need-shared-slice-read-acc Inv-loop μ-loop
+shared-slice-read-acc c = search needs
+
+-- src/lib.rt:41:44
+add-acc-2 : tie.Need-add-acc-2 Inv-loop μ-loop
+add-acc-2 c = search needs
+
+-- src/lib.rt:41:42
+mul-acc-3 : tie.Need-mul-acc-3 Inv-loop μ-loop
+mul-acc-3 c = search needs
+
+-- src/lib.rt:41:42
+shared-slice-read-acc-2 : tie.Need-shared-slice-read-acc-2 Inv-loop μ-loop
+shared-slice-read-acc-2 c = search needs
+
+-- src/lib.rt:41:61
+add-acc-3 : tie.Need-add-acc-3 Inv-loop μ-loop
+add-acc-3 c = search needs
+
+-- src/lib.rt:41:59
+mul-acc-4 : tie.Need-mul-acc-4 Inv-loop μ-loop
+mul-acc-4 c = search needs
+
+-- src/lib.rt:41:59
+shared-slice-read-acc-3 : tie.Need-shared-slice-read-acc-3 Inv-loop μ-loop
+shared-slice-read-acc-3 c = search needs
+
+-- src/lib.rt:41:78
+add-acc-4 : tie.Need-add-acc-4 Inv-loop μ-loop
+add-acc-4 c = search needs
+
+-- src/lib.rt:41:76
+mul-acc-5 : tie.Need-mul-acc-5 Inv-loop μ-loop
+mul-acc-5 c = search needs
+
+-- src/lib.rt:41:76
+shared-slice-read-acc-4 : tie.Need-shared-slice-read-acc-4 Inv-loop μ-loop
+shared-slice-read-acc-4 c = search needs
+
+-- src/lib.rt:41:9
+mul-acc-6 : tie.Need-mul-acc-6 Inv-loop μ-loop
+mul-acc-6 c = search needs
+
+-- src/lib.rt:41:9
+slice-write-acc : tie.Need-slice-write-acc Inv-loop μ-loop
+slice-write-acc c = search needs
+
+-- src/lib.rt:42:9
+add-i : tie.Need-add-i Inv-loop μ-loop
+add-i c = search needs
+
+-- src/lib.rt:40:5
+loop-less : tie.Need-loop-less Inv-loop μ-loop
+loop-less c = search needs
+
+-- src/lib.rt:40:5
+loop-again : tie.Need-loop-again Inv-loop μ-loop
+loop-again c =
+    let a = c .before .before .before .before .before .before .before .args in
+    let l = c .before .before .before .before .before .before .loop in
+    let t = made-next 0 (a .n) (oneMore (ieee .plus) (a .w .now) (a .p3) (a .f3) (oneMore (ieee .plus) (a .w .now) (a .p2) (a .f2) (oneMore (ieee .plus) (a .w .now) (a .p1) (a .f1) (oneMore (ieee .plus) (a .w .now) (a .p) (a .f) (at (a .acc .now)))))) (a .acc .now) (omega arith) (l .i) (omega arith) (l .acc) (l .inv .2) (omega arith) (l .i) (omega arith)
+    (λ (s : Float). oneMore (ieee .plus) (a .w .now) (a .p3) (a .f3) (oneMore (ieee .plus) (a .w .now) (a .p2) (a .f2) (oneMore (ieee .plus) (a .w .now) (a .p1) (a .f1) (oneMore (ieee .plus) (a .w .now) (a .p) (a .f) (λ i. s)))) (l .i)) refl in
+    (omega arith, simp length-set (omega arith), rw add-one t)
+
+-- src/lib.rt:23:1
+same-length : tie.Need-same-length Inv-loop μ-loop
+same-length c = search needs
+
+-- src/lib.rt:23:1
+returns : tie.Need-returns Inv-loop μ-loop
+returns c =
+    let a = c .before .before .args in
+    let l = c .before .loop in
+    made-all 0 (a .n) (oneMore (ieee .plus) (a .w .now) (a .p3) (a .f3) (oneMore (ieee .plus) (a .w .now) (a .p2) (a .f2) (oneMore (ieee .plus) (a .w .now) (a .p1) (a .f1) (oneMore (ieee .plus) (a .w .now) (a .p) (a .f) (at (a .acc .now)))))) (a .acc .now) (omega arith) (l .i) (omega arith) (l .acc) (l .inv .2) (omega arith)
+
+pub add-four-spec : {M : Type 1} → statement M
+add-four-spec =
+    tie.close
+    (tie.spec
+    Inv-loop
+    μ-loop
+    loop-holds
+    mul-acc
+    slice-read-acc
+    add-acc
+    mul-acc-2
+    shared-slice-read-acc
+    add-acc-2
+    mul-acc-3
+    shared-slice-read-acc-2
+    add-acc-3
+    mul-acc-4
+    shared-slice-read-acc-3
+    add-acc-4
+    mul-acc-5
+    shared-slice-read-acc-4
+    mul-acc-6
+    slice-write-acc
+    add-i
+    loop-less
+    loop-again
+    same-length
+    returns)

@@ -1,0 +1,202 @@
+// A cross block times a vector (document 01, Record 7; the Rust's `cross_matvec_sub`, `cross_matvec_t_sub`). The solve's vectors lie in the list v,
+// the blocks in w: the target's entries are the rule's, every other double stays. A dense block has at most 316 rows.
+ghost use mathlib.Core.Path.{_≡_};
+ghost use mathlib.Core.Logic.{_⊎_};
+ghost use Prim.Native.Nat.{_+_, _≤_, _<_};
+ghost use lib.ListN.{length};
+ghost use Rattle.storage.specs.Shape.{columns, sizeOf};
+ghost use Rattle.blocks.specs.Blocks.{rowFrom, RowsBelow};
+ghost use Rattle.matvec.specs.Products.{lessProduct, lessProductT, lessSparseProductT, lessSparseProduct, lessColumns, lessEntry};
+
+// The sums of the rows, side by side in acc, then the entries at off.
+fn less_sums(
+    v: &mut [f64],
+    acc: &mut [f64],
+    off: usize,
+    rows: usize,
+    z: usize,
+    cols: usize,
+    w: &[f64],
+    a: usize,
+)
+    requires { ⌜ (rows ≤ length (now acc)) × (off + rows ≤ length (now v)) × (z + cols ≤ length (now v)) × (a + sizeOf (columns rows cols) ≤ length (now w)) ⌝ }
+    ensures { λ _. ⌜ now (v .exit) ≡ lessProduct off rows z cols a (now (w .entry)) (now (v .entry)) ⌝ }
+{
+    runs::clear(acc, rows);
+    axpy::add_products(acc, rows, w, a, rows, v, z, 1, 0, cols);
+    runs::less(v, off, off + rows, 0, rows, acc);
+}
+
+// Going forward: the vector at off less a dense block times the vector at z.
+pub fn less_product(
+    v: &mut [f64],
+    off: usize,
+    rows: usize,
+    z: usize,
+    cols: usize,
+    w: &[f64],
+    a: usize,
+)
+    requires { ⌜ (rows ≤ 316) × (off + rows ≤ length (now v)) × (z + cols ≤ length (now v)) × (a + sizeOf (columns rows cols) ≤ length (now w)) ⌝ }
+    requires { ⌜ (off + rows ≤ z) ⊎ (z + cols ≤ off) ⌝ }
+    ensures { λ _. ⌜ now (v .exit) ≡ lessProduct off rows z cols a (now (w .entry)) (now (v .entry)) ⌝ }
+{
+    let mut acc = [0.0; 316];
+    less_sums(v, &mut acc, off, rows, z, cols, w, a);
+}
+
+// The entry at `to` less the product of the column at p with the vector at z.
+fn less_one(v: &mut [f64], to: usize, w: &[f64], p: usize, rows: usize, z: usize)
+    requires { ⌜ (to + 1 ≤ length (now v)) × (z + rows ≤ length (now v)) × (p + rows ≤ length (now w)) ⌝ }
+    ensures { λ _. ⌜ now (v .exit) ≡ lessColumns to 1 p rows z (now (w .entry)) (now (v .entry)) ⌝ }
+{
+    let mut s = 0.0;
+    let mut r = 0;
+    while r < rows {
+        s = s + w[p + r] * v[z + r];
+        r += 1;
+    }
+    v[to] = v[to] - s;
+}
+
+// Four entries: a sum waits for its last product, so four sums run side by side.
+fn less_four(v: &mut [f64], to: usize, w: &[f64], p: usize, rows: usize, z: usize)
+    requires { ⌜ (to + 4 ≤ length (now v)) × (z + rows ≤ length (now v)) × (p + rows + rows + rows + rows ≤ length (now w)) ⌝ }
+    ensures { λ _. ⌜ now (v .exit) ≡ lessColumns to 4 p rows z (now (w .entry)) (now (v .entry)) ⌝ }
+{
+    let p1 = p + rows;
+    let p2 = p1 + rows;
+    let p3 = p2 + rows;
+    let mut s = 0.0;
+    let mut s1 = 0.0;
+    let mut s2 = 0.0;
+    let mut s3 = 0.0;
+    let mut r = 0;
+    while r < rows {
+        let f = v[z + r];
+        s = s + w[p + r] * f;
+        s1 = s1 + w[p1 + r] * f;
+        s2 = s2 + w[p2 + r] * f;
+        s3 = s3 + w[p3 + r] * f;
+        r += 1;
+    }
+    v[to] = v[to] - s;
+    v[to + 1] = v[to + 1] - s1;
+    v[to + 2] = v[to + 2] - s2;
+    v[to + 3] = v[to + 3] - s3;
+}
+
+// Some of the columns that are left, four at once or one: how many.
+fn less_some(
+    v: &mut [f64],
+    to: usize,
+    w: &[f64],
+    p: usize,
+    rows: usize,
+    z: usize,
+    left: usize,
+) -> usize
+    requires { ⌜ (0 < left) × (to + left ≤ length (now v)) × (z + rows ≤ length (now v)) × (p + sizeOf (columns rows left) ≤ length (now w)) ⌝ }
+    ensures { λ k. ⌜ (0 < k) × (k ≤ left) × (now (v .exit) ≡ lessColumns to k p rows z (now (w .entry)) (now (v .entry))) ⌝ }
+{
+    if left < 4 {
+        less_one(v, to, w, p, rows, z);
+        return 1;
+    }
+    less_four(v, to, w, p, rows, z);
+    4
+}
+
+// Going backward: the vector at off less the transpose of a dense block times the vector at z.
+pub fn less_product_t(
+    v: &mut [f64],
+    off: usize,
+    cols: usize,
+    z: usize,
+    rows: usize,
+    w: &[f64],
+    a: usize,
+)
+    requires { ⌜ (off + cols ≤ length (now v)) × (z + rows ≤ length (now v)) × (a + sizeOf (columns rows cols) ≤ length (now w)) ⌝ }
+    requires { ⌜ (off + cols ≤ z) ⊎ (z + rows ≤ off) ⌝ }
+    ensures { λ _. ⌜ now (v .exit) ≡ lessProductT off cols z rows a (now (w .entry)) (now (v .entry)) ⌝ }
+{
+    let mut c = 0;
+    let mut p = a;
+    while c < cols {
+        let k = less_some(v, off + c, w, p, rows, z, cols - c);
+        p += k * rows;
+        c += k;
+    }
+}
+
+// A row's number as an index.
+fn wide(x: u32) -> usize
+    ensures { λ r. ⌜ r ≡ x ⌝ }
+{
+    x as usize
+}
+
+// Going backward: the vector at off less the transpose of a sparse block, whose entries are at x of w, times the vector at z.
+pub fn less_sparse_t(
+    v: &mut [f64],
+    off: usize,
+    cols: usize,
+    z: usize,
+    rows: usize,
+    w: &[f64],
+    x: usize,
+    h: &[u32],
+    first: usize,
+)
+    requires { ⌜ (off + cols ≤ length (now v)) × (z + rows ≤ length (now v)) × (x + cols ≤ length (now w)) × (first + cols ≤ length (now h)) ⌝ }
+    requires { ⌜ (off + cols ≤ z) ⊎ (z + rows ≤ off) ⌝ }
+    requires { ⌜ RowsBelow (now h) first cols rows ⌝ }
+    ensures { λ _. ⌜ now (v .exit) ≡ lessSparseProductT off cols z rows x (rowFrom (now (h .entry)) first) (now (w .entry)) (now (v .entry)) ⌝ }
+{
+    let mut c = 0;
+    while c < cols {
+        let r = wide(h[first + c]);
+        let s = 0.0 + w[x + c] * v[z + r];
+        v[off + c] = v[off + c] - s;
+        c += 1;
+    }
+}
+
+// v[at] less x times e, unless e is ±0.
+fn less_entry(v: &mut [f64], at: usize, x: f64, e: f64)
+    requires { ⌜ at < length (now v) ⌝ }
+    ensures { λ _. ⌜ now (v .exit) ≡ lessEntry at x e (now (v .entry)) ⌝ }
+{
+    if e == 0.0 {
+        return;
+    }
+    v[at] = v[at] - x * e;
+}
+
+// Going forward: the vector at off less a sparse block, whose entries are at x of w, times the vector at z, product by product.
+pub fn less_sparse(
+    v: &mut [f64],
+    off: usize,
+    rows: usize,
+    z: usize,
+    cols: usize,
+    w: &[f64],
+    x: usize,
+    h: &[u32],
+    first: usize,
+)
+    requires { ⌜ (off + rows ≤ length (now v)) × (z + cols ≤ length (now v)) × (x + cols ≤ length (now w)) × (first + cols ≤ length (now h)) ⌝ }
+    requires { ⌜ (off + rows ≤ z) ⊎ (z + cols ≤ off) ⌝ }
+    requires { ⌜ RowsBelow (now h) first cols rows ⌝ }
+    ensures { λ _. ⌜ now (v .exit) ≡ lessSparseProduct off rows z cols x (rowFrom (now (h .entry)) first) (now (w .entry)) (now (v .entry)) ⌝ }
+{
+    let mut c = 0;
+    while c < cols {
+        let r = wide(h[first + c]);
+        let y = w[x + c];
+        let e = v[z + c];
+        less_entry(v, off + r, y, e);
+        c += 1;
+    }
+}

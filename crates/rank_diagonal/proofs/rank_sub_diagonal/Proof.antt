@@ -1,0 +1,45 @@
+-- `rank_diagonal::rank_sub_diagonal`: the sums start at 0.0, and are over all columns where they are subtracted.
+use lib.ListN.{getD-replicate}
+use lib.Ieee.{nan}
+use native.Mathlib.Omega.{arith}
+use Rattle.storage.specs.Shape.{columns}
+use Rattle.storage.proofs.Starts.{start-single}
+use Rattle.rules.specs.Arithmetic.{ieee}
+use Rattle.rank_diagonal.proofs.Chunks.{rows-once}
+use borrow.Author.Needs.{needs}
+use Rattle.rank_diagonal.proofs.rank_sub_diagonal.Statement.{statement}
+use Rattle.rank_diagonal.proofs.rank_sub_diagonal.Tie as tie
+
+slice-aggregate-sum-columns : tie.Need-slice-aggregate-sum-columns
+slice-aggregate-sum-columns c = search needs
+
+sum-columns-requires : tie.Need-sum-columns-requires
+sum-columns-requires c κs = (search needs, λ i h. getD-replicate 316 i (ieee .zero) nan (omega arith))
+
+slice-aggregate-less-sums : tie.Need-slice-aggregate-less-sums
+slice-aggregate-less-sums c = search needs
+
+less-sums-requires : tie.Need-less-sums-requires
+less-sums-requires c κs = omega (arith, start-single (c .before .before .before .before .before .before .before .args .n))
+
+same-length : tie.Need-same-length
+same-length c = search needs
+
+returns : tie.Need-returns
+returns c =
+    let p = c .before .before .before .before .before .before .before .before .before .before in
+    let a = p .args in
+    let sums = c .before .before .before .before .before .before .sum-columns in
+    rows-once (a .off) (a .n) (columns (a .n) (a .inner)) (a .a) (a .inner) (a .src) (a .w .now) (omega arith) (p .pre .1 .0) (p .pre .1 .1)
+    (sums .last .0) (sums .ensures) (c .before .before .less-sums .last .0) (c .before .before .less-sums .ensures)
+
+pub rank-sub-diagonal-spec : {M : Type 1} → statement M
+rank-sub-diagonal-spec =
+    tie.close
+    (tie.spec
+    slice-aggregate-sum-columns
+    sum-columns-requires
+    slice-aggregate-less-sums
+    less-sums-requires
+    same-length
+    returns)
