@@ -1,39 +1,12 @@
-// Begin's scaling, T, and S with a sparse block (document 01, Record 4; the Rust's `CrossBlock`), each on the whole list of doubles: the target's
-// cells are the rule's, every other double stays. Rows of cross blocks and fixed rows go through the same functions.
+// T (document 01, Record 4; the Rust's `trisolve_*`), on the whole list of doubles: the target's cells are the rule's, every other double stays.
+// Rows of cross blocks and fixed rows go through the same functions.
 ghost use mathlib.Core.Path.{_≡_};
 ghost use mathlib.Core.Logic.{_⊎_};
 ghost use Prim.Native.Nat.{_+_, _≤_, _<_};
 ghost use lib.ListN.{length};
 ghost use Rattle.storage.specs.Runs.{start, triangle};
 ghost use Rattle.storage.specs.Shape.{packed, diagonal, columns, sizeOf};
-ghost use Rattle.blocks.specs.Blocks.{EachShape, rowFrom, RowsBelow};
-ghost use Rattle.cross_block.specs.Blocks.{scaledTwice, scaledOnce, dividedColumns, solvedRows, subtractedSparse, solvedColumn, lessColumn};
-
-// Begin, a cross block of n doubles: the loaded ones times theta of the column block, then times theta of the row block.
-pub fn scale_twice(w: &mut [f64], off: usize, src: usize, n: usize, column: f64, row: f64)
-    requires { ⌜ (off + n ≤ length (now w)) × (src + n ≤ length (now w)) ⌝ }
-    requires { ⌜ (off + n ≤ src) ⊎ (src + n ≤ off) ⌝ }
-    ensures { λ _. ⌜ EachShape n (λ s. now (w .exit) ≡ scaledTwice s off src column row (now (w .entry))) ⌝ }
-{
-    let mut i = 0;
-    while i < n {
-        w[off + i] = w[src + i] * column * row;
-        i += 1;
-    }
-}
-
-// Begin, fixed rows of n doubles: the loaded ones times theta of the column block.
-pub fn scale_once(w: &mut [f64], off: usize, src: usize, n: usize, t: f64)
-    requires { ⌜ (off + n ≤ length (now w)) × (src + n ≤ length (now w)) ⌝ }
-    requires { ⌜ (off + n ≤ src) ⊎ (src + n ≤ off) ⌝ }
-    ensures { λ _. ⌜ EachShape n (λ s. now (w .exit) ≡ scaledOnce s off src t (now (w .entry))) ⌝ }
-{
-    let mut i = 0;
-    while i < n {
-        w[off + i] = w[src + i] * t;
-        i += 1;
-    }
-}
+ghost use Rattle.cross_block.specs.Blocks.{dividedColumns, solvedRows, solvedColumn};
 
 // T by a diagonal factor: each column of the dense block at off divided by its pivot.
 pub fn divide_columns(w: &mut [f64], off: usize, rows: usize, cols: usize, pivots: usize)
@@ -88,61 +61,5 @@ pub fn solve_rows(w: &mut [f64], off: usize, rows: usize, cols: usize, l: usize)
         c += 1;
         to += rows;
         row += c;
-    }
-}
-
-// A row's number as an index.
-fn wide(x: u32) -> usize
-    ensures { λ r. ⌜ r ≡ x ⌝ }
-{
-    x as usize
-}
-
-// A column of the block at off, from `to` on within it, less f times the one at ax.
-fn less_column(
-    w: &mut [f64],
-    acc: &mut [f64],
-    off: usize,
-    end: usize,
-    to: usize,
-    rows: usize,
-    ax: usize,
-    f: f64,
-)
-    requires { ⌜ (rows ≤ length (now acc)) × (off + (to + rows) ≤ end) × (end ≤ length (now w)) × (ax + rows ≤ length (now w)) ⌝ }
-    ensures { λ _. ⌜ now (w .exit) ≡ lessColumn (off + to) rows ax f (now (w .entry)) ⌝ }
-{
-    runs::read(acc, rows, w, ax);
-    runs::less_times(w, off, end, to, rows, acc, f);
-}
-
-// S(k,1,0) of the fixed rows at off with a sparse block whose entries are at v: product by product.
-pub fn subtract_sparse(
-    w: &mut [f64],
-    off: usize,
-    rows: usize,
-    cols: usize,
-    a: usize,
-    v: usize,
-    inner: usize,
-    h: &[u32],
-    first: usize,
-)
-    requires { ⌜ (rows ≤ 316) × (off + sizeOf (columns rows cols) ≤ length (now w)) × (a + sizeOf (columns rows inner) ≤ length (now w)) × (v + inner ≤ length (now w)) × (first + inner ≤ length (now h)) ⌝ }
-    requires { ⌜ (off + sizeOf (columns rows cols) ≤ a) ⊎ (a + sizeOf (columns rows inner) ≤ off) ⌝ }
-    requires { ⌜ (off + sizeOf (columns rows cols) ≤ v) ⊎ (v + inner ≤ off) ⌝ }
-    requires { ⌜ RowsBelow (now h) first inner cols ⌝ }
-    ensures { λ _. ⌜ now (w .exit) ≡ subtractedSparse off rows cols a v inner (rowFrom (now (h .entry)) first) (now (w .entry)) ⌝ }
-{
-    let end = off + cols * rows;
-    let mut acc = [0.0; 316];
-    let mut x = 0;
-    let mut ax = a;
-    while x < inner {
-        let c = wide(h[first + x]);
-        let f = w[v + x];
-        less_column(w, &mut acc, off, end, c * rows, rows, ax, f);
-        x += 1;
-        ax += rows;
     }
 }

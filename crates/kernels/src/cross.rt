@@ -63,7 +63,7 @@ pub fn subtract_sparse(w: &mut [f64], h: &[u32], x: Numbers) -> Answer
     if sizes::bad_rows(h, first, inner, cols) {
         return answer::out_of_form();
     }
-    cross_block::subtract_sparse(w, off, rows, cols, a, v, inner, h, first);
+    sparse_schur::subtract_sparse(w, off, rows, cols, a, v, inner, h, first);
     answer::nothing()
 }
 
@@ -78,9 +78,9 @@ pub fn scale(f: u64, w: &mut [f64], x: Numbers, s: f64, t: f64) -> Answer
         return answer::out_of_form();
     }
     if f == 10 {
-        cross_block::scale_twice(w, off, src, n, s, t);
+        scaling::scale_twice(w, off, src, n, s, t);
         return answer::nothing();
     }
-    cross_block::scale_once(w, off, src, n, s);
+    scaling::scale_once(w, off, src, n, s);
     answer::nothing()
 }

@@ -15,7 +15,7 @@ pub fn init(w: &mut [f64], x: Numbers, t: f64) -> Answer
     if sizes::clash(w.len(), off, size, src, n) {
         return answer::out_of_form();
     }
-    re_factor::init(w, off, n, src, t);
+    diagonal_init::init(w, off, n, src, t);
     answer::nothing()
 }
 
@@ -28,7 +28,7 @@ pub fn init_diagonal(w: &mut [f64], x: Numbers, t: f64) -> Answer
     if sizes::clash(w.len(), off, n, src, n) {
         return answer::out_of_form();
     }
-    re_factor::init_diagonal(w, off, n, src, t);
+    diagonal_init::init_diagonal(w, off, n, src, t);
     answer::nothing()
 }
 
@@ -82,10 +82,10 @@ pub fn solve(f: u64, w: &mut [f64], v: &[f64], x: Numbers) -> Answer
         return answer::out_of_form();
     }
     if f == 28 {
-        re_factor::forward(w, z, v, off, n);
+        block_solve::forward(w, z, v, off, n);
         return answer::nothing();
     }
-    re_factor::backward(w, z, v, off, n);
+    block_solve::backward(w, z, v, off, n);
     answer::nothing()
 }
 
@@ -101,6 +101,6 @@ pub fn divide(w: &mut [f64], v: &[f64], x: Numbers) -> Answer
     if sizes::beyond(v.len(), off, n) {
         return answer::out_of_form();
     }
-    re_factor::divide(w, z, v, off, n);
+    block_solve::divide(w, z, v, off, n);
     answer::nothing()
 }

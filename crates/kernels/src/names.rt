@@ -36,13 +36,13 @@ fn print_cross(f: usize) {
             io::write_all(STDOUT_FILENO, b"cross_block::divide_columns");
         }
         9 => {
-            io::write_all(STDOUT_FILENO, b"cross_block::subtract_sparse");
+            io::write_all(STDOUT_FILENO, b"sparse_schur::subtract_sparse");
         }
         10 => {
-            io::write_all(STDOUT_FILENO, b"cross_block::scale_twice");
+            io::write_all(STDOUT_FILENO, b"scaling::scale_twice");
         }
         11 => {
-            io::write_all(STDOUT_FILENO, b"cross_block::scale_once");
+            io::write_all(STDOUT_FILENO, b"scaling::scale_once");
         }
         _ => {
             io::write_all(STDOUT_FILENO, b"cross_block::solve_rows");
@@ -73,10 +73,10 @@ fn print_vectors(f: usize) {
             io::write_all(STDOUT_FILENO, b"matvec::less_product_t");
         }
         18 => {
-            io::write_all(STDOUT_FILENO, b"matvec::less_sparse");
+            io::write_all(STDOUT_FILENO, b"sparse_matvec::less_sparse");
         }
         _ => {
-            io::write_all(STDOUT_FILENO, b"matvec::less_sparse_t");
+            io::write_all(STDOUT_FILENO, b"sparse_matvec::less_sparse_t");
         }
     }
 }
@@ -84,10 +84,10 @@ fn print_vectors(f: usize) {
 fn print_factor(f: usize) {
     match f {
         20 => {
-            io::write_all(STDOUT_FILENO, b"re_factor::init");
+            io::write_all(STDOUT_FILENO, b"diagonal_init::init");
         }
         21 => {
-            io::write_all(STDOUT_FILENO, b"re_factor::init_diagonal");
+            io::write_all(STDOUT_FILENO, b"diagonal_init::init_diagonal");
         }
         22 => {
             io::write_all(STDOUT_FILENO, b"re_factor::chol");
@@ -108,13 +108,13 @@ fn print_factor(f: usize) {
             io::write_all(STDOUT_FILENO, b"re_factor::logs_later_diagonal");
         }
         28 => {
-            io::write_all(STDOUT_FILENO, b"re_factor::forward");
+            io::write_all(STDOUT_FILENO, b"block_solve::forward");
         }
         29 => {
-            io::write_all(STDOUT_FILENO, b"re_factor::backward");
+            io::write_all(STDOUT_FILENO, b"block_solve::backward");
         }
         _ => {
-            io::write_all(STDOUT_FILENO, b"re_factor::divide");
+            io::write_all(STDOUT_FILENO, b"block_solve::divide");
         }
     }
 }

@@ -52,7 +52,7 @@ pub extern "C" fn husk_subtract_last(w: &mut [f64], off: usize, rows: usize, a: 
     schur::subtract_last(w, off, rows, a, inner);
 }
 
-// cross_block::subtract_sparse.
+// sparse_schur::subtract_sparse.
 #[no_mangle]
 pub extern "C" fn husk_subtract_sparse(
     w: &mut [f64],
@@ -71,7 +71,7 @@ pub extern "C" fn husk_subtract_sparse(
     requires { ⌜ RowsBelow (now h) first inner cols ⌝ }
     ensures { λ _. ⌜ now (w .exit) ≡ subtractedSparse off rows cols a v inner (rowFrom (now (h .entry)) first) (now (w .entry)) ⌝ }
 {
-    cross_block::subtract_sparse(w, off, rows, cols, a, v, inner, h, first);
+    sparse_schur::subtract_sparse(w, off, rows, cols, a, v, inner, h, first);
 }
 
 // cross_block::divide_columns.
@@ -100,7 +100,7 @@ pub extern "C" fn husk_solve_rows(w: &mut [f64], off: usize, rows: usize, cols: 
     cross_block::solve_rows(w, off, rows, cols, l);
 }
 
-// cross_block::scale_twice.
+// scaling::scale_twice.
 #[no_mangle]
 pub extern "C" fn husk_scale_twice(
     w: &mut [f64],
@@ -114,7 +114,7 @@ pub extern "C" fn husk_scale_twice(
     requires { ⌜ (off + n ≤ src) ⊎ (src + n ≤ off) ⌝ }
     ensures { λ _. ⌜ EachShape n (λ s. now (w .exit) ≡ scaledTwice s off src column row (now (w .entry))) ⌝ }
 {
-    cross_block::scale_twice(w, off, src, n, column, row);
+    scaling::scale_twice(w, off, src, n, column, row);
 }
 
 // rank_diagonal::rank_sub_diagonal.
@@ -191,7 +191,7 @@ pub extern "C" fn husk_less_product_t(
     matvec::less_product_t(v, off, cols, z, rows, w, a);
 }
 
-// matvec::less_sparse.
+// sparse_matvec::less_sparse.
 #[no_mangle]
 pub extern "C" fn husk_less_sparse(
     v: &mut [f64],
@@ -209,10 +209,10 @@ pub extern "C" fn husk_less_sparse(
     requires { ⌜ RowsBelow (now h) first cols rows ⌝ }
     ensures { λ _. ⌜ now (v .exit) ≡ lessSparseProduct off rows z cols x (rowFrom (now (h .entry)) first) (now (w .entry)) (now (v .entry)) ⌝ }
 {
-    matvec::less_sparse(v, off, rows, z, cols, w, x, h, first);
+    sparse_matvec::less_sparse(v, off, rows, z, cols, w, x, h, first);
 }
 
-// matvec::less_sparse_t.
+// sparse_matvec::less_sparse_t.
 #[no_mangle]
 pub extern "C" fn husk_less_sparse_t(
     v: &mut [f64],
@@ -230,7 +230,7 @@ pub extern "C" fn husk_less_sparse_t(
     requires { ⌜ RowsBelow (now h) first cols rows ⌝ }
     ensures { λ _. ⌜ now (v .exit) ≡ lessSparseProductT off cols z rows x (rowFrom (now (h .entry)) first) (now (w .entry)) (now (v .entry)) ⌝ }
 {
-    matvec::less_sparse_t(v, off, cols, z, rows, w, x, h, first);
+    sparse_matvec::less_sparse_t(v, off, cols, z, rows, w, x, h, first);
 }
 
 // n where every pivot is accepted, else the row of the refused one.

@@ -81,7 +81,7 @@ unfolding start
 loop-again c =
     let a = c .before .before .before .before .before .before .before .before .before .args in
     let l = c .before .before .before .before .before .before .before .loop in
-    let t = sums-turn (a .off) (dense (a .rows)) (lessDots (a .off) (a .rows) (a .cols) (a .a) (a .b) (a .inner) (a .w .now)) (a .w .now) (a .cols) (omega arith) (l .c) (omega arith) (l .w) _ (l .inv .5)
+    let t = sums-turn (a .off) (dense (a .rows)) (lessDots (a .off) (a .rows) (a .cols) (a .a) (a .b) (a .inner) (a .w .now)) (a .w .now) (a .cols) (omega arith) (l .c) (omega arith) (l .w) (c .before .before .before .subtract-run .last .0) (l .inv .5)
     (a .a) (a .rows) (a .b) (a .cols) (l .c) (a .inner) (c .before .before .before .before .before .before .before .before .before .pre .1 .0) (c .before .before .before .before .before .before .before .before .before .pre .1 .1) (a .off + l .to) (a .rows) (omega arith) refl
     (λ i h.
     ap (λ (s : Float). ieee .minus s (dot ieee (block (a .a) (columns (a .rows) (a .inner)) (a .w .now) i) (block (a .b) (columns (a .cols) (a .inner)) (a .w .now) (l .c)) (a .inner)))

@@ -1,0 +1,37 @@
+-- `sparse_schur::less_column`: the other column is read, then its multiple taken off.
+use Prim.Native.Nat.{_+_}
+use native.Mathlib.Omega.{arith}
+use Rattle.cross_block.proofs.Sparse.{column-less}
+use borrow.Author.Needs.{needs}
+use Rattle.sparse_schur.proofs.less_column.Statement.{statement}
+use Rattle.sparse_schur.proofs.less_column.Tie as tie
+use Rattle.sparse_schur.proofs.less_column.Reads as reads
+use Rattle.sparse_schur.proofs.less_column.Lts as lts
+use Rattle.runs.proofs.less_times.Reads as less-times-reads
+use Rattle.runs.proofs.read.Reads as read-reads
+
+-- src/lib.rt:115:5
+read-requires : tie.Need-read-requires
+read-requires c κs = search needs
+
+-- src/lib.rt:116:5
+less-times-requires : tie.Need-less-times-requires
+less-times-requires c κs = search needs
+
+-- src/lib.rt:102:1
+same-length : tie.Need-same-length
+same-length c = search needs
+
+-- src/lib.rt:102:1
+same-length-2 : tie.Need-same-length-2
+same-length-2 c = search needs
+
+-- src/lib.rt:102:1
+returns : tie.Need-returns
+returns c =
+    let a = c .before .before .before .before .before .before .before .before .before .before .before .before .args in
+    column-less (a .w .now) _ (a .acc .now) _ (a .off + a .to) (a .rows) (a .ax) (a .f) (omega arith) (c .before .before .before .before .before .before .before .read .ensures) (c .before .before .less-times .ensures)
+
+pub less-column-spec : {M : Type 1} → statement M
+less-column-spec =
+    tie.close (tie.spec read-requires less-times-requires same-length same-length-2 returns)

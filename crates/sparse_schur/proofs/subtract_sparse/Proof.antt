@@ -1,0 +1,187 @@
+-- `sparse_schur::subtract_sparse`: the first x entries are taken off.
+use borrow.Author.Needs.{needs}
+use mathlib.Core.Path.{_≡_, refl, sym, ap, subst, _∙_}
+use Prim.Native.Nat.{ℕ, _≤_, _<_, _-_, _+_, _*_}
+use native.Mathlib.Omega.{arith}
+use native.Mathlib.Numerals.{add-one}
+use lib.ListN.{length}
+use Rattle.storage.specs.Runs.{start, triangle, dense}
+use Rattle.storage.specs.Shape.{packed, diagonal, columns, fill}
+use Rattle.storage.specs.Part.{store}
+use Rattle.storage.proofs.Starts.{start-below, start-dense, start-single}
+use Rattle.rules.specs.Arithmetic.{ieee}
+use Rattle.rules.specs.Steps.{divide}
+use Rattle.blocks.specs.Blocks.{block, rowFrom}
+use Rattle.blocks.specs.Done.{Done}
+use Rattle.blocks.proofs.Laws.{begun, ended}
+use Rattle.cross_block.specs.Blocks.{lessSparseCell}
+use Rattle.cross_block.proofs.Turns.{divide-turn, solve-turn}
+use Rattle.cross_block.proofs.Sparse.{sparse-none, sparse-more}
+use Rattle.sparse_schur.proofs.subtract_sparse.Statement.{statement}
+use Rattle.sparse_schur.proofs.subtract_sparse.Tie as tie
+use Rattle.sparse_schur.proofs.subtract_sparse.Reads as reads
+use Rattle.sparse_schur.proofs.subtract_sparse.Lts as lts
+use Rattle.sparse_schur.proofs.less_column.Reads as less-column-reads
+use Rattle.sparse_schur.proofs.wide.Reads as wide-reads
+
+abbrev Inv-loop : tie.InvT-loop
+Inv-loop w₀ off rows cols a v inner h first end acc₀ x₀ ax₀ w acc x ax =
+    (x ≤ inner) × (ax ≡ a + start (dense rows) x) × (end ≡ off + start (dense rows) cols) × (length acc ≡ 316) × (length w ≡ length w₀)
+    × (w ≡ store off (fill (columns rows cols) (lessSparseCell off rows cols a v inner (rowFrom h first) w₀ x)) w₀)
+
+abbrev μ-loop : tie.MeasureT-loop
+μ-loop w₀ off rows cols a v inner h first end acc₀ x₀ ax₀ w acc x ax = inner - x
+
+-- src/lib.rt:137:21
+mul-end : tie.Need-mul-end Inv-loop μ-loop
+mul-end c =
+    let a = c .before .before .args in
+    omega (arith, start-dense (a .rows) (a .cols))
+
+-- src/lib.rt:137:15
+add-end : tie.Need-add-end Inv-loop μ-loop
+add-end c =
+    let a = c .before .before .args in
+    omega (arith, start-dense (a .rows) (a .cols))
+
+-- src/lib.rt:141:5
+loop-holds : tie.Need-loop-holds Inv-loop μ-loop
+unfolding start
+loop-holds c =
+    let p = c .before .before in
+    let a = p .args in
+    (omega arith, omega arith, omega (arith, start-dense (a .rows) (a .cols)), refl, refl, sparse-none (a .off) (a .rows) (a .cols) (a .a) (a .v) (a .inner) (rowFrom (a .h .now) (a .first)) (a .w .now) (omega arith) (omega arith) (omega arith) (p .pre .1 .0) (p .pre .1 .1 .0))
+
+-- src/lib.rt:142:24
+add-wide : tie.Need-add-wide Inv-loop μ-loop
+add-wide c = search needs
+
+-- src/lib.rt:142:22
+mul-wide : tie.Need-mul-wide Inv-loop μ-loop
+mul-wide c = search needs
+
+-- src/lib.rt:142:22
+shared-slice-read-wide : tie.Need-shared-slice-read-wide Inv-loop μ-loop
+shared-slice-read-wide c = search needs
+
+-- src/lib.rt:142:13
+wide-requires : tie.Need-wide-requires Inv-loop μ-loop
+wide-requires c κs = search needs
+
+-- src/lib.rt:143:19
+add-f : tie.Need-add-f Inv-loop μ-loop
+add-f c = search needs
+
+-- src/lib.rt:143:17
+mul-f : tie.Need-mul-f Inv-loop μ-loop
+mul-f c = search needs
+
+-- src/lib.rt:143:17
+slice-read-f : tie.Need-slice-read-f Inv-loop μ-loop
+slice-read-f c = search needs
+
+-- src/lib.rt:144:24
+slice-aggregate-less-column : tie.Need-slice-aggregate-less-column Inv-loop μ-loop
+slice-aggregate-less-column c = search needs
+
+-- src/lib.rt:144:44
+mul-less-column : tie.Need-mul-less-column Inv-loop μ-loop
+mul-less-column c =
+    let p = c .before .before .before .before .before .before .before .before .before in
+    let a = p .args in
+    let l = c .before .before .before .before .before .before .loop in
+    let k = c .before .before .before .wide .result in
+    let below : k < a .cols = subst (λ (i : ℕ). i < a .cols) (sym (c .before .before .before .wide .ensures)) (p .pre .1 .1 .1 (l .x) (omega arith)) in
+    let t = start-below (dense (a .rows)) k (a .cols) below in
+    let d = start-dense (a .rows) k in
+    let g = start-below (dense (a .rows)) (l .x) (a .inner) (omega arith) in
+    omega arith
+
+-- src/lib.rt:144:9
+less-column-requires : tie.Need-less-column-requires Inv-loop μ-loop
+less-column-requires c κs =
+    let p = c .before .before .before .before .before .before .before .before .before in
+    let a = p .args in
+    let l = c .before .before .before .before .before .before .loop in
+    let k = c .before .before .before .wide .result in
+    let below : k < a .cols = subst (λ (i : ℕ). i < a .cols) (sym (c .before .before .before .wide .ensures)) (p .pre .1 .1 .1 (l .x) (omega arith)) in
+    let t = start-below (dense (a .rows)) k (a .cols) below in
+    let d = start-dense (a .rows) k in
+    let g = start-below (dense (a .rows)) (l .x) (a .inner) (omega arith) in
+    omega arith
+
+-- src/lib.rt:145:9
+add-x : tie.Need-add-x Inv-loop μ-loop
+add-x c = search needs
+
+-- src/lib.rt:146:9
+add-ax : tie.Need-add-ax Inv-loop μ-loop
+add-ax c =
+    let p = c .before .before .before .before .before .before .before .before .before .before .before .before .before in
+    let a = p .args in
+    let l = c .before .before .before .before .before .before .before .before .before .before .loop in
+    let k = c .before .before .before .before .before .before .before .wide .result in
+    let below : k < a .cols = subst (λ (i : ℕ). i < a .cols) (sym (c .before .before .before .before .before .before .before .wide .ensures)) (p .pre .1 .1 .1 (l .x) (omega arith)) in
+    let t = start-below (dense (a .rows)) k (a .cols) below in
+    let d = start-dense (a .rows) k in
+    let g = start-below (dense (a .rows)) (l .x) (a .inner) (omega arith) in
+    omega arith
+
+-- src/lib.rt:141:5
+loop-less : tie.Need-loop-less Inv-loop μ-loop
+loop-less c = search needs
+
+-- src/lib.rt:141:5
+loop-again : tie.Need-loop-again Inv-loop μ-loop
+unfolding start
+loop-again c =
+    let p = c .before .before .before .before .before .before .before .before .before .before .before .before .before in
+    let a = p .args in
+    let l = c .before .before .before .before .before .before .before .before .before .before .loop in
+    let k = c .before .before .before .before .before .before .before .wide .result in
+    let below : k < a .cols = subst (λ (i : ℕ). i < a .cols) (sym (c .before .before .before .before .before .before .before .wide .ensures)) (p .pre .1 .1 .1 (l .x) (omega arith)) in
+    let t = start-below (dense (a .rows)) k (a .cols) below in
+    let d = start-dense (a .rows) k in
+    let g = start-below (dense (a .rows)) (l .x) (a .inner) (omega arith) in
+    let u = sparse-more (a .off) (a .rows) (a .cols) (a .a) (a .v) (a .inner) (rowFrom (a .h .now) (a .first)) (a .w .now) (omega arith) (omega arith) (omega arith) (p .pre .1 .0) (p .pre .1 .1 .0)
+    (l .x) (omega arith) (l .w) (l .inv .5) k below (c .before .before .before .before .before .before .before .wide .ensures) (a .off + k * a .rows) (l .ax) (omega arith) (l .inv .1) _ (c .before .before .before .less-column .ensures) in
+    (omega arith, rw add-one (omega arith), omega arith, omega arith, omega arith, rw add-one u)
+
+-- src/lib.rt:120:1
+same-length : tie.Need-same-length Inv-loop μ-loop
+same-length c = search needs
+
+-- src/lib.rt:120:1
+returns : tie.Need-returns Inv-loop μ-loop
+returns c =
+    let a = c .before .before .before .before .args in
+    let l = c .before .loop in
+    let e : l .x ≡ a .inner = omega arith in
+    l .inv .5
+    ∙ ap (λ (n : ℕ). store (a .off) (fill (columns (a .rows) (a .cols)) (lessSparseCell (a .off) (a .rows) (a .cols) (a .a) (a .v) (a .inner) (rowFrom (a .h .now) (a .first)) (a .w .now) n)) (a .w .now)) e
+
+pub subtract-sparse-spec : {M : Type 1} → statement M
+subtract-sparse-spec =
+    tie.close
+    (tie.spec
+    Inv-loop
+    μ-loop
+    mul-end
+    add-end
+    loop-holds
+    add-wide
+    mul-wide
+    shared-slice-read-wide
+    wide-requires
+    add-f
+    mul-f
+    slice-read-f
+    slice-aggregate-less-column
+    mul-less-column
+    less-column-requires
+    add-x
+    add-ax
+    loop-less
+    loop-again
+    same-length
+    returns)
