@@ -1,17 +1,17 @@
 // A case of the list: a kernel's number, its arguments, its lists, and what it must leave and answer.
 ghost use Prim.Native.Nat.{_+_, _≤_};
 ghost use lib.ListN.{length};
-ghost use Rattle.kernels.specs.Sizes.{Small};
-use crate::answer;
-use crate::answer::Answer;
-use crate::cross;
-use crate::diagonals;
-use crate::factors;
-use crate::lower;
-use crate::products;
-use crate::sizes;
-use crate::sizes::Numbers;
-use crate::vectors;
+ghost use Rattle.case_sizes.specs.Sizes.{Small};
+use case_blocks::cross;
+use case_blocks::lower;
+use case_blocks::products;
+use case_sizes::answer;
+use case_sizes::answer::Answer;
+use case_sizes::sizes;
+use case_sizes::sizes::Numbers;
+use case_vectors::diagonals;
+use case_vectors::factors;
+use case_vectors::vectors;
 
 // How a case ended.
 pub const AGREES: u8 = 0;

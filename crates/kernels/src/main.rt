@@ -1,18 +1,11 @@
 // Holds every kernel to the list of test vectors kernels.txt, bit for bit, and prints how many cases of each agree.
-mod answer;
 mod cases;
-mod cross;
-mod diagonals;
-mod factors;
 mod list;
-mod lower;
 mod names;
-mod products;
-mod sizes;
-mod vectors;
 
 ghost use Prim.Native.Nat.{_+_, _≤_, _<_};
 ghost use lib.ListN.{length};
+use case_sizes::sizes;
 use libc::STDOUT_FILENO;
 
 // How many kernels there are, and how many disagreeing cases are named.

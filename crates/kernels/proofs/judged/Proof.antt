@@ -1,5 +1,5 @@
 -- `kernels::judged` meets its contract.
-use Rattle.kernels.proofs.Laws.{prefix-length}
+use Rattle.case_sizes.proofs.Laws.{prefix-length}
 use native.Mathlib.Omega.{arith}
 use borrow.Author.Needs.{needs}
 use Rattle.kernels.proofs.judged.Statement.{statement}

@@ -1,0 +1,67 @@
+-- `case_vectors::diagonals::rank_sub_diagonal_sparse` meets its contract.
+use Rattle.case_sizes.proofs.Laws.{clear-at}
+use Rattle.storage.proofs.Places.{size-diagonal}
+use mathlib.Core.Path.{sym, refl}
+use borrow.Author.Needs.{needs}
+use Rattle.case_vectors.proofs.diagonals.rank_sub_diagonal_sparse.Statement.{statement}
+use Rattle.case_vectors.proofs.diagonals.rank_sub_diagonal_sparse.Tie as tie
+
+clash-requires : tie.Need-clash-requires
+clash-requires c κs = search needs
+
+out-of-form-requires : tie.Need-out-of-form-requires
+out-of-form-requires c κs = search needs
+
+returns : tie.Need-returns
+returns c = search needs
+
+clash-requires-2 : tie.Need-clash-requires-2
+clash-requires-2 c κs = search needs
+
+out-of-form-requires-2 : tie.Need-out-of-form-requires-2
+out-of-form-requires-2 c κs = search needs
+
+returns-2 : tie.Need-returns-2
+returns-2 c = search needs
+
+beyond-requires : tie.Need-beyond-requires
+beyond-requires c κs = search needs
+
+out-of-form-requires-3 : tie.Need-out-of-form-requires-3
+out-of-form-requires-3 c κs = search needs
+
+returns-3 : tie.Need-returns-3
+returns-3 c = search needs
+
+rank-sub-diagonal-sparse-requires : tie.Need-rank-sub-diagonal-sparse-requires
+rank-sub-diagonal-sparse-requires c κs =
+    let h = clear-at (sym (size-diagonal _)) refl (c .before .before .before .before .before .before .clash .ensures (c .before .before .before .before .before .if1 .left)) in
+    let l = clear-at (sym (size-diagonal _)) refl (c .before .before .before .before .clash2 .ensures (c .before .before .before .if2 .left)) in
+    ((h .first, h .second, l .second, (c .before .before .beyond .ensures (c .before .if3 .left))), (h .apart, l .apart))
+
+nothing-requires : tie.Need-nothing-requires
+nothing-requires c κs = search needs
+
+same-length : tie.Need-same-length
+same-length c = search needs
+
+returns-4 : tie.Need-returns-4
+returns-4 c = search needs
+
+pub rank-sub-diagonal-sparse-spec : {M : Type 1} → statement M
+rank-sub-diagonal-sparse-spec =
+    tie.close
+    (tie.spec
+    clash-requires
+    out-of-form-requires
+    returns
+    clash-requires-2
+    out-of-form-requires-2
+    returns-2
+    beyond-requires
+    out-of-form-requires-3
+    returns-3
+    rank-sub-diagonal-sparse-requires
+    nothing-requires
+    same-length
+    returns-4)
