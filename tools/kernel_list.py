@@ -569,7 +569,7 @@ KERNELS = [
     ("schur::rank_sub", rank_cases(lambda t, a, b: t - dot(a, b))),
     ("schur::subtract_last", rank_cases(chain)),
     ("matvec::less_product", less_product_cases),
-    ("matvec::less_product_t", less_product_t_cases),
+    ("matvec_t::less_product_t", less_product_t_cases),
     ("sparse_matvec::less_sparse", less_sparse_cases),
     ("sparse_matvec::less_sparse_t", less_sparse_t_cases),
     ("diagonal_init::init", init_cases(False)),

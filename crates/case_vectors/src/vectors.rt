@@ -42,7 +42,7 @@ pub fn less_product_t(w: &mut [f64], v: &[f64], x: Numbers) -> Answer
     if sizes::beyond(v.len(), a, size) {
         return answer::out_of_form();
     }
-    matvec::less_product_t(w, off, cols, z, rows, v, a);
+    matvec_t::less_product_t(w, off, cols, z, rows, v, a);
     answer::nothing()
 }
 

@@ -1,10 +1,11 @@
 // Holds every kernel to the list of test vectors kernels.txt, bit for bit, and prints how many cases of each agree.
 mod cases;
-mod list;
-mod names;
 
 ghost use Prim.Native.Nat.{_+_, _≤_, _<_};
 ghost use lib.ListN.{length};
+use case_list::held;
+use case_list::list;
+use case_list::names;
 use case_sizes::sizes;
 use libc::STDOUT_FILENO;
 
@@ -32,7 +33,7 @@ fn name_case(number: u64, f: usize, ended: u8) {
     io::print_decimal(STDOUT_FILENO, number);
     io::write_all(STDOUT_FILENO, b" of ");
     names::print(f);
-    if ended == cases::OUT_OF_FORM {
+    if ended == held::OUT_OF_FORM {
         io::write_all(STDOUT_FILENO, b" is out of form\n");
         return;
     }
@@ -44,11 +45,11 @@ fn counted(counts: &mut [u64; 100], number: u64, f: usize, ended: u8)
     requires { ⌜ f < 33 ⌝ }
 {
     count(counts, f);
-    if ended == cases::AGREES {
+    if ended == held::AGREES {
         count(counts, 33 + f);
         return;
     }
-    if ended == cases::OUT_OF_FORM {
+    if ended == held::OUT_OF_FORM {
         count(counts, 66 + f);
     }
     if counts[99] < NAMED {
@@ -66,7 +67,7 @@ struct Ended {
 fn stopped(state: u8) -> Ended {
     Ended {
         state,
-        ended: cases::OUT_OF_FORM,
+        ended: held::OUT_OF_FORM,
     }
 }
 

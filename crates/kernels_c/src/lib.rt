@@ -173,7 +173,7 @@ pub extern "C" fn husk_less_product(
     matvec::less_product(v, off, rows, z, cols, w, a);
 }
 
-// matvec::less_product_t.
+// matvec_t::less_product_t.
 #[no_mangle]
 pub extern "C" fn husk_less_product_t(
     v: &mut [f64],
@@ -188,7 +188,7 @@ pub extern "C" fn husk_less_product_t(
     requires { ⌜ (off + cols ≤ z) ⊎ (z + rows ≤ off) ⌝ }
     ensures { λ _. ⌜ now (v .exit) ≡ lessProductT off cols z rows a (now (w .entry)) (now (v .entry)) ⌝ }
 {
-    matvec::less_product_t(v, off, cols, z, rows, w, a);
+    matvec_t::less_product_t(v, off, cols, z, rows, w, a);
 }
 
 // sparse_matvec::less_sparse.

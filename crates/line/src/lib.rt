@@ -1,49 +1,9 @@
-// Reads the lines of a sheet (document 01, Record 1), at any position of any bytes: each field stands where the one before it ends. What each
-// answers is defined in the crate sheet, specs/Line.antt.
-use field::LF;
+// Reads the lines of a sheet that end in a word (document 01, Record 1), at any position of any bytes: each field stands where the one before it
+// ends. What each answers is defined in the crate sheet, specs/Line.antt.
 use field::TAB;
-use sheet::Counts;
 use sheet::Line;
-use sheet::Size;
 ghost use mathlib.Core.Path.{_≡_};
-ghost use Rattle.sheet.specs.Line.{sizeLine, blockLine, pairLine, singleLine, bareLine};
-
-// `size` and five numbers.
-pub fn size_line(s: &[u8], at: usize) -> Size
-    ensures { λ r. ⌜ r ≡ sizeLine (now (s .entry)) at ⌝ }
-{
-    let t = field::tag(s, at, b"size\t");
-    let n = field::number(s, t.next, TAB);
-    let p = field::number(s, n.next, TAB);
-    let q = field::number(s, p.next, TAB);
-    let k = field::number(s, q.next, TAB);
-    let f = field::number(s, k.next, LF);
-    Size {
-        counts: Counts {
-            n: n.value,
-            p: p.value,
-            q: q.value,
-            k: k.value,
-            flag: f.value,
-        },
-        next: f.next,
-    }
-}
-
-// `block` and two numbers.
-pub fn block_line(s: &[u8], at: usize) -> Line
-    ensures { λ r. ⌜ r ≡ blockLine (now (s .entry)) at ⌝ }
-{
-    let t = field::tag(s, at, b"block\t");
-    let m = field::number(s, t.next, TAB);
-    let e = field::number(s, m.next, LF);
-    Line {
-        first: m.value,
-        second: e.value,
-        word: 0,
-        next: e.next,
-    }
-}
+ghost use Rattle.sheet.specs.Line.{pairLine, singleLine, bareLine};
 
 // A tag, two numbers and a word.
 pub fn pair_line(t: &[u8], s: &[u8], at: usize) -> Line

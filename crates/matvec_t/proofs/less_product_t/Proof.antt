@@ -1,0 +1,112 @@
+-- `matvec_t::less_product_t`: the first c entries are written, p is where column c starts.
+use borrow.Author.Needs.{needs}
+use mathlib.Core.Path.{_≡_, refl, _∙_}
+use Prim.Native.Nat.{_≤_, _-_, _+_}
+use native.Mathlib.Omega.{arith}
+use lib.ListN.{length}
+use Rattle.storage.specs.Runs.{start, dense}
+use Rattle.axpy.proofs.Loops.{made-none, made-all}
+use Rattle.axpy.proofs.Sums.{left-fits, next-start}
+use Rattle.matvec.specs.Products.{columnLess, lessColumns}
+use Rattle.matvec.proofs.Dense.{columns-more, columns-done}
+use Rattle.matvec_t.proofs.less_product_t.Statement.{statement}
+use Rattle.matvec_t.proofs.less_product_t.Tie as tie
+use Rattle.matvec_t.proofs.less_product_t.Reads as reads
+use Rattle.matvec_t.proofs.less_product_t.Lts as lts
+use Rattle.matvec_t.proofs.less_some.Reads as less-some-reads
+
+abbrev Inv-loop : tie.InvT-loop
+Inv-loop v₀ off cols z rows w a c₀ p₀ v c p =
+    (c ≤ cols) × (p ≡ a + start (dense rows) c) × (length v ≡ length v₀) × (v ≡ lessColumns off c a rows z w v₀)
+
+abbrev μ-loop : tie.MeasureT-loop
+μ-loop v₀ off cols z rows w a c₀ p₀ v c p = cols - c
+
+-- src/lib.rt:126:5
+loop-holds : tie.Need-loop-holds Inv-loop μ-loop
+unfolding start
+loop-holds c =
+    let a = c .before .before .args in
+    (omega arith, omega arith, refl, made-none (a .off) (a .cols) (columnLess (a .off) (a .a) (a .rows) (a .z) (a .w .now) (a .v .now)) (a .v .now) (omega arith))
+
+-- src/lib.rt:127:30
+add-less-some : tie.Need-add-less-some Inv-loop μ-loop
+add-less-some c = search needs
+
+-- src/lib.rt:127:54
+sub-less-some : tie.Need-sub-less-some Inv-loop μ-loop
+sub-less-some c = search needs
+
+-- src/lib.rt:127:13
+less-some-requires : tie.Need-less-some-requires Inv-loop μ-loop
+less-some-requires c κs =
+    let a = c .before .before .before .before .before .args in
+    let l = c .before .before .loop in
+    omega (arith, left-fits (a .a) (a .rows) (l .c) (a .cols) (l .p) (length (a .w .now)) (omega arith) (omega arith) (omega arith))
+
+-- src/lib.rt:128:14
+mul-p : tie.Need-mul-p Inv-loop μ-loop
+mul-p c =
+    let a = c .before .before .before .before .before .before .before .before .args in
+    let l = c .before .before .before .before .before .loop in
+    let s = c .before .before .less-some in
+    omega (arith, next-start (a .a) (a .rows) (l .c) (s .result) (a .cols) (l .p) (length (a .w .now)) (omega arith) (omega arith) (omega arith))
+
+-- src/lib.rt:128:9
+add-p : tie.Need-add-p Inv-loop μ-loop
+add-p c =
+    let a = c .before .before .before .before .before .before .before .before .args in
+    let l = c .before .before .before .before .before .loop in
+    let s = c .before .before .less-some in
+    omega (arith, next-start (a .a) (a .rows) (l .c) (s .result) (a .cols) (l .p) (length (a .w .now)) (omega arith) (omega arith) (omega arith))
+
+-- src/lib.rt:129:9
+add-c : tie.Need-add-c Inv-loop μ-loop
+add-c c = search needs
+
+-- src/lib.rt:126:5
+loop-less : tie.Need-loop-less Inv-loop μ-loop
+loop-less c = search needs
+
+-- src/lib.rt:126:5
+loop-again : tie.Need-loop-again Inv-loop μ-loop
+loop-again c =
+    let a = c .before .before .before .before .before .before .before .before .args in
+    let l = c .before .before .before .before .before .loop in
+    let s = c .before .before .less-some in (
+      omega arith,
+      next-start (a .a) (a .rows) (l .c) (s .result) (a .cols) (l .p) (length (a .w .now)) (omega arith) (omega arith) (omega arith) .1,
+      omega arith,
+      columns-more (a .off) (a .cols) (a .z) (a .rows) (a .a) (a .w .now) (a .v .now) (omega arith) (l .c) (s .result) (omega arith) (c .before .before .before .before .before .before .before .before .pre .1)
+          (a .off + l .c) (l .p) refl (l .inv .1) (l .v) _ (l .inv .3) (s .ensures .2),
+    )
+
+-- src/lib.rt:111:1
+same-length : tie.Need-same-length Inv-loop μ-loop
+same-length c = search needs
+
+-- src/lib.rt:111:1
+returns : tie.Need-returns Inv-loop μ-loop
+returns c =
+    let a = c .before .before .before .before .args in
+    let l = c .before .loop in
+    made-all (a .off) (a .cols) (columnLess (a .off) (a .a) (a .rows) (a .z) (a .w .now) (a .v .now)) (a .v .now) (omega arith) (l .c) (omega arith) (l .v) (l .inv .3) (omega arith)
+    ∙ columns-done (a .off) (a .cols) (a .z) (a .rows) (a .a) (a .w .now) (a .v .now) (omega arith) (omega arith) (omega arith)
+
+pub less-product-t-spec : {M : Type 1} → statement M
+less-product-t-spec =
+    tie.close
+    (tie.spec
+    Inv-loop
+    μ-loop
+    loop-holds
+    add-less-some
+    sub-less-some
+    less-some-requires
+    mul-p
+    add-p
+    add-c
+    loop-less
+    loop-again
+    same-length
+    returns)

@@ -1,0 +1,44 @@
+-- `matvec_t::less_some`: the columns that are left have room for one, or for four.
+use borrow.Author.Needs.{needs}
+use native.Mathlib.Omega.{arith}
+use lib.ListN.{length}
+use Rattle.axpy.proofs.Sums.{one-fits, four-fit}
+use Rattle.matvec_t.proofs.less_some.Statement.{statement}
+use Rattle.matvec_t.proofs.less_some.Tie as tie
+use Rattle.matvec_t.proofs.less_some.Reads as reads
+use Rattle.matvec_t.proofs.less_some.Lts as lts
+use Rattle.matvec_t.proofs.less_four.Reads as less-four-reads
+use Rattle.matvec_t.proofs.less_one.Reads as less-one-reads
+
+-- src/lib.rt:103:9
+less-one-requires : tie.Need-less-one-requires
+less-one-requires c κs =
+    let a = c .before .before .before .before .args in
+    omega (arith, one-fits (a .p) (a .rows) (a .left) (length (a .w .now)) (omega arith) (omega arith))
+
+-- src/lib.rt:104:9
+same-length : tie.Need-same-length
+same-length c = search needs
+
+-- src/lib.rt:104:9
+returns : tie.Need-returns
+returns c = search needs
+
+-- src/lib.rt:106:5
+less-four-requires : tie.Need-less-four-requires
+less-four-requires c κs =
+    let a = c .before .before .before .before .args in
+    omega (arith, four-fit (a .p) (a .rows) (a .left) (length (a .w .now)) (omega arith) (omega arith))
+
+-- src/lib.rt:90:1
+same-length-2 : tie.Need-same-length-2
+same-length-2 c = search needs
+
+-- src/lib.rt:90:1
+returns-2 : tie.Need-returns-2
+returns-2 c = search needs
+
+pub less-some-spec : {M : Type 1} → statement M
+less-some-spec =
+    tie.close
+    (tie.spec less-one-requires same-length returns less-four-requires same-length-2 returns-2)
