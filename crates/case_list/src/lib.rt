@@ -1,4 +1,3 @@
-// The list of cases: its words, the kernels' names, and what is the same in every case.
+// The cases of the kernels' list: the kernels' names, and what is the same in every case.
 pub mod held;
-pub mod list;
 pub mod names;

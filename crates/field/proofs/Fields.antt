@@ -1,13 +1,17 @@
 -- What the definitions of fields say at a position of the bytes s, and the turns of the loops that read them.
-use Prim.Native.Nat.{ℕ, zero, suc, _≤_, _<_, _-_, _+_, _*_, _/_, _^_, min}
+use Prim.Native.Nat.{ℕ, zero, suc, _≤_, _<_, _-_, _+_, _*_, _/_, _%_, _^_, min}
+use mathlib.Core.Bool.{Bool, true, false, _&&_, _||_, cond, true≢false}
+use mathlib.Core.Logic.{_⊎_, inl, inr, ⊎-elim, by-cases}
+use native.Mathlib.Decide.{decLt}
 use mathlib.Core.Path.{_≡_, refl, sym, _∙_}
 use mathlib.Core.List.{List, [], _∷_}
 use native.Mathlib.Omega.{arith}
 use native.Mathlib.Numerals.{add-one}
-use borrow.Author.Tests.{lt-ltb, le-ltb, eq-eqb, ne-eqb}
-use lib.Dec.{eqb}
-use lib.ListN.{length, drop, getD, drop-of-length-le}
-use lib.Seq.{drop-cons}
+use borrow.Author.Tests.{ltb-true, leb-true, lt-ltb, le-ltb, le-leb, eq-eqb, ne-eqb}
+use lib.Dec.{ltb, leb, eqb}
+use lib.ListN.{length, drop, getD, set, drop-of-length-le}
+use lib.Seq.{drop-cons, getD-set-same, getD-set-other}
+use Rattle.field.specs.Nibbles.{Nibbles}
 use Rattle.sheet.specs.declared.Field.{Field}
 use Rattle.sheet.specs.Field.{found, unfound, digitOf, digitsFrom, numberAt, cap, endAt, wordAt, tagAt}
 
@@ -89,6 +93,67 @@ module _ (s : List ℕ) (end v at : ℕ) (h : at < length s) where
   end-other q = simp (drop-at s at h, ne-eqb (getD s at 0) end q)
 
 -- ---- the loop of a word
+-- a byte is a digit
+abbrev IsDigit : ℕ → Type 0
+IsDigit b = ((48 ≤ b) × (b < 58)) ⊎ ((97 ≤ b) × (b < 103))
+
+digit-value : (b : ℕ) → IsDigit b → b % 16 + b / 64 * 9 ≡ digitOf b
+unfolding digitOf
+digit-value b (inl h) = rw (le-ltb b 48 (h .0), lt-ltb b 58 (h .1)) (omega (arith, h .0, h .1))
+digit-value b (inr h) = rw (le-ltb b 48 (omega (arith, h .0)), le-ltb b 58 (omega (arith, h .0)), le-ltb b 97 (h .0), lt-ltb b 103 (h .1)) (omega (arith, h .0, h .1))
+
+no-digit : (b : ℕ) → (IsDigit b → ⊥) → 16 ≡ digitOf b
+unfolding digitOf
+no-digit b h =
+    by-cases (decLt b 48) (λ (k : b < 48). rw (lt-ltb b 48 k) refl)
+    (λ k. by-cases (decLt b 58) (λ (l : b < 58). absurd (h (inl (omega arith, l))))
+    (λ l. by-cases (decLt b 97) (λ (m : b < 97). rw (le-ltb b 48 (omega arith), le-ltb b 58 (omega arith), lt-ltb b 97 m) refl)
+    (λ m. by-cases (decLt b 103) (λ (n : b < 103). absurd (h (inr (omega arith, n))))
+    (λ n. rw (le-ltb b 48 (omega arith), le-ltb b 58 (omega arith), le-ltb b 97 (omega arith), le-ltb b 103 (omega arith)) refl))))
+
+-- the same as a test
+abbrev isDigit : ℕ → Bool
+isDigit b = (leb 48 b && ltb b 58) || (leb 97 b && ltb b 103)
+
+one-range : (a b c d : Bool) → ((a && b) || (c && d)) ≡ true → ((a ≡ true) × (b ≡ true)) ⊎ ((c ≡ true) × (d ≡ true))
+one-range true true c d e = inl (refl, refl)
+one-range true false true true e = inr (refl, refl)
+one-range true false true false e = absurd (true≢false (sym e))
+one-range true false false d e = absurd (true≢false (sym e))
+one-range false b true true e = inr (refl, refl)
+one-range false b true false e = absurd (true≢false (sym e))
+one-range false b false d e = absurd (true≢false (sym e))
+
+tested : (b : ℕ) → isDigit b ≡ true → IsDigit b
+tested b e =
+    ⊎-elim (λ h. inl (leb-true 48 b (h .0), ltb-true b 58 (h .1))) (λ h. inr (leb-true 97 b (h .0), ltb-true b 103 (h .1)))
+    (one-range (leb 48 b) (ltb b 58) (leb 97 b) (ltb b 103) e)
+
+test-passes : (b : ℕ) → IsDigit b → isDigit b ≡ true
+test-passes b (inl h) = rw (le-leb 48 b (h .0), lt-ltb b 58 (h .1)) refl
+test-passes b (inr h) = rw (le-leb 97 b (h .0), lt-ltb b 103 (h .1), le-ltb b 58 (omega (arith, h .0)), le-leb 48 b (omega (arith, h .0))) refl
+
+pub digit-is : (b : ℕ) → isDigit b ≡ true → b % 16 + b / 64 * 9 ≡ digitOf b
+digit-is b e = digit-value b (tested b e)
+
+pub digit-none : (b : ℕ) → isDigit b ≡ false → 16 ≡ digitOf b
+digit-none b e = no-digit b (λ h. true≢false (sym (test-passes b h) ∙ e))
+
+digit-most : (b : ℕ) → digitOf b ≤ 16
+digit-most b = by-test (isDigit b) refl
+  where
+    by-test : (t : Bool) → isDigit b ≡ t → digitOf b ≤ 16
+    by-test true e =
+        let h = tested b e in
+        rw (← digit-value b h) (⊎-elim (λ (m : (48 ≤ b) × (b < 58)). omega (arith, m .0, m .1)) (λ (m : (97 ≤ b) × (b < 103)). omega (arith, m .0, m .1)) h)
+    by-test false e = rw (← digit-none b e) (omega arith)
+
+-- one value more, side by side with those before it
+pub nibbles-more : (n : ℕ) (t s : List ℕ) (at d : ℕ) → n < length t → Nibbles n t s at → d ≡ digitOf (getD s (at + n) 0) → Nibbles (n + 1) (set t n d) s at
+nibbles-more n t s at d h old new k l =
+    by-cases (decLt k n) (λ (m : k < n). getD-set-other t n k d 0 (omega arith) ∙ old k m)
+    (λ m. let e : k ≡ n = omega arith in rw e (getD-set-same t n d 0 h ∙ new))
+
 -- 2 ^ 64 over 16 to the n: what is below it has room for n digits more
 unfoldable pub room : ℕ → ℕ
 room zero = 2 ^ 64
@@ -99,41 +164,91 @@ unfolding room
 room-most zero = omega arith
 room-most (suc n) = omega (arith, room-most n)
 
--- v so far at i, n digits to come, still to end in X
-pub record Word (X : Field) (s : List ℕ) (end n v i : ℕ) : Type 0 where
-  pub same : wordAt end n v i (drop i s) ≡ X
-  pub small : v < room n
+-- n digits, and the byte that ends them, need as many bytes and one more
+pub word-short : (s : List ℕ) (end n v i : ℕ) → length s < i + n + 1 → unfound ≡ wordAt end n v i (drop i s)
+unfolding wordAt endAt
+word-short s end zero v i h = let e : length s ≤ i = omega arith in rw (drop-of-length-le s e)
+word-short s end (suc n) v i h =
+    by-cases (decLt i (length s))
+    (λ (l : i < length s).
+    let more = word-short s end n (v * 16 + digitOf (getD s i 0)) (i + 1) (omega arith) in
+    either (ltb (digitOf (getD s i 0)) 16) more ∙ sym (rw (drop-at s i l)))
+    (λ l. let e : length s ≤ i = omega arith in rw (drop-of-length-le s e))
+  where
+    either : (b : Bool) {x : Field} → unfound ≡ x → unfound ≡ cond b x unfound
+    either true e = e
+    either false e = refl
 
-module _ {X : Field} {s : List ℕ} {end v i : ℕ} where
-  pub word-short : {n : ℕ} → Word X s end n v i → 0 < n → length s ≤ i → unfound ≡ X
-  unfolding wordAt
-  word-short {n = zero} e p h = absurd (omega arith)
-  word-short {n = suc n} e p h = rw (drop-of-length-le s h) at (e .same)
+-- one digit more of n + 1, or none where d is no digit
+word-digit : (s : List ℕ) (end n v i d : ℕ) → i < length s → d ≡ digitOf (getD s i 0) → d < 16
+    → wordAt end (suc n) v i (drop i s) ≡ wordAt end n (v * 16 + d) (i + 1) (drop (i + 1) s)
+unfolding wordAt
+word-digit s end n v i d h q l = simp (drop-at s i h, ← q, lt-ltb d 16 l)
 
-  pub word-other : {n d : ℕ} → Word X s end n v i → 0 < n → i < length s → d ≡ digitOf (getD s i 0) → 16 ≤ d → unfound ≡ X
-  unfolding wordAt
-  word-other {n = zero} e p h q hd = absurd (omega arith)
-  word-other {n = suc n} e p h q hd = simp (drop-at s i h, ← q, le-ltb _ 16 hd) at (e .same)
+word-other : (s : List ℕ) (end n v i d : ℕ) → i < length s → d ≡ digitOf (getD s i 0) → 16 ≤ d → wordAt end (suc n) v i (drop i s) ≡ unfound
+unfolding wordAt
+word-other s end n v i d h q l = simp (drop-at s i h, ← q, le-ltb d 16 l)
 
-  pub word-fits : {n d : ℕ} → Word X s end n v i → 0 < n → d < 16 → v * 16 + d < 2 ^ 64
+-- k of 16 digits were read from `at` on, v so far, and `others` of these bytes were no digit: it still ends in X
+pub record Word (X : Field) (s : List ℕ) (end at k v others : ℕ) : Type 0 where
+  pub same : others ≡ 0 → wordAt end (16 - k) v (at + k) (drop (at + k) s) ≡ X
+  pub none : 0 < others → unfound ≡ X
+  pub small : v < room (16 - k)
+  pub count : others ≤ k
+  pub most : k ≤ 16
+
+pub word-begun : (s : List ℕ) (end at : ℕ) → Word (wordAt end 16 0 at (drop at s)) s end at 0 0 0
+unfolding room
+word-begun s end at =
+    let i : at + 0 ≡ at = omega arith in
+    record { same = λ z. rw i refl; none = λ z. absurd (omega arith); small = omega arith; count = omega arith; most = omega arith }
+
+module _ {X : Field} {s : List ℕ} {end at k v others : ℕ} (e : Word X s end at k v others) where
+  pub word-more : {d : ℕ} → k < 16 → at + 16 < length s → d ≡ digitOf (getD s (at + k) 0)
+      → Word X s end at (k + 1) (v % 2 ^ 60 * 16 + d % 16) (others + d / 16)
   unfolding room
-  word-fits {n = zero} e p hd = absurd (omega arith)
-  word-fits {n = suc n} e p hd = omega (arith, e .small, room-most n)
+  word-more {d} p h q =
+      let n = 15 - k in
+      let r : 16 - k ≡ suc n = omega arith in
+      let r′ : 16 - (k + 1) ≡ n = omega arith in
+      let i′ : at + (k + 1) ≡ at + k + 1 = omega arith in
+      let small : v < room n / 16 = rw r at (e .small) in
+      let m : v % 2 ^ 60 ≡ v = omega (arith, room-most n) in
+      rw m
+      (by-cases (decLt d 16)
+      (λ (l : d < 16).
+      let a : d % 16 ≡ d = omega arith in
+      let b : others + d / 16 ≡ others = omega arith in
+      rw (a, b)
+      (record {
+        same = λ z. rw (r′, i′) (sym (word-digit s end n v (at + k) d (omega arith) q l) ∙ (rw r at (e .same z)));
+        none = e .none;
+        small = rw r′ (omega arith);
+        count = omega (arith, e .count);
+        most = omega arith;
+      }))
+      (λ l.
+      let f : d ≤ 16 = rw q (digit-most (getD s (at + k) 0)) in
+      record {
+        same = λ z. absurd (omega arith);
+        none = λ z. by-cases (decLt 0 others) (e .none)
+            (λ o. let none : others ≡ 0 = omega arith in sym (word-other s end n v (at + k) d (omega arith) q (omega arith)) ∙ (rw r at (e .same none)));
+        small = rw r′ (omega arith);
+        count = omega (arith, e .count);
+        most = omega arith;
+      }))
 
-  pub word-times : {n : ℕ} → Word X s end n v i → 0 < n → v * 16 < 2 ^ 64
-  word-times e p = omega (arith, word-fits {d = 0} e p (omega arith))
+  pub word-count : (d : ℕ) → k < 16 → d ≡ digitOf (getD s (at + k) 0) → others + d / 16 < 2 ^ 64
+  word-count d p q = let f : d ≤ 16 = rw q (digit-most (getD s (at + k) 0)) in omega (arith, e .count)
 
-  pub word-more : {n d : ℕ} → Word X s end n v i → 0 < n → i < length s → d ≡ digitOf (getD s i 0) → d < 16 → Word X s end (n - 1) (v * 16 + d) (i + 1)
-  unfolding wordAt room
-  word-more {n = zero} e p h q hd = absurd (omega arith)
-  word-more {n = suc n} {d} e p h q hd =
-      let r : suc n - 1 ≡ n = omega arith in
-      rw r (record { same = simp (drop-at s i h, ← q, lt-ltb d 16 hd) at (e .same); small = omega (arith, e .small) })
+  pub word-none : (others ≡ 0 → ⊥) → unfound ≡ X
+  word-none z = e .none (omega arith)
 
-  pub word-done : {n : ℕ} {r : Field} → Word X s end n v i → n ≤ 0 → r ≡ endAt end v i (drop i s) → r ≡ X
+  pub word-done : {r : Field} → 16 ≤ k → others ≡ 0 → r ≡ endAt end v (at + 16) (drop (at + 16) s) → r ≡ X
   unfolding wordAt
-  word-done {n = zero} e p q = q ∙ e .same
-  word-done {n = suc n} e p q = absurd (omega arith)
+  word-done l z q =
+      let k′ : k ≡ 16 = omega (arith, e .most) in
+      q ∙ (rw k′ at (e .same z))
 
 -- ---- the loop of a tag: k bytes of t were found up to i
 pub record Tag (X : Field) (s t : List ℕ) (k i : ℕ) : Type 0 where

@@ -3,7 +3,8 @@
 use sheet::Field;
 ghost use mathlib.Core.Path.{_≡_};
 ghost use Prim.Native.Nat.{_+_, _*_, _<_, _≤_, min};
-ghost use lib.ListN.{drop};
+ghost use lib.ListN.{length, drop};
+ghost use Rattle.field.specs.Nibbles.{Nibbles};
 ghost use Rattle.sheet.specs.Field.{digitOf, digitsFrom, cap, endAt, isFinite, isZero};
 ghost use Rattle.sheet.specs.Line.{lf, numberTo, wordTo, tagTo};
 
@@ -105,26 +106,53 @@ fn ended(s: &[u8], at: usize, v: u64) -> Field
     UNFOUND
 }
 
-// A word of 16 lower-case hexadecimal digits, and LF.
+// The same without a branch: which digit of a word comes cannot be guessed.
+fn nibble(b: u8) -> u8
+    ensures { λ r. ⌜ r ≡ digitOf b ⌝ }
+{
+    let value = b % 16 + b / 64 * 9;
+    let found = ((48 <= b) & (b < 58)) | ((97 <= b) & (b < 103));
+    if found { value } else { 16 }
+}
+
+// The values of 16 bytes, side by side.
+fn nibbles(s: &[u8], at: usize) -> [u8; 16]
+    requires { ⌜ at + 16 ≤ length (now s) ⌝ }
+    ensures { λ r. ⌜ Nibbles 16 r (now (s .entry)) at ⌝ }
+{
+    let mut t = [0u8; 16];
+    let mut k: usize = 0;
+    while k < 16 {
+        t[k] = nibble(s[at + k]);
+        k += 1;
+    }
+    t
+}
+
+// A word of 16 lower-case hexadecimal digits, and LF. Bytes that are no digit are counted, and looked at once behind the last.
 pub fn word(s: &[u8], at: usize) -> Field
     ensures { λ r. ⌜ r ≡ wordTo (now (s .entry)) at ⌝ }
 {
-    let mut v: u64 = 0;
-    let mut i = at;
-    let mut left: usize = 16;
-    while 0 < left {
-        if s.len() <= i {
-            return UNFOUND;
-        }
-        let d = digit(s[i]);
-        if 16 <= d {
-            return UNFOUND;
-        }
-        v = v * 16 + d;
-        i += 1;
-        left -= 1;
+    if s.len() < 17 {
+        return UNFOUND;
     }
-    ended(s, i, v)
+    if s.len() - 17 < at {
+        return UNFOUND;
+    }
+    let t = nibbles(s, at);
+    let mut v: u64 = 0;
+    let mut others: u64 = 0;
+    let mut k: usize = 0;
+    while k < 16 {
+        let d = t[k] as u64;
+        v = v % 1152921504606846976 * 16 + d % 16;
+        others += d / 16;
+        k += 1;
+    }
+    if others != 0 {
+        return UNFOUND;
+    }
+    ended(s, at + 16, v)
 }
 
 // The bytes `t` at a position, and the position past them.

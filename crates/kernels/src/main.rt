@@ -4,28 +4,15 @@ mod cases;
 ghost use Prim.Native.Nat.{_+_, _≤_, _<_};
 ghost use lib.ListN.{length};
 use case_list::held;
-use case_list::list;
 use case_list::names;
 use case_sizes::sizes;
 use libc::STDOUT_FILENO;
+use word_list::tally;
 
 // How many kernels there are, and how many disagreeing cases are named.
 const KERNELS: usize = 33;
 
 const NAMED: u64 = 10;
-
-// A case begins with this number above its own, which counts from 1.
-const CASE: u64 = 0xca5e0000;
-
-// A count more, at `at`.
-fn count(counts: &mut [u64; 100], at: usize)
-    requires { ⌜ at < 100 ⌝ }
-{
-    let n = counts[at];
-    if n < 1000000 {
-        counts[at] = n + 1;
-    }
-}
 
 // Names a case that does not agree.
 fn name_case(number: u64, f: usize, ended: u8) {
@@ -44,16 +31,16 @@ fn name_case(number: u64, f: usize, ended: u8) {
 fn counted(counts: &mut [u64; 100], number: u64, f: usize, ended: u8)
     requires { ⌜ f < 33 ⌝ }
 {
-    count(counts, f);
+    tally::count(counts, f);
     if ended == held::AGREES {
-        count(counts, 33 + f);
+        tally::count(counts, 33 + f);
         return;
     }
     if ended == held::OUT_OF_FORM {
-        count(counts, 66 + f);
+        tally::count(counts, 66 + f);
     }
     if counts[99] < NAMED {
-        count(counts, 99);
+        tally::count(counts, 99);
         name_case(number, f, ended);
     }
 }
@@ -110,19 +97,19 @@ fn case(
     let rows = sizes::small(head[19]);
     let total = n + m + rows + changed;
     if n > w.len() {
-        return stopped(list::MALFORMED);
+        return stopped(word_list::MALFORMED);
     }
     if m > v.len() {
-        return stopped(list::MALFORMED);
+        return stopped(word_list::MALFORMED);
     }
     if rows > h.len() {
-        return stopped(list::MALFORMED);
+        return stopped(word_list::MALFORMED);
     }
     if total > words.len() {
-        return stopped(list::MALFORMED);
+        return stopped(word_list::MALFORMED);
     }
-    let state = list::read_words(fd, words, total);
-    if state != list::OPEN {
+    let state = word_list::read_words(fd, words, total);
+    if state != word_list::OPEN {
         return stopped(state);
     }
     let ended = judged(head, words, w, n, v, m, h, rows, changed);
@@ -133,37 +120,25 @@ fn case(
 fn body(fd: i32, head: &[u64; 20], counts: &mut [u64; 100], number: u64) -> u8 {
     let f = sizes::small(head[0]);
     if f >= KERNELS {
-        return list::MALFORMED;
+        return word_list::MALFORMED;
     }
     let mut words = [0u64; 22528];
     let mut w = [0f64; 8704];
     let mut v = [0f64; 4096];
     let mut h = [0u32; 1024];
     let e = case(fd, head, &mut words, &mut w, &mut v, &mut h);
-    if e.state != list::OPEN {
+    if e.state != word_list::OPEN {
         return e.state;
     }
     counted(counts, number, f, e.ended);
-    list::OPEN
+    word_list::OPEN
 }
 
 // One case more.
 fn step(fd: i32, counts: &mut [u64; 100], number: u64) -> u8 {
-    let first = list::read_word(fd);
-    let state = first.state;
-    if state != list::OPEN {
-        return state;
-    }
-    let word = first.word;
-    if word / 0x100000000 != CASE {
-        return list::MALFORMED;
-    }
-    if word % 0x100000000 != number {
-        return list::MALFORMED;
-    }
     let mut head = [0u64; 20];
-    let state = list::read_words(fd, &mut head, 20);
-    if state != list::OPEN {
+    let state = word_list::read_head(fd, &mut head, number);
+    if state != word_list::OPEN {
         return state;
     }
     body(fd, &head, counts, number)
@@ -171,21 +146,13 @@ fn step(fd: i32, counts: &mut [u64; 100], number: u64) -> u8 {
 
 // The cases of the whole list. A proved loop has to end, and nothing says that a file does, so it takes a million cases at most.
 fn tallied(fd: i32, counts: &mut [u64; 100]) -> u8 {
-    let mut state = list::OPEN;
+    let mut state = word_list::OPEN;
     let mut number: u64 = 1;
-    while number < 1000000 && state == list::OPEN {
+    while number < 1000000 && state == word_list::OPEN {
         state = step(fd, counts, number);
         number += 1;
     }
     state
-}
-
-fn print_counts(agreed: u64, seen: u64) {
-    io::write_all(STDOUT_FILENO, b" ");
-    io::print_decimal(STDOUT_FILENO, agreed);
-    io::write_all(STDOUT_FILENO, b" of ");
-    io::print_decimal(STDOUT_FILENO, seen);
-    io::write_all(STDOUT_FILENO, b"\n");
 }
 
 // A line for each kernel that has cases.
@@ -194,7 +161,7 @@ fn print_kernels(counts: &[u64; 100]) {
     while f < 33 {
         if counts[f] > 0 {
             names::print(f);
-            print_counts(counts[33 + f], counts[f]);
+            tally::print_counts(counts[33 + f], counts[f]);
         }
         f += 1;
     }
@@ -213,42 +180,15 @@ fn total(counts: &[u64; 100], from: usize) -> u64
     sum
 }
 
-// The last lines. Only a list that was read to its end, and has cases, agrees.
+// The last lines.
 fn print_verdict(counts: &[u64; 100], state: u8) {
     let seen = total(counts, 0);
     let agreed = total(counts, 33);
     io::write_all(STDOUT_FILENO, b"kernels");
-    print_counts(agreed, seen);
+    tally::print_counts(agreed, seen);
     io::print_decimal(STDOUT_FILENO, total(counts, 66));
     io::write_all(STDOUT_FILENO, b" out of form\n");
-    match state {
-        list::ENDED => {
-            if seen == 0 {
-                io::write_all(STDOUT_FILENO, b"the list is empty\n");
-                return;
-            }
-            if agreed == seen {
-                io::write_all(STDOUT_FILENO, b"all agree\n");
-                return;
-            }
-            io::write_all(STDOUT_FILENO, b"DISAGREE\n");
-        }
-        list::OPEN => {
-            io::write_all(
-                STDOUT_FILENO,
-                b"the list has more cases than the program takes\n",
-            );
-        }
-        list::CUT => {
-            io::write_all(STDOUT_FILENO, b"the list ends within a case\n");
-        }
-        list::MALFORMED => {
-            io::write_all(STDOUT_FILENO, b"the list is malformed\n");
-        }
-        _ => {
-            io::write_all(STDOUT_FILENO, b"the list cannot be read\n");
-        }
-    }
+    tally::print_verdict(agreed, seen, state);
 }
 
 fn main() {

@@ -1,0 +1,25 @@
+-- `block_map::within`: both tests.
+use native.Mathlib.Omega.{arith}
+use borrow.Author.Tests.{lt-leb, le-leb}
+use borrow.Author.Needs.{needs}
+use Rattle.block_map.proofs.within.Statement.{statement}
+use Rattle.block_map.proofs.within.Tie as tie
+
+-- src/lib.rt:121:9
+returns : tie.Need-returns
+returns c =
+    let a = c .before .args in
+    rw (lt-leb (a .first) (a .x) (omega arith))
+
+-- src/lib.rt:123:9
+add-result : tie.Need-add-result
+add-result c = search needs
+
+-- src/lib.rt:116:1
+returns-2 : tie.Need-returns-2
+returns-2 c =
+    let a = c .before .args in
+    rw (le-leb (a .first) (a .x) (omega arith))
+
+pub within-spec : {M : Type 1} → statement M
+within-spec = tie.close (tie.spec returns add-result returns-2)

@@ -1,0 +1,139 @@
+// Which sorted block has a row of the sheet (document 01, Record 3: rows keep sheet order, blocks are sorted). Definitions are in specs/Blocks.antt.
+use layout::Layout;
+ghost use mathlib.Core.Path.{_≡_};
+ghost use mathlib.Core.Bool.{true, cond, _&&_};
+ghost use lib.Dec.{ltb, leb};
+ghost use lib.ListN.{length, getD};
+ghost use Prim.Native.Nat.{ℕ, _+_, _*_, _≤_, _<_};
+ghost use Rattle.layout.specs.Shapes.{loadedAt};
+ghost use Rattle.layout.specs.Heading.{lawful, sheetLevels};
+ghost use Rattle.workspace.specs.Loaded.{rowStart, inBlock};
+ghost use Rattle.block_map.specs.Blocks.{blockOf, Maps};
+
+// Of a layout: the first row of each sorted block in the sheet, and where each loaded block (i, j) starts, at 9 i + j.
+pub struct Map {
+    pub first: [u64; 8],
+    pub at: [u64; 81],
+}
+
+// One number or the other.
+fn choose(b: bool, x: u64, other: u64) -> u64
+    ensures { λ r. ⌜ r ≡ cond b x other ⌝ }
+{
+    if b {
+        return x;
+    }
+    other
+}
+
+// Levels of the block that has sheet index i.
+fn sheet_levels(y: Layout, i: u64) -> u64
+    requires { ⌜ lawful y ≡ true ⌝ }
+    ensures { λ r. ⌜ r ≡ sheetLevels y (y .k) i ⌝ }
+{
+    let k = y.k as usize;
+    let mut m: u64 = 0;
+    let mut s: usize = 0;
+    while s < k {
+        m = choose(y.order[s] == i, y.m[s], m);
+        s += 1;
+    }
+    m
+}
+
+// The first row of sorted block j: the levels of the blocks before it in the sheet.
+fn row_start(y: Layout, j: usize) -> u64
+    requires { ⌜ (lawful y ≡ true) × (j < y .k) ⌝ }
+    ensures { λ r. ⌜ r ≡ rowStart y j ⌝ }
+{
+    let before = y.order[j];
+    let mut sum: u64 = 0;
+    let mut i: u64 = 0;
+    while i < before {
+        sum += sheet_levels(y, i);
+        i += 1;
+    }
+    sum
+}
+
+// The rows' starts of the sorted blocks, one after the other.
+fn fill_first(y: Layout, first: &mut [u64; 8])
+    requires { ⌜ (lawful y ≡ true) × (length (now first) ≡ 8) ⌝ }
+    ensures { λ _. ⌜ ((j : ℕ) → j < y .k → getD (now (first .exit)) j 0 ≡ rowStart y j) ⌝ }
+{
+    let k = y.k as usize;
+    let mut j: usize = 0;
+    while j < k {
+        first[j] = row_start(y, j);
+        j += 1;
+    }
+}
+
+// Where loaded block (i, j) starts, for t = 9 i + j; 0 where there is no such block.
+fn start_at(y: Layout, t: usize) -> u64
+    requires { ⌜ lawful y ≡ true ⌝ }
+    ensures { λ r. ⌜ ((i j : ℕ) → t ≡ i * 9 + j → j ≤ i → i ≤ y .k → r ≡ loadedAt y i j) ⌝ }
+{
+    let i = (t / 9) as u64;
+    let j = (t % 9) as u64;
+    if i < j {
+        return 0;
+    }
+    if y.k < i {
+        return 0;
+    }
+    places::loaded_at(y, i, j) as u64
+}
+
+// The starts of all loaded blocks.
+fn fill_at(y: Layout, at: &mut [u64; 81])
+    requires { ⌜ (lawful y ≡ true) × (length (now at) ≡ 81) ⌝ }
+    ensures { λ _. ⌜ ((i j : ℕ) → j ≤ i → i ≤ y .k → getD (now (at .exit)) (i * 9 + j) 0 ≡ loadedAt y i j) ⌝ }
+{
+    let mut t: usize = 0;
+    while t < 81 {
+        at[t] = start_at(y, t);
+        t += 1;
+    }
+}
+
+// The map of a layout.
+pub fn map_of(y: Layout) -> Map
+    requires { ⌜ lawful y ≡ true ⌝ }
+    ensures { λ r. ⌜ Maps y r ⌝ }
+{
+    let mut first: [u64; 8] = [0; 8];
+    let mut at: [u64; 81] = [0; 81];
+    fill_first(y, &mut first);
+    fill_at(y, &mut at);
+    Map {
+        first: first,
+        at: at,
+    }
+}
+
+// Whether x is one of the rows of a block.
+fn within(first: u64, levels: u64, x: u64) -> bool
+    requires { ⌜ (first ≤ 524280) × (levels ≤ 65535) ⌝ }
+    ensures { λ r. ⌜ r ≡ (leb first x && ltb x (first + levels)) ⌝ }
+{
+    if x < first {
+        return false;
+    }
+    x < first + levels
+}
+
+// The sorted block that has row x of the sheet, or k where none has.
+pub fn block_of(y: Layout, m: Map, x: u64) -> u64
+    requires { ⌜ (lawful y ≡ true) × Maps y m ⌝ }
+    ensures { λ r. ⌜ r ≡ blockOf y (y .k) x ⌝ }
+{
+    let k = y.k as usize;
+    let mut b = y.k;
+    let mut j: usize = 0;
+    while j < k {
+        b = choose(within(m.first[j], y.m[j], x), j as u64, b);
+        j += 1;
+    }
+    b
+}

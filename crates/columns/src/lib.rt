@@ -1,0 +1,87 @@
+// Whether each level of one block has exactly one entry with the levels of another (document 01, Record 2, the gate for k = 2), read from the zz lines.
+use sheet::Counts;
+use sheet::Line;
+use sheet::Starts;
+ghost use mathlib.Core.Path.{_≡_};
+ghost use mathlib.Core.Bool.{_&&_};
+ghost use mathlib.Core.List.{List};
+ghost use Prim.Native.Nat.{ℕ, _+_, _*_, _/_, _<_, _^_};
+ghost use lib.ListN.{length};
+ghost use Rattle.sheet.specs.Line.{zzTag, pairLine};
+ghost use Rattle.sheet.specs.Sheet.{Sheet, accepted, readSheet};
+ghost use Rattle.sheet.specs.Whole.{InRange};
+ghost use Rattle.layout.specs.Heading.{bit};
+ghost use Rattle.levels.specs.Held.{Holds};
+ghost use Rattle.columns.specs.Columns.{inRun, eachOne, inTurn, entriesAt};
+
+// How many lines of a sheet are not zz lines, and one more: the number of the line past the last, in a sheet without zz lines.
+fn other_lines(c: Counts) -> u64
+    requires { ⌜ InRange c ⌝ }
+    ensures { λ r. ⌜ r ≡ 3 + c .k + c .q * c .p + c .q + c .p * (c .p + 1) / 2 + c .p ⌝ }
+{
+    3 + c.k + c.q * c.p + c.q + c.p * (c.p + 1) / 2 + c.p
+}
+
+// How many zz lines a sheet has.
+fn entries(z: Starts) -> u64
+    requires { ⌜ ((s : List ℕ) × Holds s z) ⌝ }
+    ensures { λ r. ⌜ ((s : List ℕ) (sheet : Sheet) → readSheet s ≡ accepted sheet z → r ≡ length (sheet .zz)) ⌝ }
+{
+    let c = z.counts;
+    z.line - other_lines(c)
+}
+
+// Whether x is one of the n numbers from a on.
+fn in_run(a: u64, n: u64, x: u64) -> bool
+    requires { ⌜ a + n < 2 ^ 64 ⌝ }
+    ensures { λ r. ⌜ r ≡ inRun a n x ⌝ }
+{
+    (a <= x) & (x < a + n)
+}
+
+// 1 where column and row are those of the pair, else 0.
+fn in_pair(col: u64, row: u64, from: u64, cols: u64, at: u64, rows: u64) -> u64
+    requires { ⌜ (from + cols < 2 ^ 64) × (at + rows < 2 ^ 64) ⌝ }
+    ensures { λ r. ⌜ r ≡ bit (inRun from cols col && inRun at rows row) ⌝ }
+{
+    if in_run(from, cols, col) & in_run(at, rows, row) {
+        return 1;
+    }
+    0
+}
+
+// The zz line at a position.
+fn entry_line(s: &[u8], at: usize) -> Line
+    ensures { λ r. ⌜ r ≡ pairLine zzTag (now (s .entry)) at ⌝ }
+{
+    line::pair_line(b"zz\t", s, at)
+}
+
+// One pass over n zz lines that start at a position.
+fn in_turn(s: &[u8], start: usize, n: u64, from: u64, cols: u64, at: u64, rows: u64) -> bool
+    requires { ⌜ (from + cols < 2 ^ 64) × (at + rows < 2 ^ 64) ⌝ }
+    ensures { λ r. ⌜ r ≡ inTurn from cols at rows from (entriesAt (now (s .entry)) n start) ⌝ }
+{
+    let mut p = start;
+    let mut left = n;
+    let mut due = from;
+    while 0 < left {
+        let l = entry_line(s, p);
+        let f = in_pair(l.first, l.second, from, cols, at, rows);
+        if (f == 1) & (l.first != due) {
+            return false;
+        }
+        due += f;
+        p = l.next;
+        left -= 1;
+    }
+    due == from + cols
+}
+
+// Whether each of the columns from `from` on, `cols` of them, has exactly one entry in the rows from `at` on, `rows` of them.
+pub fn one_each(s: &[u8], z: Starts, from: u64, cols: u64, at: u64, rows: u64) -> bool
+    requires { ⌜ Holds (now s) z × (from + cols < 2 ^ 64) × (at + rows < 2 ^ 64) ⌝ }
+    ensures { λ r. ⌜ ((sheet : Sheet) → readSheet (now (s .entry)) ≡ accepted sheet z → r ≡ eachOne from cols at rows (sheet .zz)) ⌝ }
+{
+    in_turn(s, z.zz, entries(z), from, cols, at, rows)
+}

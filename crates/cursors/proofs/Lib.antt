@@ -1,0 +1,4 @@
+pub mod Columns
+pub mod Entries
+pub mod Blocks
+pub mod Turns

@@ -1,0 +1,117 @@
+-- The numbers of a heading, read into an array and written out of one.
+use Prim.Native.Nat.{ℕ, zero, suc, _+_, _≤_, _<_}
+use mathlib.Core.Path.{_≡_, refl, sym, ap, _∙_}
+use mathlib.Core.List.{List, [], _∷_, _++_}
+use native.Mathlib.Nat.{add-zero}
+use native.Mathlib.Omega.{arith}
+use lib.ListN.{length, getD, take, drop, set, replicate, length-drop}
+use lib.Seq.{getD-drop, take-all}
+use Rattle.storage.specs.Part.{store}
+use Rattle.storage.proofs.Cells.{take-tab}
+use Rattle.storage.proofs.Parts.{store-nil, store-one, store-more}
+use Rattle.layout.specs.declared.Layout.{Layout}
+use Rattle.layout.specs.declared.Progress.{Progress}
+use Rattle.layout.specs.declared.State.the-variants.{Finished}
+use Rattle.layout.specs.Blocks.{padded}
+use Rattle.layout.specs.Heading.{bit, stateNumber, stateOf, layoutNumbers, progressNumbers, written}
+use Rattle.gate.proofs.Filling.{Filling, filling-done, array-done}
+use Rattle.gate.proofs.Sorting.{padded-at, length-padded}
+
+-- ---- reading
+
+-- the number x places behind `at`
+abbrev pub behind : List ℕ → ℕ → ℕ → ℕ
+behind h at x = getD h (at + x) 0
+
+-- an array of n numbers, all read
+pub read-all : (h : List ℕ) (at : ℕ) {n : ℕ} {w r : List ℕ} {j : ℕ} → Filling (behind h at) 0 n w r j → n ≤ j → length w ≡ n → at + n ≤ length h → r ≡ take n (drop at h)
+read-all h at {n} e g q l =
+    array-done e g q ∙ sym (take-tab 0 n (behind h at) (drop at h) (omega (arith, length-drop at h)) (λ i b. getD-drop at h i 0))
+
+-- a number past 1 is read as finished
+pub state-else : (v : ℕ) → (v ≡ 0 → ⊥) → (v ≡ 1 → ⊥) → Finished ≡ stateOf v
+state-else zero a b = absurd (a refl)
+state-else (suc zero) a b = absurd (b refl)
+state-else (suc (suc v)) a b = refl
+
+-- ---- writing
+
+-- one number
+pub stored-one : (w : List ℕ) (at v : ℕ) → at < length w → set w at v ≡ store at (v ∷ []) w
+stored-one w at v h =
+    simp (store-nil, add-zero) at (store-one at [] w (omega arith) v (omega arith))
+
+-- the first n numbers of l
+abbrev pub each : List ℕ → ℕ → ℕ
+each l x = getD l x 0
+
+-- all of them
+pub stored-all : (l : List ℕ) {at n : ℕ} {w r : List ℕ} {j : ℕ} → Filling (each l) at n w r j → n ≤ j → r ≡ store at (padded n l) w
+stored-all l {at} {n} {w} e g =
+    filling-done e g
+    ∙ ap (λ (x : List ℕ). store at x w)
+    (sym (take-tab 0 n (each l) (padded n l) (omega (arith, length-padded n l)) (λ i b. padded-at n l i b)) ∙ take-all n (padded n l) (omega (arith, length-padded n l)))
+
+long-layout : (y : Layout) → 22 ≡ length (layoutNumbers y)
+unfolding layoutNumbers padded
+long-layout y = refl
+
+long-both : (y : Layout) (g : Progress) → 69 ≡ length (layoutNumbers y ++ progressNumbers g)
+unfolding layoutNumbers progressNumbers padded
+long-both y g = refl
+
+-- b written right behind a: both are written as one
+then : (w : List ℕ) (off p : ℕ) (a b : List ℕ) → p ≡ off + length a → p ≤ length w → store p b (store off a w) ≡ store off (a ++ b) w
+then w off p a b z h = rw z (store-more off a w (omega arith) b)
+
+module _ (w : List ℕ) {w₁ w₂ w₃ w₄ : List ℕ} where
+  -- the counts, one by one
+  pub counts-stored : (n p q k : ℕ) → w₄ ≡ store 3 (k ∷ []) w₃ → w₃ ≡ store 2 (q ∷ []) w₂ → w₂ ≡ store 1 (p ∷ []) w₁ → w₁ ≡ store 0 (n ∷ []) w → 4 ≤ length w
+      → w₄ ≡ store 0 (n ∷ p ∷ q ∷ k ∷ []) w
+  counts-stored n p q k e₄ e₃ e₂ e₁ h =
+      rw (e₄, e₃, e₂, e₁, then w 0 1 (n ∷ []) (p ∷ []) refl (omega arith), then w 0 2 (n ∷ p ∷ []) (q ∷ []) refl (omega arith))
+      (then w 0 3 (n ∷ p ∷ q ∷ []) (k ∷ []) refl (omega arith))
+
+  -- the layout: counts, levels, sheet indexes, flags
+  pub layout-stored : (y : Layout) → w₄ ≡ store 20 (bit (y .sparse) ∷ bit (y .diagonal) ∷ []) w₃ → w₃ ≡ store 12 (padded 8 (y .order)) w₂ → w₂ ≡ store 4 (padded 8 (y .m)) w₁
+      → w₁ ≡ store 0 (y .n ∷ y .p ∷ y .q ∷ y .k ∷ []) w → 128 ≤ length w → w₄ ≡ store 0 (layoutNumbers y) w
+  unfolding layoutNumbers padded
+  layout-stored y e₄ e₃ e₂ e₁ h =
+      rw (e₄, e₃, e₂, e₁)
+      (ap (λ (x : List ℕ). store 20 flags (store 12 order x)) (then w 0 4 counts m refl (omega arith))
+      ∙ ap (λ (x : List ℕ). store 20 flags x) (then w 0 12 (counts ++ m) order refl (omega arith))
+      ∙ then w 0 20 (counts ++ m ++ order) flags refl (omega arith))
+    where
+      counts : List ℕ
+      counts = y .n ∷ y .p ∷ y .q ∷ y .k ∷ []
+
+      m : List ℕ
+      m = padded 8 (y .m)
+
+      order : List ℕ
+      order = padded 8 (y .order)
+
+      flags : List ℕ
+      flags = bit (y .sparse) ∷ bit (y .diagonal) ∷ []
+
+-- the flags
+pub flags-stored : (w : List ℕ) {w₁ w₂ : List ℕ} {a b : ℕ} (s d : ℕ) → w₂ ≡ store 21 (b ∷ []) w₁ → w₁ ≡ store 20 (a ∷ []) w → a ≡ s → b ≡ d → 22 ≤ length w → w₂ ≡ store 20 (s ∷ d ∷ []) w
+flags-stored w s d e₂ e₁ a b h = rw (e₂, e₁, a, b) (then w 20 21 (s ∷ []) (d ∷ []) refl (omega arith))
+
+module _ (w : List ℕ) {w₁ w₂ w₃ : List ℕ} where
+  -- the progress: state, steps left, stages
+  pub progress-stored : {a : ℕ} (g : Progress) → w₃ ≡ store 24 (padded 45 (g .stages)) w₂ → w₂ ≡ store 23 (g .left ∷ []) w₁ → w₁ ≡ store 22 (a ∷ []) w → a ≡ stateNumber (g .state)
+      → 128 ≤ length w → w₃ ≡ store 22 (progressNumbers g) w
+  unfolding progressNumbers
+  progress-stored g e₃ e₂ e₁ a h =
+      rw (e₃, e₂, e₁, a, then w 22 23 (stateNumber (g .state) ∷ []) (g .left ∷ []) refl (omega arith))
+      (then w 22 24 (stateNumber (g .state) ∷ g .left ∷ []) (padded 45 (g .stages)) refl (omega arith))
+
+  -- the whole heading: layout, progress, noughts
+  pub all-stored : (y : Layout) (g : Progress) → w₃ ≡ store 69 (replicate 59 0) w₂ → w₂ ≡ store 22 (progressNumbers g) w₁ → w₁ ≡ store 0 (layoutNumbers y) w → 128 ≤ length w
+      → w₃ ≡ store 0 (written y g) w
+  unfolding written
+  all-stored y g e₃ e₂ e₁ h =
+      rw (e₃, e₂, e₁)
+      (ap (λ (x : List ℕ). store 69 (replicate 59 0) x) (then w 0 22 (layoutNumbers y) (progressNumbers g) (long-layout y) (omega arith))
+      ∙ then w 0 69 (layoutNumbers y ++ progressNumbers g) (replicate 59 0) (long-both y g) (omega arith))

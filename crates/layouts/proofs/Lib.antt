@@ -1,0 +1,4 @@
+pub mod Picking
+pub mod Reading
+pub mod Pairs
+pub mod Found

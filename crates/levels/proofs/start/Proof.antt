@@ -1,0 +1,62 @@
+-- `levels::start`: the sum so far.
+use Prim.Native.Nat.{_-_}
+use borrow.Author.Needs.{needs}
+use native.Mathlib.Omega.{arith}
+use Rattle.levels.proofs.Sums.{Summed, summed-start, summed-more, summed-fits, summed-done}
+use Rattle.levels.proofs.start.Statement.{statement}
+use Rattle.levels.proofs.start.Tie as tie
+use Rattle.levels.proofs.start.Reads as reads
+use Rattle.levels.proofs.start.Lts as lts
+
+abbrev Inv-loop : tie.InvT-loop
+Inv-loop n m t₀ i₀ t i = Summed m n t i
+
+abbrev μ-loop : tie.MeasureT-loop
+μ-loop n m t₀ i₀ t i = n - i
+
+-- src/lib.rt:71:5
+loop-holds : tie.Need-loop-holds Inv-loop μ-loop
+loop-holds c = summed-start _ _
+
+-- src/lib.rt:72:14
+mul-t : tie.Need-mul-t Inv-loop μ-loop
+mul-t c = search needs
+
+-- src/lib.rt:72:14
+array-read-t : tie.Need-array-read-t Inv-loop μ-loop
+array-read-t c = search needs
+
+-- src/lib.rt:72:9
+add-t : tie.Need-add-t Inv-loop μ-loop
+add-t c = record { fits = search summed-fits }
+
+-- src/lib.rt:73:9
+add-i : tie.Need-add-i Inv-loop μ-loop
+add-i c = search needs
+
+-- src/lib.rt:71:5
+loop-less : tie.Need-loop-less Inv-loop μ-loop
+loop-less c = search needs
+
+-- src/lib.rt:71:5
+loop-again : tie.Need-loop-again Inv-loop μ-loop
+loop-again c = search summed-more
+
+-- src/lib.rt:65:1
+returns : tie.Need-returns Inv-loop μ-loop
+returns c = summed-done (c .before .loop .inv) (omega arith)
+
+pub start-spec : {M : Type 1} → statement M
+start-spec =
+    tie.close
+    (tie.spec
+    Inv-loop
+    μ-loop
+    loop-holds
+    mul-t
+    array-read-t
+    add-t
+    add-i
+    loop-less
+    loop-again
+    returns)

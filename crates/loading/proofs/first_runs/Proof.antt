@@ -1,0 +1,87 @@
+-- `loading::first_runs`: three runs, one after the other.
+use Prim.Native.Nat.{ℕ}
+use mathlib.Core.Path.{sym, subst}
+use native.Mathlib.Omega.{arith}
+use denote.Ref.{now}
+use Rattle.word_places.specs.declared.Run.the-variants.{Zz, Zx, Zy}
+use Rattle.word_places.specs.Spread.{lineOf, EachLine, FiniteWord}
+use Rattle.loading.proofs.Loads.{ready-lawful, few-q, few-p, few-k, grid-of, lines-left, zz-count, zz-few, zz-lines, zx-count, zx-lines, zy-count, zy-lines, first-made}
+use borrow.Author.Needs.{needs}
+use Rattle.loading.proofs.first_runs.Statement.{statement}
+use Rattle.loading.proofs.first_runs.Tie as tie
+
+-- src/lib.rt:43:43
+entries-of-requires : tie.Need-entries-of-requires
+entries-of-requires c κs =
+    let st = c .before .before in
+    let a = st .args in
+    let r = st .pre .0 in
+    (few-q (now (a .s)) (a .z) (a .y) r, few-p (now (a .s)) (a .z) (a .y) r, few-k (now (a .s)) (a .z) (a .y) r, lines-left (now (a .s)) (a .z) (a .y) r)
+
+-- src/lib.rt:43:5
+scatter-requires : tie.Need-scatter-requires
+scatter-requires c κs =
+    let st = c .before .before .before .before in
+    let a = st .args in
+    let r = st .pre .0 in (
+      ready-lawful (now (a .s)) (a .z) (a .y) r,
+      st .pre .1,
+      omega (arith, zz-few (now (a .s)) (a .z) (a .y) r, zz-count (now (a .s)) (a .z) (a .y) r (c .before .entries-of .result) (c .before .entries-of .ensures)),
+      subst (λ (n : ℕ). EachLine FiniteWord (lineOf Zz (now (a .s))) n (a .z .zz)) (sym (zz-count (now (a .s)) (a .z) (a .y) r (c .before .entries-of .result) (c .before .entries-of .ensures))) (zz-lines (now (a .s)) (a .z) (a .y) r),
+    )
+
+-- src/lib.rt:44:43
+mul-scatter : tie.Need-mul-scatter
+mul-scatter c =
+    let st = c .before .before .before .before .before .before .before .before in
+    let a = st .args in
+    let r = st .pre .0 in
+    omega (arith, grid-of (a .y .q) (a .y .p) (few-q (now (a .s)) (a .z) (a .y) r) (few-p (now (a .s)) (a .z) (a .y) r))
+
+-- src/lib.rt:44:5
+scatter-requires-2 : tie.Need-scatter-requires-2
+scatter-requires-2 c κs =
+    let st = c .before .before .before .before .before .before .before .before .before in
+    let a = st .args in
+    let r = st .pre .0 in (
+      ready-lawful (now (a .s)) (a .z) (a .y) r,
+      st .pre .1,
+      omega (arith, grid-of (a .y .q) (a .y .p) (few-q (now (a .s)) (a .z) (a .y) r) (few-p (now (a .s)) (a .z) (a .y) r)),
+      subst (λ (n : ℕ). EachLine FiniteWord (lineOf Zx (now (a .s))) n (a .z .zx)) (sym (zx-count (now (a .s)) (a .z) (a .y) r)) (zx-lines (now (a .s)) (a .z) (a .y) r),
+    )
+
+-- src/lib.rt:45:5
+scatter-requires-3 : tie.Need-scatter-requires-3
+scatter-requires-3 c κs =
+    let st = c .before .before .before .before .before .before .before .before .before .before .before .before .before in
+    let a = st .args in
+    let r = st .pre .0 in (
+      ready-lawful (now (a .s)) (a .z) (a .y) r,
+      st .pre .1,
+      omega (arith, few-q (now (a .s)) (a .z) (a .y) r),
+      subst (λ (n : ℕ). EachLine FiniteWord (lineOf Zy (now (a .s))) n (a .z .zy)) (sym (zy-count (now (a .s)) (a .z) (a .y) r)) (zy-lines (now (a .s)) (a .z) (a .y) r),
+    )
+
+-- src/lib.rt:39:1
+same-length : tie.Need-same-length
+same-length c = search needs
+
+-- src/lib.rt:39:1
+returns : tie.Need-returns
+returns c =
+    let st = c .before .before .before .before .before .before .before .before .before .before .before .before .before .before .before .before in
+    let a = st .args in
+    first-made (now (a .s)) (a .z) (a .y) (st .pre .0) (now (a .w)) _ _ _ (c .before .before .before .before .before .before .before .before .before .before .before .before .before .entries-of .result) (c .before .before .before .before .before .before .before .before .before .before .before .before .before .entries-of .ensures)
+    (c .before .before .before .before .before .before .before .before .before .before .before .scatter .ensures) (c .before .before .before .before .before .before .scatter2 .ensures) (c .before .before .scatter3 .ensures)
+
+pub first-runs-spec : {M : Type 1} → statement M
+first-runs-spec =
+    tie.close
+    (tie.spec
+    entries-of-requires
+    scatter-requires
+    mul-scatter
+    scatter-requires-2
+    scatter-requires-3
+    same-length
+    returns)

@@ -1,0 +1,51 @@
+-- `loading::load_numbers`: +0.0 everywhere, then all runs.
+use native.Mathlib.Omega.{arith}
+use denote.Ref.{now}
+use Rattle.loading.proofs.Loads.{ready-lawful, loaded}
+use borrow.Author.Needs.{needs}
+use Rattle.loading.proofs.load_numbers.Statement.{statement}
+use Rattle.loading.proofs.load_numbers.Tie as tie
+
+-- src/lib.rt:64:9
+map-of-requires : tie.Need-map-of-requires
+map-of-requires c κs =
+    let st = c .before .before in
+    let a = st .args in
+    ready-lawful (now (a .s)) (a .z) (a .y) (st .pre .0)
+
+-- src/lib.rt:65:5
+clear-all-requires : tie.Need-clear-all-requires
+clear-all-requires c κs =
+    let st = c .before .before .before .before in
+    let a = st .args in
+    (ready-lawful (now (a .s)) (a .z) (a .y) (st .pre .0), st .pre .1)
+
+-- src/lib.rt:66:5
+first-runs-requires : tie.Need-first-runs-requires
+first-runs-requires c κs = search needs
+
+-- src/lib.rt:67:5
+last-runs-requires : tie.Need-last-runs-requires
+last-runs-requires c κs = search needs
+
+-- src/lib.rt:60:1
+same-length : tie.Need-same-length
+same-length c = search needs
+
+-- src/lib.rt:60:1
+returns : tie.Need-returns
+returns c =
+    let st = c .before .before .before .before .before .before .before .before .before .before .before .before .before .before .before in
+    let a = st .args in
+    loaded (now (a .s)) (a .z) (a .y) (st .pre .0) (now (a .w)) _ _ _ (st .pre .1) (omega arith) (c .before .before .before .before .before .before .before .before .before .before .clear-all .ensures) (c .before .before .before .before .before .before .first-runs .ensures) (c .before .before .last-runs .ensures)
+
+pub load-numbers-spec : {M : Type 1} → statement M
+load-numbers-spec =
+    tie.close
+    (tie.spec
+    map-of-requires
+    clear-all-requires
+    first-runs-requires
+    last-runs-requires
+    same-length
+    returns)

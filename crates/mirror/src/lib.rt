@@ -1,0 +1,110 @@
+// Number 9 of a sheet (document 01, "Refused because of the input"): the line of a faulty zz entry. The lines are read again where they stand, in one pass for
+// each group of columns.
+use sheet::Starts;
+ghost use mathlib.Core.Path.{_≡_};
+ghost use mathlib.Core.Bool.{true};
+ghost use Prim.Native.Nat.{_+_, _*_, _/_, _<_, _≤_};
+ghost use lib.ListN.{length, replicate};
+ghost use Rattle.sheet.specs.Sheet.{Sheet, accepted, readSheet};
+ghost use Rattle.sheet.specs.Fault.{coversRows};
+ghost use Rattle.layout.specs.Blocks.{padded};
+ghost use Rattle.levels.specs.Held.{levelList};
+ghost use Rattle.cursors.specs.Held.{held, placeOf, Given, Levelled};
+ghost use Rattle.cursors.specs.Turns.{Pass};
+ghost use Rattle.mirror.specs.Mirror.{Found, Judged, Closed};
+
+// The number of zz lines of a sheet whose lines end before `line`: all but size and yy, those of the blocks, and one for each word of zx, zy, xx and xy.
+fn count(line: u64, k: u64, q: u64, p: u64) -> u64
+    requires { ⌜ (k ≤ 8) × (q ≤ 524280) × (p ≤ 32) × (3 + k + q * p + q + p * (p + 1) / 2 + p ≤ line) ⌝ }
+    ensures { λ r. ⌜ (r + (3 + k + q * p + q + p * (p + 1) / 2 + p) ≡ line) × (line < 18446744073709551616) ⌝ }
+{
+    line - (3 + k + q * p + q + p * (p + 1) / 2 + p)
+}
+
+// At the end of a pass: the number of the line at a cursor whose mirror never came, or 0.
+fn unmet(s: &[u8], z: Starts, n: u64, base: u64, cur: &[usize], due: u64) -> u64
+    requires { ⌜ Given (now s) z n × Pass (now s) z base (now cur) due n (placeOf (now s) z n) × (base + length (now cur) < 1152921504606846976) ⌝ }
+    ensures { λ r. ⌜ Closed (held (now (s .entry))) base (length (now (cur .entry))) r ⌝ }
+{
+    let mut col = base;
+    while col < due {
+        let j = (col - base) as usize;
+        let o = line::pair_line(b"zz\t", s, cur[j]);
+        if (o.first == col) & (col < o.second) {
+            return cursors::number_of(s, z, n, o.first, o.second);
+        }
+        col += 1;
+    }
+    0
+}
+
+// One pass over the lines, for the columns of `cur` from `base` on. Every cursor starts at the first zz line.
+fn pass(s: &[u8], z: Starts, m: [u64; 8], n: u64, base: u64, cur: &mut [usize]) -> u64
+    requires { ⌜ Given (now s) z n × Levelled (now s) m × (0 < n) × (base + length (now cur) < 1152921504606846976) × (now cur ≡ replicate (length (now cur)) (z .zz)) ⌝ }
+    ensures { λ r. ⌜ Judged (held (now (s .entry))) base (length (now (cur .entry))) r ⌝ }
+{
+    let mut due: u64 = 0;
+    let mut at = z.zz;
+    let mut i: u64 = 0;
+    while i < n {
+        let t = cursors::turn(s, z, m, n, base, cur, due, i, at);
+        if 0 < t.fault {
+            return t.fault;
+        }
+        due = t.due;
+        at = t.next;
+        i += 1;
+    }
+    unmet(s, z, n, base, cur, due)
+}
+
+// A pass for at most 1,024 columns: a small sheet sets up 8 KiB of cursors, not 512.
+fn few(s: &[u8], z: Starts, m: [u64; 8], n: u64) -> u64
+    requires { ⌜ Given (now s) z n × Levelled (now s) m × (0 < n) ⌝ }
+    ensures { λ r. ⌜ Judged (held (now (s .entry))) 0 1024 r ⌝ }
+{
+    let first = z.zz;
+    let mut cur = [first; 1024];
+    pass(s, z, m, n, 0, &mut cur)
+}
+
+// A pass for the 65,536 columns from `base` on.
+fn many(s: &[u8], z: Starts, m: [u64; 8], n: u64, base: u64) -> u64
+    requires { ⌜ Given (now s) z n × Levelled (now s) m × (0 < n) × (base < 4294967296) ⌝ }
+    ensures { λ r. ⌜ Judged (held (now (s .entry))) base 65536 r ⌝ }
+{
+    let first = z.zz;
+    let mut cur = [first; 65536];
+    pass(s, z, m, n, base, &mut cur)
+}
+
+// Every group of columns in turn; at most 65,536 columns are one group.
+fn groups(s: &[u8], z: Starts, m: [u64; 8], n: u64) -> u64
+    requires { ⌜ Given (now s) z n × Levelled (now s) m × (0 < n) ⌝ }
+    ensures { λ r. ⌜ Found (held (now (s .entry))) r ⌝ }
+{
+    let mut base: u64 = 0;
+    while base < z.counts.q {
+        let r = many(s, z, m, n, base);
+        if 0 < r {
+            return r;
+        }
+        base += 65536;
+    }
+    0
+}
+
+// The number of a line with a fault of number 9, or 0. The zz lines are read again where they stand. m: the blocks' levels in sheet order, 0 past the last.
+pub fn faulty_line(s: &[u8], z: Starts, m: [u64; 8]) -> u64
+    requires { ⌜ ((sheet : Sheet) × (readSheet (now s) ≡ accepted sheet z) × (coversRows sheet ≡ true) × (m ≡ padded 8 (levelList (sheet .blocks)))) ⌝ }
+    ensures { λ r. ⌜ ((sheet : Sheet) → readSheet (now (s .entry)) ≡ accepted sheet z → m ≡ padded 8 (levelList (sheet .blocks)) → Found sheet r) ⌝ }
+{
+    let n = count(z.line, z.counts.k, z.counts.q, z.counts.p);
+    if n == 0 {
+        return 0;
+    }
+    if z.counts.q <= 1024 {
+        return few(s, z, m, n);
+    }
+    groups(s, z, m, n)
+}

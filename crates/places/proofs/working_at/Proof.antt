@@ -1,0 +1,48 @@
+-- `places::working_at`: behind the loaded cells and theta, the working cells before it.
+use mathlib.Core.Bool.{true, false}
+use native.Mathlib.Omega.{arith}
+use Rattle.layout.specs.Shapes.{loadedLength, workingAt, targets}
+use Rattle.layout.proofs.Places.{block-inside, in-targets}
+use Rattle.places.specs.Kind.{sizesOf}
+use Rattle.places.proofs.Sizes.{few-blocks, cells-small}
+use borrow.Author.Needs.{needs}
+use Rattle.places.proofs.working_at.Statement.{statement}
+use Rattle.places.proofs.working_at.Tie as tie
+
+-- src/lib.rt:160:6
+all-cells-requires : tie.Need-all-cells-requires
+all-cells-requires c κs = search needs
+
+-- src/lib.rt:160:6
+add-result : tie.Need-add-result
+add-result c =
+    let s = c .before .before in
+    omega (arith, few-blocks (s .args .y) (s .pre .0), cells-small (s .args .y) (s .pre .0) true, c .before .all-cells .ensures)
+
+-- src/lib.rt:160:33
+cells-before-requires : tie.Need-cells-before-requires
+cells-before-requires c κs = search needs
+
+-- src/lib.rt:160:6
+add-result-2 : tie.Need-add-result-2
+add-result-2 c =
+    let s = c .before .before .before in
+    let a = s .args in
+    omega (
+      arith,
+      few-blocks (a .y) (s .pre .0),
+      cells-small (a .y) (s .pre .0) true,
+      cells-small (a .y) (s .pre .0) false,
+      block-inside (sizesOf (a .y) false) (targets (a .y .k)) (a .i) (a .j) (in-targets (a .y .k) (a .i) (a .j) (s .pre .1) (s .pre .2)),
+      c .before .before .all-cells .ensures,
+      c .cells-before .ensures,
+    )
+
+-- src/lib.rt:156:1
+returns : tie.Need-returns
+unfolding workingAt loadedLength
+returns c = omega (arith, c .before .before .all-cells .ensures, c .cells-before .ensures)
+
+pub working-at-spec : {M : Type 1} → statement M
+working-at-spec =
+    tie.close (tie.spec all-cells-requires add-result cells-before-requires add-result-2 returns)

@@ -1,0 +1,134 @@
+-- What `replace_response` leaves of a workspace, refusal by refusal.
+use Prim.Native.Nat.{ℕ, zero, suc, _≤_, _<_}
+use mathlib.Core.Path.{_≡_, refl, sym, ap, ap₂, _∙_}
+use mathlib.Core.Bool.{Bool, true, false, not, _&&_, _||_, and-eq-true-iff}
+use mathlib.Core.List.{List}
+use native.Mathlib.Omega.{arith}
+use lib.Dec.{ltb, leb, eqb}
+use lib.ListN.{length, getD, replicate}
+use lib.Ieee.{Float}
+use borrow.Author.Tests.{leb-true, eqb-true, eq-eqb, ne-eqb}
+use Rattle.refusal.specs.declared.Refusal.{Refusal}
+use Rattle.refusal.specs.declared.Answer.the-variants.{Refused}
+use Rattle.refusal.specs.Numbers.{refusal}
+use Rattle.rules.specs.Arithmetic.{ieee}
+use Rattle.layout.specs.declared.Layout.{Layout}
+use Rattle.layout.specs.Shapes.{levels, loadedLength, sumAt, numbersNeeded, doublesNeeded}
+use Rattle.layout.specs.Heading.{layoutOf, progressOf, entryRow, every, lawful, progressLawful, idle, headed}
+use Rattle.workspace.specs.Memory.{headingWith}
+use Rattle.workspace.specs.Answers.{space, accept, firstInfinite}
+use Rattle.workspace.specs.Response.{responded, replaceOf}
+use Rattle.heading.specs.Small.{SmallProgress}
+use Rattle.progress.proofs.Count.{triple-small, step-count}
+use Rattle.response_rows.specs.Strided.{responseRows}
+use Rattle.response_rows.proofs.Stored.{rows-stored}
+use Rattle.response.specs.Faults.{lengthFault, wordFault, firstOf}
+use Rattle.response.proofs.Faults.{unlessRefused, lengths, words, both, first-none, all-right}
+
+-- ---- progress none fits the heading
+
+noughts-small : (n i : ℕ) → getD (replicate n 0) i 0 < 4294967296
+noughts-small zero i = omega arith
+noughts-small (suc n) zero = omega arith
+noughts-small (suc n) (suc i) = noughts-small n i
+
+pub idle-small : (k : ℕ) → k ≤ 8 → SmallProgress (idle k)
+idle-small k h = record { left = omega (arith, step-count k h, triple-small k h); stages = noughts-small 45 }
+
+-- ---- what a workspace has
+
+pub record Workable (h : List ℕ) (doubles : ℕ) : Type 0 where
+  pub long : 128 ≤ length h
+  pub layout : lawful (layoutOf h) ≡ true
+  pub room : loadedLength (layoutOf h) ≤ doubles
+
+loaded-below : (y : Layout) (n : ℕ) → doublesNeeded y ≤ n → loadedLength y ≤ n
+unfolding sumAt
+loaded-below y n h = omega arith
+
+parts : (a b c d e f g h i : Bool) → (a && b && c && d && e && f && g && h && i) ≡ true → (a ≡ true) × (e ≡ true) × (h ≡ true)
+parts a b c d e f g h i t =
+    let t₈ = and-eq-true-iff (a && b && c && d && e && f && g && h) i .0 t in
+    let t₇ = and-eq-true-iff (a && b && c && d && e && f && g) h .0 (t₈ .0) in
+    let t₆ = and-eq-true-iff (a && b && c && d && e && f) g .0 (t₇ .0) in
+    let t₅ = and-eq-true-iff (a && b && c && d && e) f .0 (t₆ .0) in
+    let t₄ = and-eq-true-iff (a && b && c && d) e .0 (t₅ .0) in
+    let t₃ = and-eq-true-iff (a && b && c) d .0 (t₄ .0) in
+    let t₂ = and-eq-true-iff (a && b) c .0 (t₃ .0) in
+    (and-eq-true-iff a b .0 (t₂ .0) .0, t₄ .1, t₇ .1)
+
+pub workable : (h : List ℕ) (doubles : ℕ) → headed h doubles ≡ true → Workable h doubles
+unfolding headed
+workable h doubles e =
+    let y : Layout = layoutOf h in
+    let k =
+    parts (leb 128 (length h)) (leb (getD h 20 0) 1) (leb (getD h 21 0) 1) (leb (getD h 22 0) 2) (lawful y) (progressLawful (y .k) (progressOf h))
+    (leb (numbersNeeded y) (length h)) (leb (doublesNeeded y) doubles)
+    (not (y .sparse) || every (λ c. ltb (entryRow h c) (levels y 1)) (levels y 0)) e in
+    record {
+      long = leb-true 128 (length h) (k .0);
+      layout = k .1;
+      room = loaded-below y doubles (leb-true (doublesNeeded y) doubles (k .2));
+    }
+
+-- ---- the outcome
+
+-- what is wrong with the lists, for a layout
+abbrev fault : Layout → List Float → List Float → List Float → Refusal
+fault y zy xy yl =
+    firstOf (lengthFault (eqb (length zy) (y .q)) (eqb (length xy) (y .p)) (eqb (length yl) 1))
+    (wordFault (firstInfinite 0 zy) (firstInfinite 0 xy) (firstInfinite 0 yl))
+
+module _ (h : List ℕ) (w zy xy yl : List Float) where
+  -- 20
+  pub not-headed : headed h (length w) ≡ false → (f : Refusal) → f ≡ refusal 20 0 0 → record { answer = Refused f; left = space h w } ≡ replaceOf h w zy xy yl
+  unfolding replaceOf
+  not-headed e f q = rw (e, q) refl
+
+  module _ (ok : headed h (length w) ≡ true) where
+    in-turn : replaceOf h w zy xy yl ≡ unlessRefused h w (fault (layoutOf h) zy xy yl) (responded h w zy xy (getD yl 0 (ieee .zero)))
+    unfolding replaceOf
+    in-turn =
+        let y : Layout = layoutOf h in
+        let a : Refusal = lengthFault (eqb (length zy) (y .q)) (eqb (length xy) (y .p)) (eqb (length yl) 1) in
+        rw ok
+        (lengths h w (eqb (length zy) (y .q)) (eqb (length xy) (y .p)) (eqb (length yl) 1) _
+        ∙ ap (unlessRefused h w a) (words h w (firstInfinite 0 zy) (firstInfinite 0 xy) (firstInfinite 0 yl) _)
+        ∙ both h w a (wordFault (firstInfinite 0 zy) (firstInfinite 0 xy) (firstInfinite 0 yl)) _)
+
+    -- the layout that was read, and what was found
+    module _ (y : Layout) (is : y ≡ layoutOf h) (a b f : Refusal) (lengths : a ≡ lengthFault (eqb (length zy) (y .q)) (eqb (length xy) (y .p)) (eqb (length yl) 1))
+        (words : b ≡ wordFault (firstInfinite 0 zy) (firstInfinite 0 xy) (firstInfinite 0 yl)) (found : f ≡ firstOf a b) where
+      told : f ≡ fault y zy xy yl
+      told = found ∙ ap₂ firstOf lengths words
+
+      in-turn-told : replaceOf h w zy xy yl ≡ unlessRefused h w f (responded h w zy xy (getD yl 0 (ieee .zero)))
+      in-turn-told = in-turn ∙ ap (λ (g : Refusal). unlessRefused h w g (responded h w zy xy (getD yl 0 (ieee .zero)))) (sym (told ∙ ap (λ (z : Layout). fault z zy xy yl) is))
+
+      -- 13 and 14
+      pub list-refused : (f .number ≡ 0 → ⊥) → record { answer = Refused f; left = space h w } ≡ replaceOf h w zy xy yl
+      list-refused n = sym (in-turn-told ∙ rw (ne-eqb (f .number) 0 n) refl)
+
+      module _ (fine : f .number ≡ 0) where
+        -- what is written to
+        pub ready : (128 ≤ length h) × (lawful y ≡ true) × (loadedLength y ≤ length w) × (length zy ≡ y .q) × (length xy ≡ y .p) × (length yl ≡ 1)
+        ready =
+            let none : a .number ≡ 0 = first-none a b (ap (λ (g : Refusal). g .number) (sym found) ∙ fine) in
+            let t = all-right (eqb (length zy) (y .q)) (eqb (length xy) (y .p)) (eqb (length yl) 1) (ap (λ (g : Refusal). g .number) (sym lengths) ∙ none) in
+            let k = workable h (length w) ok in (
+              k .long,
+              rw is (k .layout),
+              rw is (k .room),
+              eqb-true (length zy) (y .q) (t .0),
+              eqb-true (length xy) (y .p) (t .1),
+              eqb-true (length yl) 1 (t .2),
+            )
+
+        -- the response
+        pub replaced : (h′ : List ℕ) (w′ : List Float) → (h′ ≡ headingWith h (idle (y .k))) × (w′ ≡ responseRows y zy xy yl w) → accept h′ w′ ≡ replaceOf h w zy xy yl
+        unfolding responded
+        replaced h′ w′ p =
+            let k = workable h (length w) ok in
+            let t : (length zy ≡ layoutOf h .q) × (length xy ≡ layoutOf h .p) = (ready .3 ∙ ap (λ (z : Layout). z .q) is, ready .4 ∙ ap (λ (z : Layout). z .p) is) in
+            ap₂ accept (rw is at (p .0)) (rw is at (p .1) ∙ rows-stored h w zy xy yl (k .layout) (k .room) (t .0) (t .1) (ready .5))
+            ∙ sym (in-turn-told ∙ rw (eq-eqb (f .number) 0 fine) refl)

@@ -1,0 +1,4 @@
+pub mod Strided
+pub mod Cells
+pub mod Rows
+pub mod Stored

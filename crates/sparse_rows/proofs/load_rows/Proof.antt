@@ -1,0 +1,63 @@
+-- `sparse_rows::load_rows`: all rows where the pair is sparse, else nothing.
+use native.Mathlib.Omega.{arith}
+use denote.Ref.{now}
+use lib.ListN.{length}
+use Rattle.storage.specs.Runs.{tab}
+use Rattle.layout.specs.Shapes.{levels}
+use Rattle.workspace.specs.Loaded.{entryRowIn}
+use Rattle.loading.proofs.Loads.{ready-lawful, knows, few-q, few-p, few-k, lines-left}
+use Rattle.sparse_rows.proofs.Made.{sparse-room, unpicked, rows-loaded}
+use borrow.Author.Needs.{needs}
+use Rattle.sparse_rows.proofs.load_rows.Statement.{statement}
+use Rattle.sparse_rows.proofs.load_rows.Tie as tie
+
+-- src/lib.rt:66:13
+map-of-requires : tie.Need-map-of-requires
+map-of-requires c κs =
+    let st = c .before .before .before in
+    let a = st .args in
+    let r = st .pre .0 in
+    ready-lawful (now (a .s)) (a .z) (a .y) r
+
+-- src/lib.rt:67:27
+entries-of-requires : tie.Need-entries-of-requires
+entries-of-requires c κs =
+    let st = c .before .before .before .before in
+    let a = st .args in
+    let r = st .pre .0 in
+    (few-q (now (a .s)) (a .z) (a .y) r, few-p (now (a .s)) (a .z) (a .y) r, few-k (now (a .s)) (a .z) (a .y) r, lines-left (now (a .s)) (a .z) (a .y) r)
+
+-- src/lib.rt:67:9
+put-rows-requires : tie.Need-put-rows-requires
+put-rows-requires c κs =
+    let st = c .before .before .before .before .before .before in
+    let a = st .args in
+    let r = st .pre .0 in
+    let thin = c .before .before .before .if1 .taken in (
+      ready-lawful (now (a .s)) (a .z) (a .y) r,
+      c .before .before .map-of .ensures,
+      omega (arith, knows (now (a .s)) (a .z) (a .y) r .inner thin .0),
+      sparse-room (a .y .sparse) (levels (a .y) 0) (length (now (a .h))) thin (st .pre .1),
+    )
+
+-- src/lib.rt:61:1
+same-length : tie.Need-same-length
+same-length c = search needs
+
+-- src/lib.rt:61:1
+returns : tie.Need-returns
+returns c =
+    let st = c .before .before .before .before .before .before .before .before .before in
+    let a = st .args in
+    rows-loaded (now (a .s)) (a .z) (a .y) (st .pre .0) (c .before .before .before .before .before .before .if1 .taken) (c .before .before .before .before .entries-of .result) (c .before .before .before .before .entries-of .ensures) (now (a .h)) _ (omega arith) (st .pre .1) (c .before .before .put-rows .ensures)
+
+-- src/lib.rt:61:1
+returns-2 : tie.Need-returns-2
+returns-2 c =
+    let a = c .before .before .before .args in
+    λ x e. unpicked (a .y .sparse) (tab (levels (a .y) 0) (entryRowIn x (a .y))) (now (a .h)) (c .if1 .left)
+
+pub load-rows-spec : {M : Type 1} → statement M
+load-rows-spec =
+    tie.close
+    (tie.spec map-of-requires entries-of-requires put-rows-requires same-length returns returns-2)

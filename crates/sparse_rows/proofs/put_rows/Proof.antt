@@ -1,0 +1,81 @@
+-- `sparse_rows::put_rows`: what is left of the lines still makes what all of them make.
+use Prim.Native.Nat.{ℕ, _+_, _-_}
+use mathlib.Core.Path.{_≡_, sym, ap, _∙_}
+use mathlib.Core.List.{List}
+use native.Mathlib.Omega.{arith}
+use borrow.Author.Needs.{needs}
+use denote.Ref.{now}
+use lib.ListN.{length, length-set}
+use Rattle.sheet.specs.Line.{zzTag, pairLine}
+use Rattle.word_places.specs.Spread.{spread}
+use Rattle.word_places.proofs.Places.{spread-none, spread-more}
+use Rattle.sparse_rows.specs.Rows.{rowPlace, putRow}
+use Rattle.sparse_rows.proofs.Made.{any-number}
+use Rattle.sparse_rows.proofs.put_rows.Statement.{statement}
+use Rattle.sparse_rows.proofs.put_rows.Tie as tie
+
+abbrev Inv-loop : tie.InvT-loop
+Inv-loop s at count y m h₀ p₀ left₀ h p left = (length h ≡ length h₀) × (spread (putRow y) (pairLine zzTag s) left 0 p h ≡ spread (putRow y) (pairLine zzTag s) count 0 at h₀)
+
+abbrev μ-loop : tie.MeasureT-loop
+μ-loop s at count y m h₀ p₀ left₀ h p left = left
+
+-- src/lib.rt:52:5
+loop-holds : tie.Need-loop-holds Inv-loop μ-loop
+loop-holds c = search needs
+
+-- src/lib.rt:53:13
+entry-at-requires : tie.Need-entry-at-requires Inv-loop μ-loop
+entry-at-requires c κs = search needs
+
+-- src/lib.rt:54:9
+put-row-requires : tie.Need-put-row-requires Inv-loop μ-loop
+put-row-requires c κs = search needs
+
+-- src/lib.rt:56:9
+sub-left : tie.Need-sub-left Inv-loop μ-loop
+sub-left c = search needs
+
+-- src/lib.rt:52:5
+loop-less : tie.Need-loop-less Inv-loop μ-loop
+loop-less c = search needs
+
+-- src/lib.rt:52:5
+loop-again : tie.Need-loop-again Inv-loop μ-loop
+loop-again c =
+    let a = c .before .before .before .before .before .before .before .before .before .args in
+    let l = c .before .before .before .before .before .before .loop in
+    let line = c .before .before .before .before .entry-at in
+    let read = pairLine zzTag (now (a .s)) in
+    let made = c .before .before .put-row .ensures in (
+      ap length made ∙ length-set (l .h) (rowPlace (a .y) (line .result .first) (line .result .second)) _ ∙ l .inv .0,
+      ap (λ (t : List ℕ). spread (putRow (a .y)) read (l .left - 1) 0 (line .result .next) t) made
+          ∙ sym (spread-more (putRow (a .y)) read (l .left) 0 (l .p) (l .h) (line .result) (omega arith) (line .ensures) ∙ any-number (a .y) read (l .left - 1) (0 + 1) (line .result .next) (putRow (a .y) 0 (line .result) (l .h)))
+          ∙ l .inv .1,
+    )
+
+-- src/lib.rt:46:1
+same-length : tie.Need-same-length Inv-loop μ-loop
+same-length c = search needs
+
+-- src/lib.rt:46:1
+returns : tie.Need-returns Inv-loop μ-loop
+returns c =
+    let a = c .before .before .before .before .args in
+    let l = c .before .loop in
+    sym (spread-none (putRow (a .y)) (pairLine zzTag (now (a .s))) (l .left) 0 (l .p) (l .h) (omega arith)) ∙ l .inv .1
+
+pub put-rows-spec : {M : Type 1} → statement M
+put-rows-spec =
+    tie.close
+    (tie.spec
+    Inv-loop
+    μ-loop
+    loop-holds
+    entry-at-requires
+    put-row-requires
+    sub-left
+    loop-less
+    loop-again
+    same-length
+    returns)

@@ -1,0 +1,32 @@
+-- `word_places::start_of`: as the map has it.
+use native.Mathlib.Omega.{arith}
+use Rattle.layout.proofs.Lawful.{is-lawful}
+use Rattle.word_places.proofs.Places.{start-low}
+use Rattle.word_places.proofs.start_of.Statement.{statement}
+use Rattle.word_places.proofs.start_of.Tie as tie
+
+-- src/lib.rt:63:14
+mul-t : tie.Need-mul-t
+mul-t c = omega (arith, is-lawful (c .args .y) (c .pre .0) .blocks .1)
+
+-- src/lib.rt:63:14
+add-t : tie.Need-add-t
+add-t c = omega (arith, is-lawful (c .args .y) (c .pre .0) .blocks .1)
+
+-- src/lib.rt:64:5
+mul-result : tie.Need-mul-result
+mul-result c = omega (arith, is-lawful (c .args .y) (c .pre .0) .blocks .1)
+
+-- src/lib.rt:64:5
+element-copy-out-result : tie.Need-element-copy-out-result
+element-copy-out-result c = omega (arith, is-lawful (c .args .y) (c .pre .0) .blocks .1)
+
+-- src/lib.rt:59:1
+returns : tie.Need-returns
+returns c =
+    let s = c .before in
+    let e = s .pre .1 .at (s .args .i) (s .args .j) (s .pre .2) (s .pre .3) in
+    (e, omega (arith, e, start-low (s .args .y) (s .pre .0) (s .args .i) (s .args .j) (s .pre .2) (s .pre .3)))
+
+pub start-of-spec : {M : Type 1} → statement M
+start-of-spec = tie.close (tie.spec mul-t add-t mul-result element-copy-out-result returns)
