@@ -2,6 +2,7 @@
 use Prim.Native.Nat.{ℕ, zero, suc, _+_, _*_, _≤_, _<_}
 use mathlib.Core.Path.{_≡_}
 use mathlib.Core.Bool.{cond}
+use mathlib.Core.List.{List}
 use lib.ListN.{getD}
 use Rattle.layout.specs.declared.Layout.{Layout}
 use Rattle.layout.specs.Shapes.{loadedAt}
@@ -16,7 +17,15 @@ unfolding sum sheetLevels
 blockOf y zero x = y .k
 blockOf y (suc j) x = let rest = blockOf y j x in cond (inBlock y j x) j rest
 
--- a layout's map: where the rows of each sorted block start in the sheet, and where each loaded block starts among the doubles
+-- where the rows of each sorted block start in the sheet
+abbrev pub FirstRows : Layout → List ℕ → Type 0
+FirstRows y l = (j : ℕ) → j < y .k → getD l j 0 ≡ rowStart y j
+
+-- where each loaded block starts among the doubles
+abbrev pub BlockStarts : Layout → List ℕ → Type 0
+BlockStarts y l = (i j : ℕ) → j ≤ i → i ≤ y .k → getD l (i * 9 + j) 0 ≡ loadedAt y i j
+
+-- a layout's map has both
 pub record Maps (y : Layout) (m : Map) : Type 0 where
-  pub first : (j : ℕ) → j < y .k → getD (m .first) j 0 ≡ rowStart y j
-  pub at : (i j : ℕ) → j ≤ i → i ≤ y .k → getD (m .at) (i * 9 + j) 0 ≡ loadedAt y i j
+  pub first : FirstRows y (m .first)
+  pub at : BlockStarts y (m .at)

@@ -8,7 +8,7 @@ ghost use Prim.Native.Nat.{ℕ, _+_, _*_, _≤_, _<_};
 ghost use Rattle.layout.specs.Shapes.{loadedAt};
 ghost use Rattle.layout.specs.Heading.{lawful, sheetLevels};
 ghost use Rattle.workspace.specs.Loaded.{rowStart, inBlock};
-ghost use Rattle.block_map.specs.Blocks.{blockOf, Maps};
+ghost use Rattle.block_map.specs.Blocks.{blockOf, FirstRows, Maps};
 
 // Of a layout: the first row of each sorted block in the sheet, and where each loaded block (i, j) starts, at 9 i + j.
 pub struct Map {
@@ -123,16 +123,17 @@ fn within(first: u64, levels: u64, x: u64) -> bool
     x < first + levels
 }
 
-// The sorted block that has row x of the sheet, or k where none has.
-pub fn block_of(y: Layout, m: Map, x: u64) -> u64
-    requires { ⌜ (lawful y ≡ true) × Maps y m ⌝ }
+// The sorted block that has row x of the sheet, or k where none has. The blocks' levels and first rows are lent: a copy of the layout's and the map's lists for
+// each line of a sheet took a fifth of the time of a load.
+pub fn block_of<'a>(y: Layout, counts: &'a [u64; 8], first: &'a [u64; 8], x: u64) -> u64
+    requires { ⌜ (lawful y ≡ true) × (now counts ≡ y .m) × FirstRows y (now first) ⌝ }
     ensures { λ r. ⌜ r ≡ blockOf y (y .k) x ⌝ }
 {
     let k = y.k as usize;
     let mut b = y.k;
     let mut j: usize = 0;
     while j < k {
-        b = choose(within(m.first[j], y.m[j], x), j as u64, b);
+        b = choose(within(first[j], counts[j], x), j as u64, b);
         j += 1;
     }
     b

@@ -1,17 +1,17 @@
 -- What the definitions of fields say at a position of the bytes s, and the turns of the loops that read them.
 use Prim.Native.Nat.{ℕ, zero, suc, _≤_, _<_, _-_, _+_, _*_, _/_, _%_, _^_, min}
-use mathlib.Core.Bool.{Bool, true, false, _&&_, _||_, cond, true≢false}
-use mathlib.Core.Logic.{_⊎_, inl, inr, ⊎-elim, by-cases}
+use mathlib.Core.Bool.{Bool, true, false, cond}
+use mathlib.Core.Logic.{by-cases}
 use native.Mathlib.Decide.{decLt}
 use mathlib.Core.Path.{_≡_, refl, sym, _∙_}
 use mathlib.Core.List.{List, [], _∷_}
 use native.Mathlib.Omega.{arith}
 use native.Mathlib.Numerals.{add-one}
-use borrow.Author.Tests.{ltb-true, leb-true, lt-ltb, le-ltb, le-leb, eq-eqb, ne-eqb}
-use lib.Dec.{ltb, leb, eqb}
-use lib.ListN.{length, drop, getD, set, drop-of-length-le}
-use lib.Seq.{drop-cons, getD-set-same, getD-set-other}
-use Rattle.field.specs.Nibbles.{Nibbles}
+use borrow.Author.Tests.{lt-ltb, le-ltb, eq-eqb, ne-eqb}
+use lib.Dec.{ltb, eqb}
+use lib.ListN.{length, drop, getD, drop-of-length-le}
+use lib.Seq.{drop-cons}
+use Rattle.field.proofs.Table.{mark, mark-digit, mark-other, mark-most}
 use Rattle.sheet.specs.declared.Field.{Field}
 use Rattle.sheet.specs.Field.{found, unfound, digitOf, digitsFrom, numberAt, cap, endAt, wordAt, tagAt}
 
@@ -93,67 +93,6 @@ module _ (s : List ℕ) (end v at : ℕ) (h : at < length s) where
   end-other q = simp (drop-at s at h, ne-eqb (getD s at 0) end q)
 
 -- ---- the loop of a word
--- a byte is a digit
-abbrev IsDigit : ℕ → Type 0
-IsDigit b = ((48 ≤ b) × (b < 58)) ⊎ ((97 ≤ b) × (b < 103))
-
-digit-value : (b : ℕ) → IsDigit b → b % 16 + b / 64 * 9 ≡ digitOf b
-unfolding digitOf
-digit-value b (inl h) = rw (le-ltb b 48 (h .0), lt-ltb b 58 (h .1)) (omega (arith, h .0, h .1))
-digit-value b (inr h) = rw (le-ltb b 48 (omega (arith, h .0)), le-ltb b 58 (omega (arith, h .0)), le-ltb b 97 (h .0), lt-ltb b 103 (h .1)) (omega (arith, h .0, h .1))
-
-no-digit : (b : ℕ) → (IsDigit b → ⊥) → 16 ≡ digitOf b
-unfolding digitOf
-no-digit b h =
-    by-cases (decLt b 48) (λ (k : b < 48). rw (lt-ltb b 48 k) refl)
-    (λ k. by-cases (decLt b 58) (λ (l : b < 58). absurd (h (inl (omega arith, l))))
-    (λ l. by-cases (decLt b 97) (λ (m : b < 97). rw (le-ltb b 48 (omega arith), le-ltb b 58 (omega arith), lt-ltb b 97 m) refl)
-    (λ m. by-cases (decLt b 103) (λ (n : b < 103). absurd (h (inr (omega arith, n))))
-    (λ n. rw (le-ltb b 48 (omega arith), le-ltb b 58 (omega arith), le-ltb b 97 (omega arith), le-ltb b 103 (omega arith)) refl))))
-
--- the same as a test
-abbrev isDigit : ℕ → Bool
-isDigit b = (leb 48 b && ltb b 58) || (leb 97 b && ltb b 103)
-
-one-range : (a b c d : Bool) → ((a && b) || (c && d)) ≡ true → ((a ≡ true) × (b ≡ true)) ⊎ ((c ≡ true) × (d ≡ true))
-one-range true true c d e = inl (refl, refl)
-one-range true false true true e = inr (refl, refl)
-one-range true false true false e = absurd (true≢false (sym e))
-one-range true false false d e = absurd (true≢false (sym e))
-one-range false b true true e = inr (refl, refl)
-one-range false b true false e = absurd (true≢false (sym e))
-one-range false b false d e = absurd (true≢false (sym e))
-
-tested : (b : ℕ) → isDigit b ≡ true → IsDigit b
-tested b e =
-    ⊎-elim (λ h. inl (leb-true 48 b (h .0), ltb-true b 58 (h .1))) (λ h. inr (leb-true 97 b (h .0), ltb-true b 103 (h .1)))
-    (one-range (leb 48 b) (ltb b 58) (leb 97 b) (ltb b 103) e)
-
-test-passes : (b : ℕ) → IsDigit b → isDigit b ≡ true
-test-passes b (inl h) = rw (le-leb 48 b (h .0), lt-ltb b 58 (h .1)) refl
-test-passes b (inr h) = rw (le-leb 97 b (h .0), lt-ltb b 103 (h .1), le-ltb b 58 (omega (arith, h .0)), le-leb 48 b (omega (arith, h .0))) refl
-
-pub digit-is : (b : ℕ) → isDigit b ≡ true → b % 16 + b / 64 * 9 ≡ digitOf b
-digit-is b e = digit-value b (tested b e)
-
-pub digit-none : (b : ℕ) → isDigit b ≡ false → 16 ≡ digitOf b
-digit-none b e = no-digit b (λ h. true≢false (sym (test-passes b h) ∙ e))
-
-digit-most : (b : ℕ) → digitOf b ≤ 16
-digit-most b = by-test (isDigit b) refl
-  where
-    by-test : (t : Bool) → isDigit b ≡ t → digitOf b ≤ 16
-    by-test true e =
-        let h = tested b e in
-        rw (← digit-value b h) (⊎-elim (λ (m : (48 ≤ b) × (b < 58)). omega (arith, m .0, m .1)) (λ (m : (97 ≤ b) × (b < 103)). omega (arith, m .0, m .1)) h)
-    by-test false e = rw (← digit-none b e) (omega arith)
-
--- one value more, side by side with those before it
-pub nibbles-more : (n : ℕ) (t s : List ℕ) (at d : ℕ) → n < length t → Nibbles n t s at → d ≡ digitOf (getD s (at + n) 0) → Nibbles (n + 1) (set t n d) s at
-nibbles-more n t s at d h old new k l =
-    by-cases (decLt k n) (λ (m : k < n). getD-set-other t n k d 0 (omega arith) ∙ old k m)
-    (λ m. let e : k ≡ n = omega arith in rw e (getD-set-same t n d 0 h ∙ new))
-
 -- 2 ^ 64 over 16 to the n: what is below it has room for n digits more
 unfoldable pub room : ℕ → ℕ
 room zero = 2 ^ 64
@@ -189,62 +128,79 @@ word-other : (s : List ℕ) (end n v i d : ℕ) → i < length s → d ≡ digit
 unfolding wordAt
 word-other s end n v i d h q l = simp (drop-at s i h, ← q, le-ltb d 16 l)
 
--- k of 16 digits were read from `at` on, v so far, and `others` of these bytes were no digit: it still ends in X
-pub record Word (X : Field) (s : List ℕ) (end at k v others : ℕ) : Type 0 where
-  pub same : others ≡ 0 → wordAt end (16 - k) v (at + k) (drop (at + k) s) ≡ X
-  pub none : 0 < others → unfound ≡ X
-  pub small : v < room (16 - k)
-  pub count : others ≤ k
+-- k of 16 digits were read from `at` on, v so far, and `sum` is the sum of their entries, at least 255 where one was no digit: it still ends in X
+pub record Word (X : Field) (s : List ℕ) (end at k v sum : ℕ) : Type 0 where
+  pub same : sum < 255 → wordAt end (16 - k) v (at + k) (drop (at + k) s) ≡ X
+  pub none : 255 ≤ sum → unfound ≡ X
+  pub small : sum < 255 → v < room (16 - k)
+  pub low : sum < 255 → sum ≤ 15 * k
+  pub count : sum ≤ 255 * k
   pub most : k ≤ 16
 
 pub word-begun : (s : List ℕ) (end at : ℕ) → Word (wordAt end 16 0 at (drop at s)) s end at 0 0 0
 unfolding room
 word-begun s end at =
     let i : at + 0 ≡ at = omega arith in
-    record { same = λ z. rw i refl; none = λ z. absurd (omega arith); small = omega arith; count = omega arith; most = omega arith }
+    record {
+      same = λ z. rw i refl;
+      none = λ z. absurd (omega arith);
+      small = λ z. omega arith;
+      low = λ z. omega arith;
+      count = omega arith;
+      most = omega arith;
+    }
 
-module _ {X : Field} {s : List ℕ} {end at k v others : ℕ} (e : Word X s end at k v others) where
-  pub word-more : {d : ℕ} → k < 16 → at + 16 < length s → d ≡ digitOf (getD s (at + k) 0)
-      → Word X s end at (k + 1) (v % 2 ^ 60 * 16 + d % 16) (others + d / 16)
+module _ {X : Field} {s : List ℕ} {end at k v sum : ℕ} (e : Word X s end at k v sum) where
+  pub word-more : {d w : ℕ} → k < 16 → at + 16 < length s → d ≡ mark (getD s (at + k) 0) → w ≡ (v % 2 ^ 60 * 16 + d) % 2 ^ 64
+      → Word X s end at (k + 1) w (sum + d)
   unfolding room
-  word-more {d} p h q =
+  word-more {d} {w} p h q f =
       let n = 15 - k in
+      let b = getD s (at + k) 0 in
       let r : 16 - k ≡ suc n = omega arith in
       let r′ : 16 - (k + 1) ≡ n = omega arith in
       let i′ : at + (k + 1) ≡ at + k + 1 = omega arith in
-      let small : v < room n / 16 = rw r at (e .small) in
-      let m : v % 2 ^ 60 ≡ v = omega (arith, room-most n) in
-      rw m
-      (by-cases (decLt d 16)
-      (λ (l : d < 16).
-      let a : d % 16 ≡ d = omega arith in
-      let b : others + d / 16 ≡ others = omega arith in
-      rw (a, b)
-      (record {
-        same = λ z. rw (r′, i′) (sym (word-digit s end n v (at + k) d (omega arith) q l) ∙ (rw r at (e .same z)));
-        none = e .none;
-        small = rw r′ (omega arith);
-        count = omega (arith, e .count);
+      let top = mark-most b q in
+      let count : sum + d ≤ 255 * (k + 1) = omega (arith, e .count, top) in
+      by-cases (decLt sum 255)
+      (λ (o : sum < 255).
+      by-cases (decLt (digitOf b) 16)
+      (λ (l : digitOf b < 16).
+      let q′ : d ≡ digitOf b = q ∙ mark-digit b l in
+      let small : v < room n / 16 = rw r at (e .small o) in
+      let w′ : w ≡ v * 16 + d = omega (arith, room-most n, f, small, q′, l) in
+      record {
+        same = λ z. rw (r′, i′, w′) (sym (word-digit s end n v (at + k) d (omega arith) q′ (omega (arith, q′, l))) ∙ (rw r at (e .same o)));
+        none = λ z. absurd (omega (arith, e .low o, q′, l));
+        small = λ z. rw r′ (omega (arith, small, w′, q′, l));
+        low = λ z. omega (arith, e .low o, q′, l);
+        count = count;
+        most = omega arith;
+      })
+      (λ l.
+      let q′ : d ≡ 255 = q ∙ mark-other b (omega arith) in
+      record {
+        same = λ z. absurd (omega (arith, q′));
+        none = λ z. sym (word-other s end n v (at + k) (digitOf b) (omega arith) refl (omega arith)) ∙ (rw r at (e .same o));
+        small = λ z. absurd (omega (arith, q′));
+        low = λ z. absurd (omega (arith, q′));
+        count = count;
         most = omega arith;
       }))
-      (λ l.
-      let f : d ≤ 16 = rw q (digit-most (getD s (at + k) 0)) in
+      (λ o.
       record {
         same = λ z. absurd (omega arith);
-        none = λ z. by-cases (decLt 0 others) (e .none)
-            (λ o. let none : others ≡ 0 = omega arith in sym (word-other s end n v (at + k) d (omega arith) q (omega arith)) ∙ (rw r at (e .same none)));
-        small = rw r′ (omega arith);
-        count = omega (arith, e .count);
+        none = λ z. e .none (omega arith);
+        small = λ z. absurd (omega arith);
+        low = λ z. absurd (omega arith);
+        count = count;
         most = omega arith;
-      }))
+      })
 
-  pub word-count : (d : ℕ) → k < 16 → d ≡ digitOf (getD s (at + k) 0) → others + d / 16 < 2 ^ 64
-  word-count d p q = let f : d ≤ 16 = rw q (digit-most (getD s (at + k) 0)) in omega (arith, e .count)
+  pub word-count : (d : ℕ) → k < 16 → d ≡ mark (getD s (at + k) 0) → sum + d < 2 ^ 64
+  word-count d p q = omega (arith, e .count, mark-most (getD s (at + k) 0) q)
 
-  pub word-none : (others ≡ 0 → ⊥) → unfound ≡ X
-  word-none z = e .none (omega arith)
-
-  pub word-done : {r : Field} → 16 ≤ k → others ≡ 0 → r ≡ endAt end v (at + 16) (drop (at + 16) s) → r ≡ X
+  pub word-done : {r : Field} → 16 ≤ k → sum < 255 → r ≡ endAt end v (at + 16) (drop (at + 16) s) → r ≡ X
   unfolding wordAt
   word-done l z q =
       let k′ : k ≡ 16 = omega (arith, e .most) in

@@ -1,1 +1,2 @@
+mod Table
 pub mod Fields

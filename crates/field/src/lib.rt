@@ -4,7 +4,6 @@ use sheet::Field;
 ghost use mathlib.Core.Path.{_≡_};
 ghost use Prim.Native.Nat.{_+_, _*_, _<_, _≤_, min};
 ghost use lib.ListN.{length, drop};
-ghost use Rattle.field.specs.Nibbles.{Nibbles};
 ghost use Rattle.sheet.specs.Field.{digitOf, digitsFrom, cap, endAt, isFinite, isZero};
 ghost use Rattle.sheet.specs.Line.{lf, numberTo, wordTo, tagTo};
 
@@ -106,30 +105,268 @@ fn ended(s: &[u8], at: usize, v: u64) -> Field
     UNFOUND
 }
 
-// The same without a branch: which digit of a word comes cannot be guessed.
-fn nibble(b: u8) -> u8
-    ensures { λ r. ⌜ r ≡ digitOf b ⌝ }
-{
-    let value = b % 16 + b / 64 * 9;
-    let found = ((48 <= b) & (b < 58)) | ((97 <= b) & (b < 103));
-    if found { value } else { 16 }
-}
+// The value of each byte as a lower-case hexadecimal digit, and 255 where it is none: more than the values of 16 digits together.
+const DIGITS: [u8; 256] = [
+    255,
+    255,
+    255,
+    255,
+    255,
+    255,
+    255,
+    255,
+    255,
+    255,
+    255,
+    255,
+    255,
+    255,
+    255,
+    255,
+    255,
+    255,
+    255,
+    255,
+    255,
+    255,
+    255,
+    255,
+    255,
+    255,
+    255,
+    255,
+    255,
+    255,
+    255,
+    255,
+    255,
+    255,
+    255,
+    255,
+    255,
+    255,
+    255,
+    255,
+    255,
+    255,
+    255,
+    255,
+    255,
+    255,
+    255,
+    255,
+    0,
+    1,
+    2,
+    3,
+    4,
+    5,
+    6,
+    7,
+    8,
+    9,
+    255,
+    255,
+    255,
+    255,
+    255,
+    255,
+    255,
+    255,
+    255,
+    255,
+    255,
+    255,
+    255,
+    255,
+    255,
+    255,
+    255,
+    255,
+    255,
+    255,
+    255,
+    255,
+    255,
+    255,
+    255,
+    255,
+    255,
+    255,
+    255,
+    255,
+    255,
+    255,
+    255,
+    255,
+    255,
+    255,
+    255,
+    255,
+    255,
+    10,
+    11,
+    12,
+    13,
+    14,
+    15,
+    255,
+    255,
+    255,
+    255,
+    255,
+    255,
+    255,
+    255,
+    255,
+    255,
+    255,
+    255,
+    255,
+    255,
+    255,
+    255,
+    255,
+    255,
+    255,
+    255,
+    255,
+    255,
+    255,
+    255,
+    255,
+    255,
+    255,
+    255,
+    255,
+    255,
+    255,
+    255,
+    255,
+    255,
+    255,
+    255,
+    255,
+    255,
+    255,
+    255,
+    255,
+    255,
+    255,
+    255,
+    255,
+    255,
+    255,
+    255,
+    255,
+    255,
+    255,
+    255,
+    255,
+    255,
+    255,
+    255,
+    255,
+    255,
+    255,
+    255,
+    255,
+    255,
+    255,
+    255,
+    255,
+    255,
+    255,
+    255,
+    255,
+    255,
+    255,
+    255,
+    255,
+    255,
+    255,
+    255,
+    255,
+    255,
+    255,
+    255,
+    255,
+    255,
+    255,
+    255,
+    255,
+    255,
+    255,
+    255,
+    255,
+    255,
+    255,
+    255,
+    255,
+    255,
+    255,
+    255,
+    255,
+    255,
+    255,
+    255,
+    255,
+    255,
+    255,
+    255,
+    255,
+    255,
+    255,
+    255,
+    255,
+    255,
+    255,
+    255,
+    255,
+    255,
+    255,
+    255,
+    255,
+    255,
+    255,
+    255,
+    255,
+    255,
+    255,
+    255,
+    255,
+    255,
+    255,
+    255,
+    255,
+    255,
+    255,
+    255,
+    255,
+    255,
+    255,
+    255,
+    255,
+    255,
+    255,
+    255,
+    255,
+    255,
+    255,
+    255,
+    255,
+    255,
+    255,
+    255,
+    255,
+    255,
+    255,
+    255,
+    255,
+];
 
-// The values of 16 bytes, side by side.
-fn nibbles(s: &[u8], at: usize) -> [u8; 16]
-    requires { ⌜ at + 16 ≤ length (now s) ⌝ }
-    ensures { λ r. ⌜ Nibbles 16 r (now (s .entry)) at ⌝ }
-{
-    let mut t = [0u8; 16];
-    let mut k: usize = 0;
-    while k < 16 {
-        t[k] = nibble(s[at + k]);
-        k += 1;
-    }
-    t
-}
-
-// A word of 16 lower-case hexadecimal digits, and LF. Bytes that are no digit are counted, and looked at once behind the last.
+// A word of 16 lower-case hexadecimal digits, and LF. Which digit comes cannot be guessed, so no branch looks at one: the sum of the entries says
+// behind the last whether all were digits. The table is named once, since each naming copies it.
 pub fn word(s: &[u8], at: usize) -> Field
     ensures { λ r. ⌜ r ≡ wordTo (now (s .entry)) at ⌝ }
 {
@@ -139,17 +376,17 @@ pub fn word(s: &[u8], at: usize) -> Field
     if s.len() - 17 < at {
         return UNFOUND;
     }
-    let t = nibbles(s, at);
+    let digits = DIGITS;
     let mut v: u64 = 0;
-    let mut others: u64 = 0;
+    let mut sum: u64 = 0;
     let mut k: usize = 0;
     while k < 16 {
-        let d = t[k] as u64;
-        v = v % 1152921504606846976 * 16 + d % 16;
-        others += d / 16;
+        let d = digits[s[at + k] as usize] as u64;
+        v = std::num::wrapping_add_u64(v % 1152921504606846976 * 16, d);
+        sum += d;
         k += 1;
     }
-    if others != 0 {
+    if 255 <= sum {
         return UNFOUND;
     }
     ended(s, at + 16, v)

@@ -63,7 +63,11 @@ pub fn scatter(
     let mut left = count;
     while left > 0 {
         let l = line_at(run, s, p);
-        put(w, word_places::place_of(run, y, m, i, l), double_of(l.word));
+        put(
+            w,
+            word_places::place_of(run, y, &y.m, &m.first, &m.at, i, l),
+            double_of(l.word),
+        );
         p = l.next;
         i += 1;
         left -= 1;

@@ -15,24 +15,24 @@ ghost use Rattle.sheet.specs.Sheet.{Sheet, accepted, readSheet};
 ghost use Rattle.layout.specs.Shapes.{pick, levels, numbersNeeded};
 ghost use Rattle.layout.specs.Heading.{lawful};
 ghost use Rattle.workspace.specs.Loaded.{entryRowIn};
-ghost use Rattle.block_map.specs.Blocks.{Maps};
+ghost use Rattle.block_map.specs.Blocks.{FirstRows, Maps};
 ghost use Rattle.word_places.specs.Spread.{spread};
 ghost use Rattle.loading.specs.Ready.{Ready};
 ghost use Rattle.sparse_rows.specs.Rows.{putRow};
 
-// The row of one entry, where it is one of the pair.
-fn put_row(y: Layout, m: Map, l: Line, h: &mut [u32])
-    requires { ⌜ (lawful y ≡ true) × Maps y m × (1 < y .k) × (128 + levels y 0 ≤ length (now h)) ⌝ }
+// The row of one entry, where it is one of the pair. Lent to it are the levels and the first rows of the sorted blocks.
+fn put_row<'a>(y: Layout, counts: &'a [u64; 8], first: &'a [u64; 8], l: Line, h: &mut [u32])
+    requires { ⌜ (lawful y ≡ true) × (now counts ≡ y .m) × FirstRows y (now first) × (1 < y .k) × (128 + levels y 0 ≤ length (now h)) ⌝ }
     ensures { λ _. ⌜ now (h .exit) ≡ putRow y 0 l (now (h .entry)) ⌝ }
 {
-    if block_map::block_of(y, m, l.first) != 0 {
+    if block_map::block_of(y, counts, first, l.first) != 0 {
         return;
     }
-    if block_map::block_of(y, m, l.second) != 1 {
+    if block_map::block_of(y, counts, first, l.second) != 1 {
         return;
     }
-    let t = (128 + word_places::level_of(y, m, 0, l.first)) as usize;
-    h[t] = word_places::level_of(y, m, 1, l.second) as u32;
+    let t = (128 + word_places::level_of(y, first, 0, l.first)) as usize;
+    h[t] = word_places::level_of(y, first, 1, l.second) as u32;
 }
 
 // The zz line at a position.
@@ -51,7 +51,7 @@ fn put_rows(s: &[u8], at: usize, count: u64, y: Layout, m: Map, h: &mut [u32])
     let mut left = count;
     while left > 0 {
         let l = entry_at(s, p);
-        put_row(y, m, l, h);
+        put_row(y, &y.m, &m.first, l, h);
         p = l.next;
         left -= 1;
     }

@@ -36,7 +36,7 @@ level-of-requires : tie.Need-level-of-requires
 level-of-requires c κs =
     let s = c .before .before .before .before .before in
     let a = s .args in
-    (s .pre .0, s .pre .1, omega arith, found (a .y) (a .l .first) 0 (sym (c .before .before .if1 .left) ∙ c .before .before .before .block-of .ensures) (omega arith))
+    (s .pre .0, s .pre .2, omega arith, found (a .y) (a .l .first) 0 (sym (c .before .before .if1 .left) ∙ c .before .before .before .block-of .ensures) (omega arith))
 
 -- src/lib.rt:34:14
 add-t : tie.Need-add-t
@@ -47,13 +47,13 @@ level-of-requires-2 : tie.Need-level-of-requires-2
 level-of-requires-2 c κs =
     let s = c .before .before .before .before .before .before in
     let a = s .args in
-    (s .pre .0, s .pre .1, s .pre .2, found (a .y) (a .l .second) 1 (sym (c .before .if2 .left) ∙ c .before .before .block-of2 .ensures) (s .pre .2))
+    (s .pre .0, s .pre .2, s .pre .3, found (a .y) (a .l .second) 1 (sym (c .before .if2 .left) ∙ c .before .before .block-of2 .ensures) (s .pre .3))
 
 -- src/lib.rt:35:12
 cast-h : tie.Need-cast-h
 cast-h c =
     let s = c .before .before .before .before .before .before .before in
-    omega (arith, c .level-of2 .ensures .1, is-lawful (s .args .y) (s .pre .0) .level 1 (s .pre .2) .1)
+    omega (arith, c .level-of2 .ensures .1, is-lawful (s .args .y) (s .pre .0) .level 1 (s .pre .3) .1)
 
 -- src/lib.rt:35:5
 mul-h : tie.Need-mul-h

@@ -15,10 +15,10 @@ use Rattle.sparse_rows.proofs.put_rows.Statement.{statement}
 use Rattle.sparse_rows.proofs.put_rows.Tie as tie
 
 abbrev Inv-loop : tie.InvT-loop
-Inv-loop s at count y m h₀ p₀ left₀ h p left = (length h ≡ length h₀) × (spread (putRow y) (pairLine zzTag s) left 0 p h ≡ spread (putRow y) (pairLine zzTag s) count 0 at h₀)
+Inv-loop s at count h₀ y m p₀ left₀ h p left = (length h ≡ length h₀) × (spread (putRow y) (pairLine zzTag s) left 0 p h ≡ spread (putRow y) (pairLine zzTag s) count 0 at h₀)
 
 abbrev μ-loop : tie.MeasureT-loop
-μ-loop s at count y m h₀ p₀ left₀ h p left = left
+μ-loop s at count h₀ y m p₀ left₀ h p left = left
 
 -- src/lib.rt:52:5
 loop-holds : tie.Need-loop-holds Inv-loop μ-loop
@@ -43,14 +43,14 @@ loop-less c = search needs
 -- src/lib.rt:52:5
 loop-again : tie.Need-loop-again Inv-loop μ-loop
 loop-again c =
-    let a = c .before .before .before .before .before .before .before .before .before .args in
-    let l = c .before .before .before .before .before .before .loop in
-    let line = c .before .before .before .before .entry-at in
+    let a = c .before .before .before .before .before .before .before .before .before .before .before .before .before .args in
+    let l = c .before .before .before .before .before .before .before .before .before .before .loop in
+    let line = c .before .before .before .before .before .before .before .before .entry-at in
     let read = pairLine zzTag (now (a .s)) in
     let made = c .before .before .put-row .ensures in (
-      ap length made ∙ length-set (l .h) (rowPlace (a .y) (line .result .first) (line .result .second)) _ ∙ l .inv .0,
-      ap (λ (t : List ℕ). spread (putRow (a .y)) read (l .left - 1) 0 (line .result .next) t) made
-          ∙ sym (spread-more (putRow (a .y)) read (l .left) 0 (l .p) (l .h) (line .result) (omega arith) (line .ensures) ∙ any-number (a .y) read (l .left - 1) (0 + 1) (line .result .next) (putRow (a .y) 0 (line .result) (l .h)))
+      ap length made ∙ length-set (l .h) (rowPlace (a .t4) (line .result .first) (line .result .second)) _ ∙ l .inv .0,
+      ap (λ (t : List ℕ). spread (putRow (a .t4)) read (l .left - 1) 0 (line .result .next) t) made
+          ∙ sym (spread-more (putRow (a .t4)) read (l .left) 0 (l .p) (l .h) (line .result) (omega arith) (line .ensures) ∙ any-number (a .t4) read (l .left - 1) (0 + 1) (line .result .next) (putRow (a .t4) 0 (line .result) (l .h)))
           ∙ l .inv .1,
     )
 
@@ -63,7 +63,7 @@ returns : tie.Need-returns Inv-loop μ-loop
 returns c =
     let a = c .before .before .before .before .args in
     let l = c .before .loop in
-    sym (spread-none (putRow (a .y)) (pairLine zzTag (now (a .s))) (l .left) 0 (l .p) (l .h) (omega arith)) ∙ l .inv .1
+    sym (spread-none (putRow (a .t4)) (pairLine zzTag (now (a .s))) (l .left) 0 (l .p) (l .h) (omega arith)) ∙ l .inv .1
 
 pub put-rows-spec : {M : Type 1} → statement M
 put-rows-spec =

@@ -24,7 +24,7 @@ level-of-requires : tie.Need-level-of-requires
 level-of-requires c κs =
     let s = c .before .before .before in
     let b = c .before .before .block-of in
-    (s .pre .0, s .pre .1, omega arith, found (s .args .y) (s .args .row) (b .result) (b .ensures) (omega arith))
+    (s .pre .0, s .pre .2, omega arith, found (s .args .y) (s .args .row) (b .result) (b .ensures) (omega arith))
 
 -- src/lib.rt:90:17
 start-of-requires : tie.Need-start-of-requires
@@ -61,7 +61,7 @@ level-of-requires-2 : tie.Need-level-of-requires-2
 level-of-requires-2 c κs =
     let s = c .before .before .before .before .before .before .before in
     let b = c .before .block-of2 in
-    (s .pre .0, s .pre .1, omega arith, found (s .args .y) (s .args .col) (b .result) (b .ensures) (omega arith))
+    (s .pre .0, s .pre .2, omega arith, found (s .args .y) (s .args .col) (b .result) (b .ensures) (omega arith))
 
 -- src/lib.rt:97:6
 start-of-requires-2 : tie.Need-start-of-requires-2
@@ -74,6 +74,7 @@ pair-place-requires c κs =
     let i = c .before .before .before .before .before .before .before .before .block-of .result in
     let j = c .before .before .before .block-of2 .result in (
       s .pre .0,
+      s .pre .1,
       omega arith,
       omega (arith, c .before .level-of2 .ensures .1, is-lawful (s .args .y) (s .pre .0) .level j (omega arith) .1),
       omega (arith, c .before .before .before .before .before .level-of .ensures .1, is-lawful (s .args .y) (s .pre .0) .level i (omega arith) .1),

@@ -23,7 +23,7 @@ level-of-requires : tie.Need-level-of-requires
 level-of-requires c κs =
     let s = c .before .before .before in
     let b = c .before .before .block-of in
-    (s .pre .0, s .pre .1, omega arith, found (s .args .y) (s .args .x) (b .result) (b .ensures) (omega arith))
+    (s .pre .0, s .pre .2, omega arith, found (s .args .y) (s .args .x) (b .result) (b .ensures) (omega arith))
 
 -- src/lib.rt:110:6
 start-of-requires : tie.Need-start-of-requires

@@ -19,14 +19,14 @@ element-copy-out-result c = omega (arith, is-lawful (c .args .y) (c .pre .0) .bl
 sub-result : tie.Need-sub-result
 sub-result c =
     let s = c .before in
-    omega (arith, s .pre .1 .first (s .args .j) (s .pre .2), in-block (s .args .y) (s .args .j) (s .args .x) (s .pre .3) .0)
+    omega (arith, s .pre .1 (s .args .j) (s .pre .2), in-block (s .args .y) (s .args .j) (s .args .x) (s .pre .3) .0)
 
 -- src/lib.rt:50:1
 returns : tie.Need-returns
 returns c =
     let s = c .before in
     let b = in-block (s .args .y) (s .args .j) (s .args .x) (s .pre .3) in
-    let e = s .pre .1 .first (s .args .j) (s .pre .2) in
+    let e = s .pre .1 (s .args .j) (s .pre .2) in
     (ap (λ (f : ℕ). s .args .x - f) e, omega (arith, e, b .0, b .1))
 
 pub level-of-spec : {M : Type 1} → statement M

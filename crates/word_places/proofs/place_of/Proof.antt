@@ -38,7 +38,7 @@ fixed-place-requires : tie.Need-fixed-place-requires
 fixed-place-requires c κs =
     let s = c .before .before .before .before in
     let h = is-lawful (s .args .y) (s .pre .0) .effects .0 in
-    (s .pre .0, s .pre .1, omega (arith, mod-lt (s .args .i) h))
+    (s .pre .0, s .pre .1, s .pre .2, s .pre .3, omega (arith, mod-lt (s .args .i) h))
 
 -- src/lib.rt:129:20
 enum-told-3 : tie.Need-enum-told-3

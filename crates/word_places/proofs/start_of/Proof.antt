@@ -25,7 +25,7 @@ element-copy-out-result c = omega (arith, is-lawful (c .args .y) (c .pre .0) .bl
 returns : tie.Need-returns
 returns c =
     let s = c .before in
-    let e = s .pre .1 .at (s .args .i) (s .args .j) (s .pre .2) (s .pre .3) in
+    let e = s .pre .1 (s .args .i) (s .args .j) (s .pre .2) (s .pre .3) in
     (e, omega (arith, e, start-low (s .args .y) (s .pre .0) (s .args .i) (s .args .j) (s .pre .2) (s .pre .3)))
 
 pub start-of-spec : {M : Type 1} → statement M
