@@ -7,6 +7,8 @@
 LIST gets the cases, and STDOUT what a program that checks them must write where every case agrees.  ACCEPTED are files with a sheet and its
 theta lines, as the generator of the Rust original makes them; each becomes a case that must load.  The second form writes what load must
 leave of one such file: the counts of numbers and of doubles, the numbers and the doubles, all lowest byte first.
+The stored list was made with eight of them: `gen.py` with 12,7 2 40 1 crossed; 20,5 3 60 2 nested; 5,20 2 60 3 nested; 9,9,4 2 50 4 crossed;
+6 1 20 5 crossed; 40,30,20 3 60 6 crossed; 3,2,2,1,1,1,1,1 1 30 7 crossed; 15,15 4 80 8 crossed --exact.
 
 How the list is made.  `read`, `judge`, `lay` and `load` below are written from document 01 alone (Records 1 to 3, "Refused because of the
 input", number 20), as it reads: whole lines, split at tabs, dictionaries for the entries.  They share nothing with the proved reader.  Where
