@@ -123,7 +123,7 @@ module _ (sheet : Sheet) where
 
 -- Demand 3: for all bytes, headings and doubles on which load accepts a sheet, and every list of begins, steps, `replace_response` and `profile_deviance`
 -- calls, refused ones included.
-pub Demand3 : Type 0
+unfoldable pub Demand3 : Type 0
 Demand3 =
     (bytes : List ℕ) (sheet : Sheet) (starts : Starts) (h : List ℕ) (w : List Float) (o : Outcome)
     → sheetOf bytes ≡ accepted sheet starts → Loads bytes h w o → o .answer ≡ Accepted → (calls : List Call) → Holds sheet h w (o .left) calls

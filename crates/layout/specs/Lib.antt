@@ -1,3 +1,4 @@
+pub mod Marked
 pub mod Blocks
 pub mod Gate
 pub mod Shapes

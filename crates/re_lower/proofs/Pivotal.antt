@@ -34,10 +34,11 @@ use Rattle.re_lower.proofs.Blocks.{accepted-none}
 abbrev pub AboveOrNaN : Float → Type 0
 AboveOrNaN y = (ieee .above y ≡ true) ⊎ (y ≡ nan)
 
-abbrev nought : Float
+-- the double 0, by its sign and digits
+abbrev pub nought : Float
 nought = fin false 0 (pos 0)
 
-nought-is : ieee .zero ≡ nought
+pub nought-is : ieee .zero ≡ nought
 unfolding Ieee.ofBits
 nought-is = refl
 
@@ -53,7 +54,7 @@ clash : {X : Type 0} (x : Bool) → x ≡ true → x ≡ false → X
 clash x e f = absurd (let z : _≡_ {A = ℕ} 0 1 = cc in omega arith)
 
 -- a radicand that is not refused is above 0, or NaN
-not-refused : (x : Float) → Ieee.le x nought ≡ false → T (positive x) ⊎ ((x ≡ inf false) ⊎ (x ≡ nan))
+pub not-refused : (x : Float) → Ieee.le x nought ≡ false → T (positive x) ⊎ ((x ≡ inf false) ⊎ (x ≡ nan))
 unfolding Ieee.le
 not-refused nan e = inr (inr refl)
 not-refused (inf false) e = inr (inl refl)
@@ -94,7 +95,8 @@ unfolding Ieee.eq
 never-null y h = ⊎-elim (λ e. rw nought-is (above-not-null y (rw nought-is at e))) (λ e. rw e refl) h
 
 -- ---- the pivots that C leaves
-chain-fits : (s : Float) (a b : ℕ → Float) (n : ℕ) → T (fits binary64 s) → T (fits binary64 (chain ieee s a b n))
+-- a double less any products is a double
+pub chain-fits : (s : Float) (a b : ℕ → Float) (n : ℕ) → T (fits binary64 s) → T (fits binary64 (chain ieee s a b n))
 unfolding lessFrom
 chain-fits s a b zero f = f
 chain-fits s a b (suc n) f = sub-fits binary64 (chain ieee s a b n) (ieee .times (a n) (b n))

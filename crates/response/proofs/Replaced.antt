@@ -18,6 +18,7 @@ use Rattle.layout.specs.Heading.{layoutOf, progressOf, entryRow, every, lawful,
 use Rattle.workspace.specs.Memory.{headingWith}
 use Rattle.workspace.specs.Answers.{space, accept, firstInfinite}
 use Rattle.workspace.specs.Response.{responded, replaceOf}
+use Rattle.headed.proofs.Fits.{fits}
 use Rattle.heading.specs.Small.{SmallProgress}
 use Rattle.progress.proofs.Count.{triple-small, step-count}
 use Rattle.response_rows.specs.Strided.{responseRows}
@@ -35,41 +36,10 @@ noughts-small (suc n) (suc i) = noughts-small n i
 pub idle-small : (k : ℕ) → k ≤ 8 → SmallProgress (idle k)
 idle-small k h = record { left = omega (arith, step-count k h, triple-small k h); stages = noughts-small 45 }
 
--- ---- what a workspace has
-
-pub record Workable (h : List ℕ) (doubles : ℕ) : Type 0 where
-  pub long : 128 ≤ length h
-  pub layout : lawful (layoutOf h) ≡ true
-  pub room : loadedLength (layoutOf h) ≤ doubles
-
+-- the loaded numbers lie within the doubles
 loaded-below : (y : Layout) (n : ℕ) → doublesNeeded y ≤ n → loadedLength y ≤ n
 unfolding sumAt
 loaded-below y n h = omega arith
-
-parts : (a b c d e f g h i : Bool) → (a && b && c && d && e && f && g && h && i) ≡ true → (a ≡ true) × (e ≡ true) × (h ≡ true)
-parts a b c d e f g h i t =
-    let t₈ = and-eq-true-iff (a && b && c && d && e && f && g && h) i .0 t in
-    let t₇ = and-eq-true-iff (a && b && c && d && e && f && g) h .0 (t₈ .0) in
-    let t₆ = and-eq-true-iff (a && b && c && d && e && f) g .0 (t₇ .0) in
-    let t₅ = and-eq-true-iff (a && b && c && d && e) f .0 (t₆ .0) in
-    let t₄ = and-eq-true-iff (a && b && c && d) e .0 (t₅ .0) in
-    let t₃ = and-eq-true-iff (a && b && c) d .0 (t₄ .0) in
-    let t₂ = and-eq-true-iff (a && b) c .0 (t₃ .0) in
-    (and-eq-true-iff a b .0 (t₂ .0) .0, t₄ .1, t₇ .1)
-
-pub workable : (h : List ℕ) (doubles : ℕ) → headed h doubles ≡ true → Workable h doubles
-unfolding headed
-workable h doubles e =
-    let y : Layout = layoutOf h in
-    let k =
-    parts (leb 128 (length h)) (leb (getD h 20 0) 1) (leb (getD h 21 0) 1) (leb (getD h 22 0) 2) (lawful y) (progressLawful (y .k) (progressOf h))
-    (leb (numbersNeeded y) (length h)) (leb (doublesNeeded y) doubles)
-    (not (y .sparse) || every (λ c. ltb (entryRow h c) (levels y 1)) (levels y 0)) e in
-    record {
-      long = leb-true 128 (length h) (k .0);
-      layout = k .1;
-      room = loaded-below y doubles (leb-true (doublesNeeded y) doubles (k .2));
-    }
 
 -- ---- the outcome
 
@@ -115,10 +85,10 @@ module _ (h : List ℕ) (w zy xy yl : List Float) where
         ready =
             let none : a .number ≡ 0 = first-none a b (ap (λ (g : Refusal). g .number) (sym found) ∙ fine) in
             let t = all-right (eqb (length zy) (y .q)) (eqb (length xy) (y .p)) (eqb (length yl) 1) (ap (λ (g : Refusal). g .number) (sym lengths) ∙ none) in
-            let k = workable h (length w) ok in (
+            let k = fits h (length w) ok in (
               k .long,
               rw is (k .layout),
-              rw is (k .room),
+              rw is (loaded-below (layoutOf h) (length w) (k .room)),
               eqb-true (length zy) (y .q) (t .0),
               eqb-true (length xy) (y .p) (t .1),
               eqb-true (length yl) 1 (t .2),
@@ -128,7 +98,7 @@ module _ (h : List ℕ) (w zy xy yl : List Float) where
         pub replaced : (h′ : List ℕ) (w′ : List Float) → (h′ ≡ headingWith h (idle (y .k))) × (w′ ≡ responseRows y zy xy yl w) → accept h′ w′ ≡ replaceOf h w zy xy yl
         unfolding responded
         replaced h′ w′ p =
-            let k = workable h (length w) ok in
+            let k = fits h (length w) ok in
             let t : (length zy ≡ layoutOf h .q) × (length xy ≡ layoutOf h .p) = (ready .3 ∙ ap (λ (z : Layout). z .q) is, ready .4 ∙ ap (λ (z : Layout). z .p) is) in
-            ap₂ accept (rw is at (p .0)) (rw is at (p .1) ∙ rows-stored h w zy xy yl (k .layout) (k .room) (t .0) (t .1) (ready .5))
+            ap₂ accept (rw is at (p .0)) (rw is at (p .1) ∙ rows-stored h w zy xy yl (k .layout) (loaded-below (layoutOf h) (length w) (k .room)) (t .0) (t .1) (ready .5))
             ∙ sym (in-turn-told ∙ rw (eq-eqb (f .number) 0 fine) refl)

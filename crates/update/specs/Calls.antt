@@ -1,10 +1,10 @@
 -- Begin and the steps as functions of heading, doubles and arguments, refused ones included (document 01, Records 4 and 5, "Refused because of the state").
-use Prim.Native.Nat.{ℕ, zero, suc, _+_, _-_}
+use Prim.Native.Nat.{ℕ, zero, suc, _+_}
 use mathlib.Core.Bool.{Bool, true, false, cond}
 use mathlib.Core.List.{List, [], _∷_}
 use mathlib.Core.Option.{Option, none, some}
 use lib.Dec.{eqb}
-use lib.ListN.{length, getD, set, replicate}
+use lib.ListN.{length, getD, replicate}
 use lib.Ieee.{Float}
 use Rattle.storage.specs.Runs.{start, triangle}
 use Rattle.storage.specs.Part.{store}
@@ -17,6 +17,7 @@ use Rattle.layout.specs.declared.State.the-variants.{Idle, UnderWay, Finished}
 use Rattle.refusal.specs.declared.Answer.{Answer}
 use Rattle.refusal.specs.declared.Answer.the-variants.{Accepted, Refused}
 use Rattle.refusal.specs.Numbers.{refuse}
+use Rattle.layout.specs.Marked.{marked}
 use Rattle.layout.specs.Shapes.{Target, pick, targets, thetaAt, workingAt, sumAt}
 use Rattle.layout.specs.Heading.{layoutOf, progressOf, stageOf, entryRow, headed, idle, underWay}
 use Rattle.workspace.specs.Memory.{Workspace, loadedBlock, workingBlock, loadedSome, logSum, headingWith, cleared}
@@ -26,12 +27,7 @@ use Rattle.update.specs.Working.{rulesOf, started}
 -- ---- progress
 -- one step more
 abbrev pub advanced : Progress → Step → Progress
-advanced g s =
-    record {
-      state = cond (eqb (g .left) 1) Finished UnderWay;
-      left = g .left - 1;
-      stages = set (g .stages) (start triangle (row s) + col s) (suc (index s));
-    }
+advanced g s = marked g (start triangle (row s) + col s) (suc (index s))
 
 -- ---- begin
 -- the working blocks, written one after the other

@@ -1,3 +1,4 @@
+pub mod Names
 pub mod Working
 pub mod Calls
 pub mod Compute

@@ -1,5 +1,6 @@
 -- `response::replace_headed`: what is wrong with the lists, or the response.
-use Rattle.response.proofs.Replaced.{workable, list-refused, ready, replaced}
+use Rattle.response.proofs.Replaced.{list-refused, ready, replaced}
+use Rattle.headed.proofs.Fits.{fits}
 use borrow.Author.Needs.{needs}
 use Rattle.response.proofs.replace_headed.Statement.{statement}
 use Rattle.response.proofs.replace_headed.Tie as tie
@@ -15,7 +16,7 @@ use Rattle.response.proofs.write.Reads as write-reads
 layout-requires : tie.Need-layout-requires
 layout-requires c κs =
     let s = c .before .before .before .before .before .before in
-    workable (s .args .h .now) _ (s .pre) .long
+    fits (s .args .h .now) _ (s .pre) .long
 
 -- src/lib.rt:91:9
 length-fault-requires : tie.Need-length-fault-requires

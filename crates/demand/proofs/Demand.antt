@@ -1,0 +1,45 @@
+-- Demand 3 holds: about every list of calls from every accepted load.
+use Prim.Native.Nat.{ℕ}
+use mathlib.Core.Path.{_≡_}
+use mathlib.Core.Bool.{Bool}
+use mathlib.Core.List.{List}
+use mathlib.Core.Option.{some}
+use lib.Ieee.{Float}
+use Rattle.order.specs.Steps.{Step}
+use Rattle.sheet.specs.Sheet.{Sheet, accepted, sheetOf}
+use Rattle.sheet.specs.declared.Starts.{Starts}
+use Rattle.refusal.specs.declared.Answer.the-variants.{Accepted}
+use Rattle.workspace.specs.Memory.{Workspace}
+use Rattle.workspace.specs.Answers.{Outcome}
+use Rattle.workspace.specs.Load.{Loads}
+use Rattle.book.specs.Calls.{Call, leftBy}
+use Rattle.book.specs.Book.{Book, opened, bookAfter}
+use Rattle.book.specs.Demand.{Holds, Demand3}
+use Rattle.standing.proofs.Stands.{Site, Stands}
+use Rattle.standing.proofs.Site.{headed-of}
+use Rattle.standing.proofs.Open.{open-site, open-stands}
+use Rattle.demand.proofs.Calls.{all-left, all-replies}
+use Rattle.demand.proofs.Never.{call-other}
+use Rattle.demand.proofs.Agrees.{agrees}
+use Rattle.demand.proofs.Ready.{under-way}
+use Rattle.demand.proofs.Finished.{divisors, finished}
+
+-- a list of calls from a workspace that stands by the opened book
+holds : (sheet : Sheet) (h : List ℕ) (w : List Float) (v : Workspace) → Site sheet h w → Stands sheet h w (opened sheet) v → (calls : List Call) → Holds sheet h w v calls
+holds sheet h w v here s calls =
+    let b : Book = bookAfter sheet calls (opened sheet) in
+    let u : Workspace = leftBy calls v in
+    let t : Stands sheet h w b u = all-left sheet h w here calls (opened sheet) v s in
+    record {
+      replies-same = all-replies sheet h w here calls (opened sheet) v s;
+      never-20 = λ c. call-other (u .heading) (u .doubles) (headed-of sheet h w here b u t) c;
+      agrees = agrees sheet h w here b u t;
+      under-way = λ d e. under-way sheet h w here b u t d e;
+      divisors = divisors sheet h w here b u t;
+      finished = finished sheet h w here b u t;
+    }
+
+pub demand3 : Demand3
+unfolding Demand3
+demand3 bytes sheet starts h w o e l a calls =
+    holds sheet h w (o .left) (open-site bytes sheet starts h w o e l a) (open-stands bytes sheet starts h w o e l a) calls

@@ -1,0 +1,6 @@
+pub mod Calls
+pub mod Never
+pub mod Agrees
+pub mod Ready
+pub mod Finished
+pub mod Demand

@@ -1,0 +1,1 @@
+// Demand 3 of the mission, which book/specs/Demand.antt states: its proof.

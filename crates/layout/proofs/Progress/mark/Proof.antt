@@ -1,0 +1,32 @@
+-- The state follows from whether the steps left were one.
+use mathlib.Core.Path.{_≡_, refl}
+use native.Mathlib.Omega.{arith}
+use borrow.Author.Needs.{needs}
+use borrow.Author.Tests.{eq-eqb, ne-eqb}
+use Rattle.layout.proofs.Progress.mark.Statement.{statement}
+use Rattle.layout.proofs.Progress.mark.Tie as tie
+use Rattle.layout.proofs.Progress.mark.Reads as reads
+use Rattle.layout.proofs.Progress.mark.Lts as lts
+
+-- src/lib.rt:49:9
+mul-stages : tie.Need-mul-stages
+mul-stages c = search needs
+
+-- src/lib.rt:49:9
+array-write-stages : tie.Need-array-write-stages
+array-write-stages c = search needs
+
+-- src/lib.rt:50:20
+sub-left : tie.Need-sub-left
+sub-left c = search needs
+
+-- src/lib.rt:52:13
+returns : tie.Need-returns
+returns c = rw (eq-eqb (c .before .before .before .args .self .left) 1 (omega arith))
+
+-- src/lib.rt:44:5
+returns-2 : tie.Need-returns-2
+returns-2 c = rw (ne-eqb (c .before .before .before .args .self .left) 1 (λ e. omega arith))
+
+pub mark-spec : {M : Type 1} → statement M
+mark-spec = tie.close (tie.spec mul-stages array-write-stages sub-left returns returns-2)

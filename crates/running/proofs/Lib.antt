@@ -1,0 +1,5 @@
+pub mod Run
+pub mod Finished
+pub mod Rust
+pub mod Step
+pub mod Profile

@@ -1,0 +1,5 @@
+pub mod Stands
+pub mod Site
+pub mod Open
+pub mod Begin
+pub mod Step
