@@ -4,3 +4,4 @@ pub mod Lawful
 pub mod Sorted
 pub mod Heading
 pub mod Controls
+pub mod Fits

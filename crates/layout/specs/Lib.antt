@@ -3,3 +3,4 @@ pub mod Blocks
 pub mod Gate
 pub mod Shapes
 pub mod Heading
+pub mod Fits

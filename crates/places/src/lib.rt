@@ -60,7 +60,7 @@ fn fixed_size(y: Layout, loaded: bool, j: u64) -> u64
 }
 
 // The cells of block (i, j).
-fn size_of(y: Layout, loaded: bool, i: u64, j: u64) -> u64
+pub fn size_of(y: Layout, loaded: bool, i: u64, j: u64) -> u64
     requires { ⌜ (lawful y ≡ true) × (j ≤ i) × (i ≤ y .k) ⌝ }
     ensures { λ r. ⌜ r ≡ sizesOf y loaded i j ⌝ }
 {

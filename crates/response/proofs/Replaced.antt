@@ -18,7 +18,7 @@ use Rattle.layout.specs.Heading.{layoutOf, progressOf, entryRow, every, lawful,
 use Rattle.workspace.specs.Memory.{headingWith}
 use Rattle.workspace.specs.Answers.{space, accept, firstInfinite}
 use Rattle.workspace.specs.Response.{responded, replaceOf}
-use Rattle.headed.proofs.Fits.{fits}
+use Rattle.layout.proofs.Fits.{fits}
 use Rattle.heading.specs.Small.{SmallProgress}
 use Rattle.progress.proofs.Count.{triple-small, step-count}
 use Rattle.response_rows.specs.Strided.{responseRows}

@@ -9,10 +9,10 @@ use Rattle.logarithm.specs.Ln.{lnOf}
 use Rattle.layout.specs.Heading.{progressOf}
 use Rattle.workspace.specs.Load.{loadOf}
 use Rattle.workspace.specs.Compute.{words}
-use Rattle.factor.specs.Compute.{readingHere, printed}
+use Rattle.worked.specs.Compute.{readingHere, printed}
 use Rattle.starred.specs.Evaluate.{sheetBytes, inputBytes, outputBytes, oneReadingBytes, loaded, logDeterminantBits, solving, profiled, sigma2Bits, stepCounts, gateVerdicts, stepRefusals}
 use Rattle.starred.specs.Starred.{Starred}
-use Rattle.factor.proofs.Printed.{prints}
+use Rattle.worked.proofs.Printed.{prints}
 
 text : printed inputBytes ≡ outputBytes
 unfolding printed inputBytes outputBytes

@@ -3,9 +3,9 @@ use mathlib.Core.Path.{_≡_, refl}
 use Rattle.sheet.specs.Text.{ended, reading}
 use Rattle.sheet.specs.Sheet.{readSheet}
 use Rattle.sheet.specs.Answer.{Answers}
-use Rattle.factor.specs.Program.{Prints}
-use Rattle.factor.specs.Compute.{readingHere, printed}
-use Rattle.factor.proofs.Printed.{prints}
+use Rattle.worked.specs.Program.{Prints}
+use Rattle.worked.specs.Compute.{readingHere, printed}
+use Rattle.worked.proofs.Printed.{prints}
 use Rattle.starred.specs.Sheets.{
   denseInput,
   denseOutput,

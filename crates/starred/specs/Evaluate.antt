@@ -23,9 +23,9 @@ use Rattle.profile.specs.declared.Solve.{Solve}
 use Rattle.profile.specs.declared.Solve.the-variants.{Solved, Refused}
 use Rattle.profile.specs.Deviance.{profileOf, logDeterminant}
 use Rattle.profile.specs.Finish.{Solving, solveOf, resultList}
-use Rattle.factor.specs.Program as Program
-use Rattle.factor.specs.Worked.{sheetLines, thetaLines, outputLines}
-use Rattle.factor.specs.Compute.{readingHere}
+use Rattle.worked.specs.Program as Program
+use Rattle.worked.specs.Worked.{sheetLines, thetaLines, outputLines}
+use Rattle.worked.specs.Compute.{readingHere}
 use Rattle.starred.specs.Table.{oneReadingLine, oneWord, CountCase, GateCase, StepCase}
 use Rattle.layout.specs.declared.Layout.{Layout}
 use Rattle.workspace.specs.Memory.{Workspace}

@@ -9,7 +9,7 @@ use Rattle.workspace.specs.Compute.{words}
 use Rattle.workspace.specs.Load.{Loads}
 use Rattle.layout.specs.Heading.{progressOf}
 use Rattle.profile.specs.declared.Deviance.the-variants.{NoScale}
-use Rattle.factor.specs.Program.{Prints}
+use Rattle.worked.specs.Program.{Prints}
 use Rattle.starred.specs.Table.{oneWord, twoWord, halfWord, thirdWord, zeroWord, twoLn2Word, solutionWords, countCases, gateCases, stepCases}
 use Rattle.starred.specs.Evaluate.{sheetBytes, inputBytes, outputBytes, oneReadingBytes, loaded, logDeterminantBits, solving, profiled, sigma2Bits, stepCounts, gateVerdicts, stepRefusals, countsSaid, verdictsSaid, refusalsSaid}
 

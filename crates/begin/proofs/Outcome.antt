@@ -1,0 +1,83 @@
+-- What `begin` answers and leaves, refusal by refusal.
+use Prim.Native.Nat.{ℕ, zero, suc, _≤_, _<_}
+use mathlib.Core.Path.{_≡_, refl, sym, ap, ap₂, _∙_}
+use mathlib.Core.Bool.{true, false}
+use mathlib.Core.List.{List, [], _∷_}
+use mathlib.Core.Option.{none, some}
+use native.Mathlib.Omega.{arith}
+use lib.ListN.{length, getD, replicate}
+use lib.Ieee.{Float}
+use borrow.Author.Tests.{eq-eqb, ne-eqb, lt-ltb, le-ltb}
+use Rattle.refusal.specs.declared.Refusal.{Refusal}
+use Rattle.refusal.specs.declared.Answer.the-variants.{Refused}
+use Rattle.refusal.specs.Numbers.{refusal}
+use Rattle.storage.specs.Part.{store}
+use Rattle.rules.specs.Arithmetic.{ieee}
+use Rattle.layout.specs.declared.Layout.{Layout}
+use Rattle.layout.specs.Shapes.{sumAt, doublesNeeded}
+use Rattle.layout.specs.Heading.{layoutOf, entryRow, lawful, underWay, headed}
+use Rattle.workspace.specs.Memory.{headingWith}
+use Rattle.workspace.specs.Answers.{space, accept, firstInfinite}
+use Rattle.layout.proofs.Fits.{fits}
+use Rattle.heading.specs.Small.{SmallProgress}
+use Rattle.progress.proofs.Count.{triple-small, step-count}
+use Rattle.finite.specs.Found.{foundAt}
+use Rattle.update.specs.Calls.{begun, beginOf}
+use Rattle.started.specs.Started.{sortedTheta}
+use Rattle.begin.specs.Begun.{DoublesBegun}
+use Rattle.begin.proofs.Stored.{blocks-stored}
+
+-- ---- an update just begun fits the heading
+
+noughts-small : (n i : ℕ) → getD (replicate n 0) i 0 < 4294967296
+noughts-small zero i = omega arith
+noughts-small (suc n) zero = omega arith
+noughts-small (suc n) (suc i) = noughts-small n i
+
+pub under-way-small : (k : ℕ) → k ≤ 8 → SmallProgress (underWay k)
+under-way-small k h = record { left = omega (arith, step-count k h, triple-small k h); stages = noughts-small 45 }
+
+-- ---- the outcome
+
+module _ (h : List ℕ) (w theta : List Float) where
+  -- 20
+  pub not-headed : headed h (length w) ≡ false → (f : Refusal) → f ≡ refusal 20 0 0 → record { answer = Refused f; left = space h w } ≡ beginOf h w theta
+  unfolding beginOf
+  not-headed e f q = rw (e, q) refl
+
+  -- the layout that was read
+  module _ (ok : headed h (length w) ≡ true) (y : Layout) (is : y ≡ layoutOf h) where
+    -- 13
+    pub wrong-length : (length theta ≡ y .k → ⊥) → (f : Refusal) → f ≡ refusal 13 0 0 → record { answer = Refused f; left = space h w } ≡ beginOf h w theta
+    unfolding beginOf
+    wrong-length n f q = rw (ok, ne-eqb (length theta) (layoutOf h .k) (λ e. n (e ∙ ap (λ (z : Layout). z .k) (sym is))), q) refl
+
+    module _ (long : length theta ≡ y .k) (i : ℕ) (found : firstInfinite 0 theta ≡ foundAt i (length theta)) where
+      same-long : length theta ≡ layoutOf h .k
+      same-long = long ∙ ap (λ (z : Layout). z .k) is
+
+      -- 14
+      pub not-finite : i < length theta → (f : Refusal) → f ≡ refusal 14 0 i → record { answer = Refused f; left = space h w } ≡ beginOf h w theta
+      unfolding beginOf
+      not-finite l f q =
+          let e : firstInfinite 0 theta ≡ some i = rw (lt-ltb i (length theta) l) at found in
+          rw (ok, eq-eqb (length theta) (layoutOf h .k) same-long, e, q) refl
+
+      -- what is written to
+      pub ready : (128 ≤ length h) × (lawful y ≡ true) × (length theta ≡ y .k) × (doublesNeeded y ≤ length w)
+      ready =
+          let k = fits h (length w) ok in
+          (k .long, rw is (k .layout), long, rw is (k .room))
+
+      -- begun
+      pub accepted : length theta ≤ i → (h′ : List ℕ) (w′ : List Float) → (h′ ≡ headingWith h (underWay (y .k))) × DoublesBegun y theta w w′
+          → accept h′ w′ ≡ beginOf h w theta
+      unfolding beginOf
+      accepted l h′ w′ p =
+          let e : firstInfinite 0 theta ≡ none = rw (le-ltb i (length theta) l) at found in
+          let d : DoublesBegun (layoutOf h) theta w w′ = rw is at (p .1) in
+          let v : w′ ≡ begun h w theta .doubles =
+          d (entryRow h)
+          ∙ ap (store (sumAt (layoutOf h)) (ieee .zero ∷ [])) (sym (blocks-stored h w (sortedTheta (layoutOf h) theta) theta (fits h (length w) ok .room) same-long)) in
+          ap₂ accept (rw is at (p .0)) v
+          ∙ rw (ok, eq-eqb (length theta) (layoutOf h .k) same-long, e) refl

@@ -1,0 +1,81 @@
+-- `print::put_text`: the first i bytes are written.
+use borrow.Author.Needs.{needs}
+use Prim.Native.Nat.{_-_, _≤_}
+use mathlib.Core.Path.{_≡_, refl}
+use native.Mathlib.Omega.{arith}
+use lib.ListN.{length, take, length-set}
+use Rattle.storage.specs.Part.{store}
+use Rattle.print.proofs.Written.{text-none, text-more, text-all}
+use Rattle.print.proofs.put_text.Statement.{statement}
+use Rattle.print.proofs.put_text.Tie as tie
+use Rattle.print.proofs.put_text.Reads as reads
+use Rattle.print.proofs.put_text.Lts as lts
+
+abbrev Inv-loop : tie.InvT-loop
+Inv-loop out₀ at text i₀ out i = (i ≤ length text) × (out ≡ store at (take i text) out₀) × (length out ≡ length out₀)
+
+abbrev μ-loop : tie.MeasureT-loop
+μ-loop out₀ at text i₀ out i = length text - i
+
+-- src/lib.rt:44:5
+loop-holds : tie.Need-loop-holds Inv-loop μ-loop
+loop-holds c = (omega arith, text-none (c .args .at) (c .args .text .now) (c .args .out .now), refl)
+
+-- src/lib.rt:45:23
+shared-slice-read-out : tie.Need-shared-slice-read-out Inv-loop μ-loop
+shared-slice-read-out c = search needs
+
+-- src/lib.rt:45:13
+add-out : tie.Need-add-out Inv-loop μ-loop
+add-out c = search needs
+
+-- src/lib.rt:45:9
+slice-write-out : tie.Need-slice-write-out Inv-loop μ-loop
+slice-write-out c = search needs
+
+-- src/lib.rt:46:9
+add-i : tie.Need-add-i Inv-loop μ-loop
+add-i c = search needs
+
+-- src/lib.rt:44:5
+loop-less : tie.Need-loop-less Inv-loop μ-loop
+loop-less c = search needs
+
+-- src/lib.rt:44:5
+loop-again : tie.Need-loop-again Inv-loop μ-loop
+loop-again c =
+    let s = c .before .before .before in
+    let l = c .before .before .loop in
+    (omega arith, text-more (s .args .at) (s .args .text .now) (s .args .out .now) (l .i) (l .out) (s .pre) (c .before .loop-test .taken) (l .inv .1), simp length-set (l .inv .2))
+
+-- src/lib.rt:48:5
+add-result : tie.Need-add-result Inv-loop μ-loop
+add-result c = search needs
+
+-- src/lib.rt:39:1
+same-length : tie.Need-same-length Inv-loop μ-loop
+same-length c = search needs
+
+-- src/lib.rt:39:1
+returns : tie.Need-returns Inv-loop μ-loop
+returns c =
+    let l = c .before .loop in
+    let a = c .before .before .args in
+    (omega arith, text-all (a .at) (a .text .now) (a .out .now) (l .i) (l .out) (omega arith) (l .inv .1))
+
+pub put-text-spec : {M : Type 1} → statement M
+put-text-spec =
+    tie.close
+    (tie.spec
+    Inv-loop
+    μ-loop
+    loop-holds
+    shared-slice-read-out
+    add-out
+    slice-write-out
+    add-i
+    loop-less
+    loop-again
+    add-result
+    same-length
+    returns)

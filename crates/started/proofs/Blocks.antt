@@ -1,0 +1,142 @@
+-- The calls that begin one block, and the loops over the blocks: each callee's answer is a number of its own.
+use Prim.Native.Nat.{ℕ, _+_, _≤_, _<_}
+use mathlib.Core.Path.{_≡_, refl, sym, ap, subst, _∙_}
+use mathlib.Core.Bool.{true, false, _&&_, _||_}
+use mathlib.Core.List.{List, [], _∷_, _++_}
+use mathlib.Core.Logic.{_⊎_, inr}
+use native.Mathlib.Numerals.{add-one}
+use native.Mathlib.Omega.{arith}
+use lib.Dec.{eqb}
+use lib.ListN.{length, drop, length-drop}
+use lib.Seq.{getD-drop}
+use lib.Ieee.{Float, nan}
+use Rattle.storage.specs.Runs.{tab}
+use Rattle.storage.specs.Shape.{packed, diagonal, sizeOf}
+use Rattle.storage.specs.Part.{part, store}
+use Rattle.storage.proofs.Cells.{take-tab}
+use Rattle.storage.proofs.Places.{size-diagonal}
+use Rattle.axpy.specs.Axpy.{at}
+use Rattle.blocks.specs.Blocks.{EachShape}
+use Rattle.layout.specs.declared.Layout.{Layout}
+use Rattle.layout.specs.Shapes.{Target, target, factors, across, pairs, targets, levels, shape, sizes, loadedSizes, loadedAt, workingAt, doublesNeeded}
+use Rattle.layout.proofs.Places.{size-working}
+use Rattle.layout.proofs.Formula.{loaded-factor, loaded-other, loaded-last}
+use Rattle.places.proofs.Sizes.{below}
+use Rattle.re_factor.specs.Factor as factor
+use Rattle.cross_block.specs.Blocks.{scaledTwice, scaledOnce}
+use Rattle.started.specs.Started.{startedBlock, startedBlocks, BlockStarted, BlocksStarted}
+use Rattle.started.proofs.Shaped.{shape-diagonal, shape-packed, room, factor-started, pair-started, fixed-started, last-started}
+
+-- n doubles from src on, one by one
+pub copied : (src n : ℕ) (w : List Float) → src + n ≤ length w → tab n (λ i. at w (src + i)) ≡ part src n w
+copied src n w h = sym (take-tab nan n (λ i. at w (src + i)) (drop src w) (simp length-drop (omega arith)) (λ i l. getD-drop src w i nan))
+
+-- ---- one block
+
+-- the kernels' conditions: the target and its source lie in the doubles, the source before the target
+abbrev Fits : (off size src n len : ℕ) → Type 0
+Fits off size src n len = ((off + size ≤ len) × (src + n ≤ len)) × ((off + size ≤ src) ⊎ (src + n ≤ off))
+
+module _ (y : Layout) (len : ℕ) (fits : doublesNeeded y ≤ len) where
+  module _ (j off src n : ℕ) (h : j < y .k) (a : off ≡ workingAt y j j) (b : src ≡ loadedAt y j j) (c : n ≡ levels y j) where
+    factor-fits : (size : ℕ) → size ≡ sizes y j j → Fits off size src n len
+    factor-fits size e =
+        let r = room y len fits j j (omega arith) (omega arith) in
+        let l = loaded-factor y j h in
+        ((omega (arith, r .working), omega (arith, r .loaded)), inr (omega (arith, r .apart)))
+
+    pub diagonal-fits : (eqb j 0 || (y .diagonal && eqb j 1)) ≡ true → Fits off n src n len
+    diagonal-fits d = factor-fits n (c ∙ sym (ap sizeOf (shape-diagonal y j (λ x. 0) h d) ∙ size-diagonal (levels y j)))
+
+    pub packed-fits : (eqb j 0 || (y .diagonal && eqb j 1)) ≡ false → Fits off (sizeOf (packed n)) src n len
+    packed-fits d = factor-fits (sizeOf (packed n)) (ap (λ (x : ℕ). sizeOf (packed x)) c ∙ sym (ap sizeOf (shape-packed y j (λ x. 0) h d)))
+
+    module _ (t : ℕ → Float) (x : Float) (e : x ≡ t j) (w w′ : List Float) where
+      pub diagonal-done : (eqb j 0 || (y .diagonal && eqb j 1)) ≡ true → w′ ≡ factor.started (diagonal n) off n src x w → BlockStarted y t j j w w′
+      diagonal-done d q row = q ∙ rw (a, b, c, e) (sym (factor-started y row t j h (diagonal (levels y j)) (shape-diagonal y j row h d) w))
+
+      pub packed-done : (eqb j 0 || (y .diagonal && eqb j 1)) ≡ false → w′ ≡ factor.started (packed n) off n src x w → BlockStarted y t j j w w′
+      packed-done d q row = q ∙ rw (a, b, c, e) (sym (factor-started y row t j h (packed (levels y j)) (shape-packed y j row h d) w))
+
+  module _ (i j off src n : ℕ) (h : j < i) (g : i ≤ y .k) (a : off ≡ workingAt y i j) (b : src ≡ loadedAt y i j) (c : n ≡ sizes y i j) where
+    pub beside-fits : Fits off n src n len
+    beside-fits =
+        let r = room y len fits i j (omega arith) g in
+        let l = loaded-other y i j h in
+        ((omega (arith, r .working), omega (arith, r .loaded)), inr (omega (arith, r .apart)))
+
+    module _ (t : ℕ → Float) (x : Float) (e : x ≡ t j) (w w′ : List Float) where
+      pub fixed-done : i ≡ y .k → EachShape n (λ s. w′ ≡ scaledOnce s off src x w) → BlockStarted y t i j w w′
+      fixed-done k q row =
+          q (shape y row i j) (size-working y row i j ∙ sym c)
+          ∙ rw (a, b, e)
+          (subst (λ (r : ℕ). scaledOnce (shape y row r j) (workingAt y r j) (loadedAt y r j) (t j) w ≡ startedBlock y row t r j w) (sym k)
+          (sym (fixed-started y row t j (omega arith) w)))
+
+      pub pair-done : (i ≡ y .k → ⊥) → (z : Float) → z ≡ t i → EachShape n (λ s. w′ ≡ scaledTwice s off src x z w) → BlockStarted y t i j w w′
+      pair-done k z f q row =
+          q (shape y row i j) (size-working y row i j ∙ sym c)
+          ∙ rw (a, b, e, f) (sym (pair-started y row t i j h (below i (y .k) g k) w))
+
+  module _ (off src n : ℕ) (a : off ≡ workingAt y (y .k) (y .k)) (b : src ≡ loadedAt y (y .k) (y .k)) (c : n ≡ loadedSizes y (y .k) (y .k)) where
+    pub last-fits : (off + n ≤ len) × (src + n ≤ off)
+    last-fits =
+        let r = room y len fits (y .k) (y .k) (omega arith) (omega arith) in
+        let l = loaded-last y in
+        (omega (arith, r .working), omega (arith, r .apart))
+
+    pub last-done : (t : ℕ → Float) (w w′ : List Float) → w′ ≡ store off (part src n w) w → BlockStarted y t (y .k) (y .k) w w′
+    last-done t w w′ q row = q ∙ rw (a, b, c) (sym (last-started y row t w))
+
+-- ---- blocks in turn
+
+module _ (y : Layout) (row : ℕ → ℕ) (t : ℕ → Float) where
+  started-append : (a b : List Target) (v : List Float) → startedBlocks y row t (a ++ b) v ≡ startedBlocks y row t b (startedBlocks y row t a v)
+  unfolding startedBlocks
+  started-append [] b v = refl
+  started-append (u ∷ a) b v = started-append a b (startedBlock y row t (u .row) (u .col) v)
+
+  started-next : (l : List Target) (i j : ℕ) (v : List Float) → startedBlocks y row t (l ++ (target i j ∷ [])) v ≡ startedBlock y row t i j (startedBlocks y row t l v)
+  unfolding startedBlocks
+  started-next [] i j v = refl
+  started-next (u ∷ l) i j v = started-next l i j (startedBlock y row t (u .row) (u .col) v)
+
+module _ (y : Layout) (t : ℕ → Float) (w : List Float) where
+  pub factors-none : BlocksStarted y t (factors 0) w w
+  unfolding factors startedBlocks
+  factors-none row = refl
+
+  pub across-none : (i : ℕ) → BlocksStarted y t (across i 0) w w
+  unfolding across startedBlocks
+  across-none i row = refl
+
+  pub pairs-none : BlocksStarted y t (pairs 0) w w
+  unfolding pairs startedBlocks
+  pairs-none row = refl
+
+  module _ (v u : List Float) where
+    pub factors-more : (j : ℕ) → BlocksStarted y t (factors j) w v → BlockStarted y t j j v u → BlocksStarted y t (factors (j + 1)) w u
+    unfolding factors
+    factors-more j e f row = rw add-one (f row ∙ ap (startedBlock y row t j j) (e row) ∙ sym (started-next y row t (factors j) j j w))
+
+    pub across-more : (i j : ℕ) → BlocksStarted y t (across i j) w v → BlockStarted y t i j v u → BlocksStarted y t (across i (j + 1)) w u
+    unfolding across
+    across-more i j e f row = rw add-one (f row ∙ ap (startedBlock y row t i j) (e row) ∙ sym (started-next y row t (across i j) i j w))
+
+    pub pairs-more : (i : ℕ) → BlocksStarted y t (pairs i) w v → BlocksStarted y t (across i i) v u → BlocksStarted y t (pairs (i + 1)) w u
+    unfolding pairs
+    pairs-more i e f row =
+        rw add-one (f row ∙ ap (startedBlocks y row t (across i i)) (e row) ∙ sym (started-append y row t (pairs i) (across i i) w))
+
+  -- all of them
+  pub targets-done : (v₁ v₂ v₃ u : List Float) → BlocksStarted y t (factors (y .k)) w v₁ → BlocksStarted y t (pairs (y .k)) v₁ v₂ → BlocksStarted y t (across (y .k) (y .k)) v₂ v₃
+      → BlockStarted y t (y .k) (y .k) v₃ u → BlocksStarted y t (targets (y .k)) w u
+  unfolding targets
+  targets-done v₁ v₂ v₃ u a b c d row =
+      d row
+      ∙ ap (startedBlock y row t (y .k) (y .k))
+      (c row
+      ∙ ap (startedBlocks y row t (across (y .k) (y .k)))
+      (b row ∙ ap (startedBlocks y row t (pairs (y .k))) (a row) ∙ sym (started-append y row t (factors (y .k)) (pairs (y .k)) w))
+      ∙ sym (started-append y row t (factors (y .k) ++ pairs (y .k)) (across (y .k) (y .k)) w))
+      ∙ sym (started-next y row t (factors (y .k) ++ pairs (y .k) ++ across (y .k) (y .k)) (y .k) (y .k) w)

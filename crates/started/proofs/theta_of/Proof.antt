@@ -1,0 +1,43 @@
+-- `started::theta_of`: theta of the block's sheet index.
+use native.Mathlib.Omega.{arith}
+use lib.Ieee.{nan}
+use Rattle.rules.specs.Arithmetic.{ieee}
+use Rattle.blocks.proofs.Laws.{any-default}
+use Rattle.places.proofs.Sizes.{few-blocks}
+use Rattle.block_map.proofs.Rows.{order-below}
+use borrow.Author.Needs.{needs}
+use Rattle.started.proofs.theta_of.Statement.{statement}
+use Rattle.started.proofs.theta_of.Tie as tie
+use Rattle.started.proofs.theta_of.Reads as reads
+use Rattle.started.proofs.theta_of.Lts as lts
+
+-- src/lib.rt:28:17
+mul-sheet : tie.Need-mul-sheet
+mul-sheet c = search needs
+
+-- src/lib.rt:28:17
+element-copy-out-sheet : tie.Need-element-copy-out-sheet
+element-copy-out-sheet c = omega (arith, few-blocks (c .args .t1) (c .pre .0))
+
+-- src/lib.rt:29:5
+mul-result : tie.Need-mul-result
+mul-result c =
+    let s = c .before in
+    omega (arith, order-below (s .args .t1) (s .pre .0) (s .args .j) (s .pre .2), few-blocks (s .args .t1) (s .pre .0))
+
+-- src/lib.rt:29:5
+shared-slice-read-result : tie.Need-shared-slice-read-result
+shared-slice-read-result c =
+    let s = c .before .before in
+    omega (arith, order-below (s .args .t1) (s .pre .0) (s .args .j) (s .pre .2), s .pre .1)
+
+-- src/lib.rt:24:1
+returns : tie.Need-returns
+returns c =
+    let s = c .before .before in
+    any-default (s .args .theta .now) _ nan (ieee .zero) (omega (arith, order-below (s .args .t1) (s .pre .0) (s .args .j) (s .pre .2), s .pre .1))
+
+pub theta-of-spec : {M : Type 1} → statement M
+theta-of-spec =
+    tie.close
+    (tie.spec mul-sheet element-copy-out-sheet mul-result shared-slice-read-result returns)

@@ -1,0 +1,164 @@
+-- The working blocks of a lawful layout as the kernels take them: the shape of each, its limits, its place among the doubles, and that no two share one.
+use Prim.Native.Nat.{ℕ, _+_, _*_, _≤_, _<_}
+use mathlib.Core.Path.{_≡_, refl, sym, ap, ap₂, _∙_}
+use mathlib.Core.Bool.{Bool, true, false, _&&_, cond}
+use mathlib.Core.Logic.{_⊎_, inl, inr, ⊎-elim, by-cases}
+use native.Mathlib.Decide.{decLt}
+use native.Mathlib.Nat.{le-trans, mul-le-mul}
+use native.Mathlib.Omega.{arith}
+use lib.Dec.{ltb, leb, eqb}
+use borrow.Author.Tests.{leb-true, eq-eqb, ne-eqb}
+use Rattle.storage.specs.Shape.{Shape, packed, diagonal, columns, entries, sizeOf}
+use Rattle.layout.specs.declared.Layout.{Layout}
+use Rattle.layout.specs.declared.Pair.{Pair}
+use Rattle.layout.specs.declared.Pair.the-variants.{Dense, Sparse, Refused}
+use Rattle.layout.specs.Gate.{thin, pairOf}
+use Rattle.layout.specs.Shapes.{levels, shape, loadedShape, sizes, loadedSizes, loadedAt, workingAt, doublesNeeded}
+use Rattle.layout.specs.Heading.{isDense, isSparse, lawful}
+use Rattle.layout.proofs.Lawful.{is-lawful}
+use Rattle.layout.proofs.Sorted.{levels-fall, packed-rows}
+use Rattle.layout.proofs.Places.{size-working, size-loaded, working-inside, working-behind, working-apart, loaded-inside}
+use Rattle.working_blocks.specs.Rows.{rowsOf}
+
+-- one of two runs of doubles ends before the other starts
+abbrev pub Apart : (off size a size′ : ℕ) → Type 0
+Apart off size a size′ = (off + size ≤ a) ⊎ (a + size′ ≤ off)
+
+false-true : false ≡ true → ⊥
+false-true e = let z : _≡_ {A = ℕ} 0 1 = cc in omega arith
+
+module _ (y : Layout) where
+  -- ---- rows
+
+  -- block k has one row more than there are fixed effects
+  pub rows-last : (i : ℕ) → i ≡ y .k → rowsOf y i ≡ y .p + 1
+  rows-last i e = rw (eq-eqb i (y .k) e) refl
+
+  -- any other block has its levels
+  pub rows-level : (i : ℕ) → i < y .k → rowsOf y i ≡ levels y i
+  rows-level i h = rw (ne-eqb i (y .k) (λ e. omega arith)) refl
+
+  -- ---- shapes
+
+  module _ (row : ℕ → ℕ) where
+    -- the first factor is a diagonal
+    pub first-shape : 0 < y .k → shape y row 0 0 ≡ diagonal (rowsOf y 0)
+    unfolding shape
+    first-shape h = rw (ne-eqb 0 (y .k) (λ e. omega arith)) refl
+
+    -- so is the second where block 1 is diagonal
+    pub second-shape : 1 < y .k → y .diagonal ≡ true → shape y row 1 1 ≡ diagonal (rowsOf y 1)
+    unfolding shape
+    second-shape h d = rw (ne-eqb 1 (y .k) (λ e. omega arith), d) refl
+
+    -- any other factor is a triangle
+    pub triangle-shape : (j : ℕ) → 0 < j → j < y .k → (y .diagonal && eqb j 1) ≡ false → shape y row j j ≡ packed (rowsOf y j)
+    unfolding shape
+    triangle-shape j h g d = rw (ne-eqb j (y .k) (λ e. omega arith), eq-eqb j j refl, ne-eqb j 0 (λ e. omega arith), d) refl
+
+    -- and so is the last block
+    pub last-shape : (i j : ℕ) → i ≡ y .k → j ≡ y .k → shape y row i j ≡ packed (rowsOf y i)
+    unfolding shape
+    last-shape i j e f = rw (eq-eqb i (y .k) e, eq-eqb j (y .k) f) refl
+
+    -- a pair is sparse
+    pub sparse-shape : (i j : ℕ) → j < i → i < y .k → y .sparse ≡ true → shape y row i j ≡ entries (rowsOf y 0) row
+    unfolding shape
+    sparse-shape i j h g s = rw (ne-eqb i (y .k) (λ e. omega arith), ne-eqb i j (λ e. omega arith), ne-eqb 0 (y .k) (λ e. omega arith), s) refl
+
+    -- or dense; the fixed rows always are
+    pub dense-shape : (i j : ℕ) → j < i → i ≤ y .k → (i ≡ y .k) ⊎ (y .sparse ≡ false) → shape y row i j ≡ columns (rowsOf y i) (rowsOf y j)
+    unfolding shape
+    dense-shape i j h g why =
+        by-cases (decLt i (y .k))
+        (λ l. ⊎-elim (λ e. absurd (omega arith))
+        (λ s. rw (ne-eqb i (y .k) (λ e. omega arith), ne-eqb i j (λ e. omega arith), ne-eqb j (y .k) (λ e. omega arith), s) refl) why)
+        (λ l. rw (eq-eqb i (y .k) (omega arith), ne-eqb j (y .k) (λ e. omega arith)) refl)
+
+    -- a pair is loaded as it works
+    pub loaded-pair : (i j : ℕ) → j < i → loadedShape y row i j ≡ shape y row i j
+    unfolding loadedShape
+    loaded-pair i j h = rw (ne-eqb i j (λ e. omega arith)) refl
+
+  -- ---- places
+
+  module _ (row : ℕ → ℕ) (doubles : ℕ) (room : doublesNeeded y ≤ doubles) (i j : ℕ) (h : j ≤ i) (g : i ≤ y .k) (s : Shape) (e : shape y row i j ≡ s) where
+    size-is : sizes y i j ≡ sizeOf s
+    size-is = sym (size-working y row i j) ∙ ap sizeOf e
+
+    -- a working block lies inside the doubles
+    pub block-inside : workingAt y i j + sizeOf s ≤ doubles
+    block-inside = omega (arith, working-inside y i j h g, size-is)
+
+    -- and apart from any other
+    pub block-apart : (i′ j′ : ℕ) → j′ ≤ i′ → i′ ≤ y .k → (i ≡ i′ → j ≡ j′ → ⊥) → (s′ : Shape) → shape y row i′ j′ ≡ s′
+        → Apart (workingAt y i j) (sizeOf s) (workingAt y i′ j′) (sizeOf s′)
+    block-apart i′ j′ h′ g′ other s′ e′ =
+        let q : sizes y i′ j′ ≡ sizeOf s′ = sym (size-working y row i′ j′) ∙ ap sizeOf e′ in
+        ⊎-elim (λ a. inl (omega (arith, size-is))) (λ a. inr (omega arith)) (working-apart y i j h g i′ j′ h′ g′ other)
+
+    -- and behind every loaded one
+    pub block-behind : (i′ j′ : ℕ) → j′ ≤ i′ → i′ ≤ y .k → (s′ : Shape) → loadedShape y row i′ j′ ≡ s′ → loadedAt y i′ j′ + sizeOf s′ ≤ workingAt y i j
+    block-behind i′ j′ h′ g′ s′ e′ =
+        let q : loadedSizes y i′ j′ ≡ sizeOf s′ = sym (size-loaded y row i′ j′) ∙ ap sizeOf e′ in
+        omega (arith, loaded-inside y i′ j′ h′ g′, working-behind y i j h g)
+
+    -- a loaded block lies inside the doubles too
+    pub loaded-room : (i′ j′ : ℕ) → j′ ≤ i′ → i′ ≤ y .k → (s′ : Shape) → loadedShape y row i′ j′ ≡ s′ → loadedAt y i′ j′ + sizeOf s′ ≤ doubles
+    loaded-room i′ j′ h′ g′ s′ e′ = omega (arith, block-behind i′ j′ h′ g′ s′ e′, block-inside)
+
+  -- ---- limits
+
+  module _ (ok : lawful y ≡ true) where
+    -- a sparse pair is the one of blocks 1 and 0, and block 1 is diagonal
+    pub sparse-two : y .sparse ≡ true → (y .diagonal ≡ true) × (y .k ≡ 2)
+    sparse-two s = is-lawful y ok .sparse s
+
+    -- a triangle's pairs are dense
+    pub triangle-dense : (j : ℕ) → 0 < j → j < y .k → (y .diagonal && eqb j 1) ≡ false → y .sparse ≡ false
+    triangle-dense j h g d = step (y .sparse) refl
+      where
+        step : (b : Bool) → y .sparse ≡ b → b ≡ false
+        step true e =
+            let t = sparse-two e in
+            let one : j ≡ 1 = omega (arith, t .1) in
+            sym (ap₂ (λ (a : Bool) (n : ℕ). a && eqb n 1) (t .0) one) ∙ d
+        step false e = refl
+
+    -- a triangle has at most 316 rows
+    pub rows-limit : (i : ℕ) → 0 < i → i ≤ y .k → (i ≡ y .k) ⊎ ((y .diagonal && eqb i 1) ≡ false) → rowsOf y i ≤ 316
+    rows-limit i h g why =
+        by-cases (decLt i (y .k))
+        (λ l. ⊎-elim (λ e. absurd (omega arith)) (λ d. omega (arith, rows-level i l, packed-rows y ok i h l d)) why)
+        (λ l. omega (arith, rows-last i (omega arith), is-lawful y ok .effects .1))
+
+    -- and so has a diagonal block 1 whose pair is dense
+    pub second-limit : 1 < y .k → y .sparse ≡ false → rowsOf y 1 ≤ 316
+    unfolding pairOf
+    second-limit h s =
+        let m = levels y 1 in
+        let n = levels y 0 in
+        omega (
+          arith,
+          rows-level 1 h,
+          below-root m n (levels-fall y ok 0 1 (omega arith) h)
+              (leb-true (m * n) 100000
+              (dense-only (leb (m * n) 100000) (ltb 2 (y .k)) (y .diagonal && thin n (m * n)) (second (y .sparse) (isSparse pair) (isDense pair) s (is-lawful y ok .pair 1 0 h (omega arith))))),
+        )
+      where
+        pair : Pair
+        pair = pairOf (y .k) (levels y 1) (levels y 0) (y .diagonal) (levels y 0)
+
+        second : (t a b : Bool) → t ≡ false → cond t a b ≡ true → b ≡ true
+        second true a b e p = absurd (false-true (sym e))
+        second false a b e p = p
+
+        dense-only : (a b c : Bool) → isDense (cond a Dense (cond b (Refused 10) (cond c Sparse (Refused 11)))) ≡ true → a ≡ true
+        dense-only true b c e = refl
+        dense-only false true c e = e
+        dense-only false false true e = e
+        dense-only false false false e = e
+
+        below-root : (a b : ℕ) → a ≤ b → a * b ≤ 100000 → a ≤ 316
+        below-root a b l p =
+            by-cases (decLt 316 a) (λ q. let big : 317 ≤ a = omega arith in absurd (omega (arith, mul-le-mul big (le-trans big l)))) (λ q. omega arith)

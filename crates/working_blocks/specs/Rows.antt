@@ -1,0 +1,9 @@
+-- The rows of each block of a layout (document 01, Record 2).
+use Prim.Native.Nat.{ℕ, _+_}
+use lib.Dec.{eqb}
+use Rattle.layout.specs.declared.Layout.{Layout}
+use Rattle.layout.specs.Shapes.{pick, levels}
+
+-- the rows of block i: the levels of factor i, and one more than the fixed effects for block k, whose last row is the response
+abbrev pub rowsOf : Layout → ℕ → ℕ
+rowsOf y i = pick (eqb i (y .k)) (y .p + 1) (levels y i)

@@ -1,0 +1,19 @@
+// What the steps ask of the working blocks of a workspace: how many rows each has. Its shape, its limits and its place are in proofs/Shapes.antt.
+use layout::Layout;
+ghost use mathlib.Core.Path.{_≡_};
+ghost use mathlib.Core.Bool.{true};
+ghost use Prim.Native.Nat.{_≤_};
+ghost use Rattle.layout.specs.Heading.{lawful};
+ghost use Rattle.working_blocks.specs.Rows.{rowsOf};
+
+// The rows of block i.
+pub fn rows_of(y: Layout, i: u64) -> usize
+    requires { ⌜ (lawful y ≡ true) × (i ≤ y .k) ⌝ }
+    ensures { λ r. ⌜ r ≡ rowsOf y i ⌝ }
+{
+    if i == y.k {
+        return y.p as usize + 1;
+    }
+    let t = i as usize;
+    y.m[t] as usize
+}
