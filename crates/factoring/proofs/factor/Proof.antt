@@ -1,0 +1,78 @@
+-- `factoring::factor`: the block, then the logarithms unless a pivot is refused.
+use native.Mathlib.Omega.{arith}
+use Rattle.factoring.proofs.Laws.{lawful-now, block-fits, still-fits, refused-left, accepted-left}
+use borrow.Author.Needs.{needs}
+use Rattle.factoring.proofs.factor.Statement.{statement}
+use Rattle.factoring.proofs.factor.Tie as tie
+use Rattle.factoring.proofs.factor.Reads as reads
+use Rattle.factoring.proofs.factor.Lts as lts
+use Rattle.factoring.proofs.add_logs.Reads as add-logs-reads
+use Rattle.factoring.proofs.factor_block.Reads as factor-block-reads
+use Rattle.factoring.proofs.form_of.Reads as form-of-reads
+use Rattle.places.proofs.working_at.Reads as working-at-reads
+
+working-at-requires : tie.Need-working-at-requires
+working-at-requires c κs =
+    let s = c .before .before in
+    let a = s .args in
+    (lawful-now (a .h .now) (a .w .now) (a .y) (s .pre .0) (s .pre .1) (a .j) (s .pre .2), omega arith, s .pre .2)
+
+form-of-requires : tie.Need-form-of-requires
+form-of-requires c κs =
+    let s = c .before .before .before in
+    let a = s .args in
+    (lawful-now (a .h .now) (a .w .now) (a .y) (s .pre .0) (s .pre .1) (a .j) (s .pre .2), s .pre .2)
+
+factor-block-requires : tie.Need-factor-block-requires
+factor-block-requires c κs =
+    let s = c .before .before .before .before .before in
+    let a = s .args in
+    let f = c .before .form-of in
+    (block-fits (a .h .now) (a .w .now) (a .y) (s .pre .0) (s .pre .1) (a .j) (s .pre .2) _ (c .before .before .working-at .ensures) _ _ (f .ensures), f .ensures .1)
+
+enum-known-p : tie.Need-enum-known-p
+enum-known-p c = search needs
+
+enum-told : tie.Need-enum-told
+enum-told c = search needs
+
+add-logs-requires : tie.Need-add-logs-requires
+add-logs-requires c κs =
+    let s = c .before .before .before .before .before .before .before .before .before .before .before in
+    let a = s .args in
+    let f = c .before .before .before .before .before .before .before .form-of in
+    let k = still-fits (a .h .now) (a .w .now) (a .y) (s .pre .0) (s .pre .1) (a .j) (s .pre .2) _ (c .before .before .before .before .before .before .before .before .working-at .ensures) _ _ (f .ensures) _ _ (c .before .before .before .before .before .factor-block .ensures) in
+    (lawful-now (a .h .now) (a .w .now) (a .y) (s .pre .0) (s .pre .1) (a .j) (s .pre .2), k .0, k .1, f .ensures .1, f .ensures .2)
+
+same-length : tie.Need-same-length
+same-length c = search needs
+
+returns : tie.Need-returns
+returns c =
+    let s = c .before .before .before .before .before .before .before .before .before .before .before in
+    let a = s .args in
+    refused-left (a .h .now) (a .w .now) (a .y) (s .pre .0) (s .pre .1) (a .j) (s .pre .2) _ (c .before .before .before .before .before .before .before .before .working-at .ensures) _ _ (c .before .before .before .before .before .before .before .form-of .ensures) _ _ (c .before .before .before .before .before .factor-block .ensures) _ (c .before .p .given .1)
+
+same-length-2 : tie.Need-same-length-2
+same-length-2 c = search needs
+
+returns-2 : tie.Need-returns-2
+returns-2 c =
+    let s = c .before .before .before .before .before .before .before .before .before .before .before .before .before .before in
+    let a = s .args in
+    accepted-left (a .h .now) (a .w .now) (a .y) (s .pre .0) (s .pre .1) (a .j) (s .pre .2) _ (c .before .before .before .before .before .before .before .before .before .before .before .working-at .ensures) _ _ (c .before .before .before .before .before .before .before .before .before .before .form-of .ensures) _ _ (c .before .before .before .before .before .before .before .before .factor-block .ensures) (c .before .before .before .before .enum-told .given .1) _ (c .before .before .add-logs .ensures)
+
+pub factor-spec : {M : Type 1} → statement M
+factor-spec =
+    tie.close
+    (tie.spec
+    working-at-requires
+    form-of-requires
+    factor-block-requires
+    enum-known-p
+    enum-told
+    add-logs-requires
+    same-length
+    returns
+    same-length-2
+    returns-2)

@@ -1,0 +1,94 @@
+-- What the looks answer, refusal by refusal.
+use Prim.Native.Nat.{ℕ, _≤_, _<_}
+use mathlib.Core.Path.{_≡_, refl, sym, ap, _∙_}
+use mathlib.Core.Bool.{Bool, true, false, not, _&&_, _||_}
+use mathlib.Core.List.{List}
+use native.Mathlib.Omega.{arith}
+use lib.Dec.{ltb, leb}
+use lib.ListN.{length, getD}
+use lib.Ieee.{Float}
+use borrow.Author.Tests.{le-leb, lt-leb, lt-ltb, le-ltb}
+use Rattle.storage.specs.Shape.{Shape, sizeOf}
+use Rattle.storage.specs.Part.{part}
+use Rattle.refusal.specs.declared.Refusal.{Refusal}
+use Rattle.refusal.specs.Numbers.{refusal}
+use Rattle.layout.specs.declared.Layout.{Layout}
+use Rattle.layout.specs.declared.Progress.{Progress}
+use Rattle.layout.specs.Shapes.{pick, levels, shape, workingAt, numbersNeeded, doublesNeeded}
+use Rattle.layout.specs.Heading.{layoutOf, progressOf, entryRow, every, lawful, progressLawful, headed}
+use Rattle.workspace.specs.Memory.{cellOf, workingBlock}
+use Rattle.profile.specs.Deviance.{isFinished, logDeterminant}
+use Rattle.places.proofs.Sizes.{doubles-small}
+use Rattle.deviance.specs.Tail.{logDeterminantOf}
+use Rattle.views.specs.declared.Left.{Left}
+use Rattle.views.specs.declared.Left.the-variants.{Steps, Refused as Denied}
+use Rattle.views.specs.declared.Look.{Look}
+use Rattle.views.specs.declared.Look.the-variants.{Value, Absent, Refused}
+use Rattle.views.specs.Pivots.{rowsOf, isPivot, pivotShape, pivotAt, pivotLook}
+use Rattle.views.specs.Views.{stepsLeftOf, finishedLook, determinantOf, pivotOf}
+use Rattle.views.proofs.Places.{shape-is}
+
+-- ---- 20 by the heading alone: more doubles than any workspace has are as good as those that it needs
+enough : (a b c d e f g x z i : Bool) → (e ≡ true → x ≡ z) → (a && b && c && d && e && f && g && x && i) ≡ (a && b && c && d && e && f && g && z && i)
+enough a b c d true f g x z i h = rw (h refl) refl
+enough a b c d false f g x z i h = go (a && b && c && d)
+  where
+    go : (l : Bool) → (l && false && f && g && x && i) ≡ (l && false && f && g && z && i)
+    go true = refl
+    go false = refl
+
+pub headed-alone : (h : List ℕ) → headed h 2199023255552 ≡ headed h (doublesNeeded (layoutOf h))
+unfolding headed
+headed-alone h =
+    let y : Layout = layoutOf h in
+    enough (leb 128 (length h)) (leb (getD h 20 0) 1) (leb (getD h 21 0) 1) (leb (getD h 22 0) 2) (lawful y) (progressLawful (y .k) (progressOf h))
+    (leb (numbersNeeded y) (length h)) (leb (doublesNeeded y) 2199023255552) (leb (doublesNeeded y) (doublesNeeded y))
+    (not (y .sparse) || every (λ c. ltb (entryRow h c) (levels y 1)) (levels y 0))
+    (λ ok. le-leb (doublesNeeded y) 2199023255552 (omega (arith, doubles-small y ok)) ∙ sym (le-leb (doublesNeeded y) (doublesNeeded y) (omega arith)))
+
+module _ (h : List ℕ) (b : Bool) (is-b : b ≡ headed h 2199023255552) where
+  pub no-heading : b ≡ false → (f : Refusal) → f ≡ refusal 20 0 0 → Denied f ≡ stepsLeftOf h
+  unfolding stepsLeftOf
+  no-heading e f q = rw (← headed-alone h, ← is-b, e, q) refl
+
+  pub steps : b ≡ true → (g : Progress) → g ≡ progressOf h → Steps (g .left) ≡ stepsLeftOf h
+  unfolding stepsLeftOf
+  steps e g q = rw (← headed-alone h, ← is-b, e, q) refl
+
+-- ---- a finished factor
+module _ (h : List ℕ) (w : List Float) (v : Look) (b : Bool) (is-b : b ≡ headed h (length w)) where
+  pub not-headed : b ≡ false → (f : Refusal) → f ≡ refusal 20 0 0 → Refused f ≡ finishedLook h w v
+  unfolding finishedLook
+  not-headed e f q = rw (← is-b, e, q) refl
+
+  module _ (ok : b ≡ true) (c : Bool) (is-c : c ≡ isFinished (progressOf h .state)) where
+    pub not-finished : c ≡ false → (f : Refusal) → f ≡ refusal 25 0 0 → Refused f ≡ finishedLook h w v
+    unfolding finishedLook
+    not-finished e f q = rw (← is-b, ok, ← is-c, e, q) refl
+
+    pub finished : c ≡ true → (r : Look) → r ≡ v → r ≡ finishedLook h w v
+    unfolding finishedLook
+    finished e r q = rw (← is-b, ok, ← is-c, e) q
+
+-- ---- what is looked at
+pub determinant : (h : List ℕ) (w : List Float) (y : Layout) (x : Float) → y ≡ layoutOf h → x ≡ logDeterminantOf y w → Value x ≡ Value (logDeterminant h w)
+determinant h w y x e q = ap Value (q ∙ ap (λ (z : Layout). logDeterminantOf z w) e)
+
+-- the pivot by the layout is the pivot of the workspace
+pub pivot-same : (h : List ℕ) (w : List Float) (j r : ℕ) (y : Layout) (v : Look) → y ≡ layoutOf h → v ≡ pivotLook y w j r
+    → v ≡ pick (isPivot (layoutOf h) j r) (Value (cellOf (shape (layoutOf h) (entryRow h) j j) (workingBlock h w j j) r r)) Absent
+unfolding pivotAt
+pivot-same h w j r y v e q =
+    q ∙ ap (λ (z : Layout). pivotLook z w j r) e
+    ∙ ap (λ (s : Shape). pick (isPivot (layoutOf h) j r) (Value (cellOf s (part (workingAt (layoutOf h) j j) (sizeOf s) w) r r)) Absent) (sym (shape-is (layoutOf h) (entryRow h) j))
+
+module _ (y : Layout) (w : List Float) (j r : ℕ) where
+  pub no-block : y .k < j → Absent ≡ pivotLook y w j r
+  no-block h = rw (lt-leb j (y .k) h) refl
+
+  module _ (there : j ≤ y .k) (n : ℕ) (is-n : n ≡ rowsOf y j) where
+    pub no-row : n ≤ r → Absent ≡ pivotLook y w j r
+    no-row h = rw (le-leb j (y .k) there, le-ltb r (rowsOf y j) (omega arith)) refl
+
+    pub a-pivot : r < n → (v : Float) → v ≡ pivotAt y w j r → Value v ≡ pivotLook y w j r
+    a-pivot h v e = rw (le-leb j (y .k) there, lt-ltb r (rowsOf y j) (omega arith)) (ap Value e)

@@ -1,0 +1,26 @@
+-- `views::has_factor`: by the state that the heading tells.
+use mathlib.Core.Path.{ap, _∙_}
+use Rattle.layout.specs.declared.Progress.{Progress}
+use Rattle.profile.specs.Deviance.{isFinished}
+use borrow.Author.Needs.{needs}
+use Rattle.views.proofs.has_factor.Statement.{statement}
+use Rattle.views.proofs.has_factor.Tie as tie
+use Rattle.views.proofs.has_factor.Reads as reads
+use Rattle.views.proofs.has_factor.Lts as lts
+use Rattle.deviance.proofs.is_finished.Reads as is-finished-reads
+use Rattle.heading.proofs.progress.Reads as progress-reads
+
+-- src/lib.rt:49:9
+progress-requires : tie.Need-progress-requires
+progress-requires c κs = search needs
+
+-- src/lib.rt:51:5
+is-finished-requires : tie.Need-is-finished-requires
+is-finished-requires c κs = search needs
+
+-- src/lib.rt:45:1
+returns : tie.Need-returns
+returns c = c .is-finished .ensures ∙ ap (λ (g : Progress). isFinished (g .state)) (c .before .progress .ensures)
+
+pub has-factor-spec : {M : Type 1} → statement M
+has-factor-spec = tie.close (tie.spec progress-requires is-finished-requires returns)

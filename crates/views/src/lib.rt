@@ -1,0 +1,125 @@
+// What a caller may look at in a workspace: the steps left, the log determinant and the pivots (document 01, Record 5 and "Worked sheets"), with the
+// refusals 20 and 25. What each answers is defined in specs/Views.antt.
+use deviance::is_finished;
+use deviance::refused;
+use layout::Layout;
+use refusal::Refusal;
+ghost use mathlib.Core.Path.{_≡_};
+ghost use mathlib.Core.Bool.{true};
+ghost use Prim.Native.Nat.{_<_, _≤_};
+ghost use lib.ListN.{length};
+ghost use Rattle.layout.specs.Shapes.{doublesNeeded};
+ghost use Rattle.layout.specs.Heading.{progressOf, lawful};
+ghost use Rattle.profile.specs.Deviance.{isFinished};
+ghost use Rattle.views.specs.Pivots.{rowsOf, pivotIn, pivotAt, pivotLook};
+ghost use Rattle.views.specs.Views.{stepsLeftOf, determinantOf, pivotOf};
+
+// The steps left, or 20.
+pub enum Left {
+    Steps(u64),
+    Refused(Refusal),
+}
+
+// A double, or that there is none of that name, or 20 or 25.
+pub enum Look {
+    Value(f64),
+    Absent,
+    Refused(Refusal),
+}
+
+// More doubles than any workspace has.
+const LARGE: usize = 2199023255552;
+
+// How many steps are left; 20 by the heading alone.
+pub fn steps_left(h: &[u32]) -> Left
+    ensures { λ r. ⌜ r ≡ stepsLeftOf (now (h .entry)) ⌝ }
+{
+    if headed::is_headed(h, LARGE) {
+        let g = heading::progress(h);
+        return Left::Steps(g.left);
+    }
+    Left::Refused(refused(20))
+}
+
+// Whether the factor of a workspace is finished.
+fn has_factor(h: &[u32]) -> bool
+    requires { ⌜ 128 ≤ length (now h) ⌝ }
+    ensures { λ r. ⌜ r ≡ isFinished (progressOf (now (h .entry)) .state) ⌝ }
+{
+    let g = heading::progress(h);
+    let state = g.state;
+    is_finished(state)
+}
+
+// The log determinant of a finished factor: 20, 25.
+pub fn log_determinant(h: &[u32], w: &[f64]) -> Look
+    ensures { λ r. ⌜ r ≡ determinantOf (now (h .entry)) (now (w .entry)) ⌝ }
+{
+    if headed::is_headed(h, w.len()) {
+        if has_factor(h) {
+            return Look::Value(deviance::log_determinant(heading::layout(h), w));
+        }
+        return Look::Refused(refused(25));
+    }
+    Look::Refused(refused(20))
+}
+
+// How many rows block j has.
+fn rows(y: Layout, j: u64) -> u64
+    requires { ⌜ (lawful y ≡ true) × (j ≤ y .k) ⌝ }
+    ensures { λ r. ⌜ r ≡ rowsOf y j ⌝ }
+{
+    if j == y.k {
+        return y.p + 1;
+    }
+    lawful::level(y, j)
+}
+
+// Where pivot r lies in its block: in a diagonal at r, in a triangle at the end of row r.
+fn pivot_place(y: Layout, j: u64, r: u64) -> usize
+    requires { ⌜ (lawful y ≡ true) × (j ≤ y .k) × (r < rowsOf y j) ⌝ }
+    ensures { λ v. ⌜ v ≡ pivotIn y j r ⌝ }
+{
+    let t = r as usize;
+    if j == y.k {
+        return re_lower::row_start(t) + t;
+    }
+    if (j == 0) | (y.diagonal & (j == 1)) {
+        return t;
+    }
+    re_lower::row_start(t) + t
+}
+
+// Pivot r of block j.
+fn read_pivot(y: Layout, w: &[f64], j: u64, r: u64) -> f64
+    requires { ⌜ (lawful y ≡ true) × (doublesNeeded y ≤ length (now w)) × (j ≤ y .k) × (r < rowsOf y j) ⌝ }
+    ensures { λ v. ⌜ v ≡ pivotAt y (now (w .entry)) j r ⌝ }
+{
+    w[places::working_at(y, j, j) + pivot_place(y, j, r)]
+}
+
+// Pivot r of block j where there is one.
+fn pivot_or_absent(y: Layout, w: &[f64], j: u64, r: u64) -> Look
+    requires { ⌜ (lawful y ≡ true) × (doublesNeeded y ≤ length (now w)) ⌝ }
+    ensures { λ v. ⌜ v ≡ pivotLook y (now (w .entry)) j r ⌝ }
+{
+    if j <= y.k {
+        if r < rows(y, j) {
+            return Look::Value(read_pivot(y, w, j, r));
+        }
+    }
+    Look::Absent
+}
+
+// Pivot `row` of block `block` of a finished factor: 20, 25. Any numbers may be asked for.
+pub fn pivot(h: &[u32], w: &[f64], block: u64, row: u64) -> Look
+    ensures { λ r. ⌜ r ≡ pivotOf (now (h .entry)) (now (w .entry)) block row ⌝ }
+{
+    if headed::is_headed(h, w.len()) {
+        if has_factor(h) {
+            return pivot_or_absent(heading::layout(h), w, block, row);
+        }
+        return Look::Refused(refused(25));
+    }
+    Look::Refused(refused(20))
+}
