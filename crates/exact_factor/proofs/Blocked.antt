@@ -10,7 +10,7 @@ use borrow.Author.Tests.{lt-ltb, eq-eqb, ne-eqb}
 use Rattle.order.specs.Elimination.{Rules, orElse, inBlock, column, value, final, refusedBefore, refusedAt}
 use Rattle.order.proofs.Invariant.{finished}
 use Rattle.rules.specs.Arithmetic.{Arithmetic}
-use Rattle.rules.specs.Sums.{dot}
+use Rattle.rules.specs.Sums.{sumFrom, dot}
 use Rattle.rules.specs.Cholesky.{at, forward, factor, radicand, pivots}
 use Rattle.rules.specs.Exact.{Exact}
 use Rattle.rules.proofs.Exact.{forward-solves, factor-factors, pivot-not-null}
@@ -92,3 +92,12 @@ module _ (A : Arithmetic) (X : Exact A) (m : ℕ → ℕ) (start : ℕ → ℕ �
             same e =
                 subst (λ (x : ℕ). dot A (final (blockRules A m) start x j r) (final (blockRules A m) start j j c) (suc c) ≡ value (blockRules A m) start j x j r c)
                 (sym e) (diagonal-left j r c (omega arith) (lower e) (subst (λ (x : ℕ). r < m x) e hr))
+
+    -- Record 6's r2, the square of the last pivot, is what the squares of the last row left of it leave of y'y: the paper's penalised residual sum of squares
+    pub residual-square :
+        (p : ℕ) → p < m k
+        → A .plus (products A m (final (blockRules A m) start) k k k p p)
+        (A .plus (dot A (final (blockRules A m) start k k p) (final (blockRules A m) start k k p) p) (A .times (final (blockRules A m) start k k p p) (final (blockRules A m) start k k p p)))
+        ≡ start k k p p
+    unfolding sumFrom
+    residual-square p b = blocks-factor k k p p (omega arith) (omega arith) b b (λ e. omega arith)

@@ -1,0 +1,81 @@
+-- `in_order::column`: the diagonal target, and those below it.
+use Prim.Native.Nat.{suc, _+_, _-_}
+use mathlib.Core.Path.{_≡_, refl, sym, _∙_}
+use mathlib.Core.List.{[], _∷_, _++_}
+use native.Mathlib.Omega.{arith}
+use lib.ListN.{length}
+use Rattle.order.specs.Steps.{S, C, T, each, subtractions, columnSteps, rustOrder}
+use Rattle.workspace.specs.Answers.{space}
+use Rattle.update.specs.Names.{stepOfName}
+use Rattle.in_order.proofs.Runs.{ran-stop, ran-more, turn}
+use Rattle.in_order.proofs.Turns.{prefix}
+use borrow.Author.Needs.{needs}
+use Rattle.in_order.proofs.column.Statement.{statement}
+use Rattle.in_order.proofs.column.Tie as tie
+use Rattle.in_order.proofs.column.Reads as reads
+use Rattle.in_order.proofs.column.Lts as lts
+use Rattle.in_order.proofs.subtract_all.Reads as subtract-all-reads
+use Rattle.in_order.proofs.is_refused.Reads as is-refused-reads
+use Rattle.in_order.proofs.take.Reads as take-reads
+use Rattle.in_order.proofs.below.Reads as below-reads
+
+subtract-all-requires : tie.Need-subtract-all-requires
+subtract-all-requires c κs = let s = c .before .before .before .before in (search needs, prefix (space (s .args .h .now) (s .args .w .now)) (subtractions (s .args .j) (s .args .j)) (C (s .args .j) ∷ []) (prefix (space (s .args .h .now) (s .args .w .now)) (subtractions (s .args .j) (s .args .j) ++ (C (s .args .j) ∷ [])) (each (λ z. subtractions z (s .args .j) ++ (T z (s .args .j) ∷ [])) (suc (s .args .j)) (s .args .k - s .args .j)) (s .pre .2)))
+
+is-refused-requires : tie.Need-is-refused-requires
+is-refused-requires c κs = search needs
+
+same-length : tie.Need-same-length
+same-length c = search needs
+
+same-length-2 : tie.Need-same-length-2
+same-length-2 c = search needs
+
+returns : tie.Need-returns
+returns c = let s = c .before .before .before .before .before .before .before .before .before .before .before in ran-stop (each (λ z. subtractions z (s .args .j) ++ (T z (s .args .j) ∷ [])) (suc (s .args .j)) (s .args .k - s .args .j)) (ran-stop (C (s .args .j) ∷ []) (c .before .before .before .before .before .before .subtract-all .ensures) (sym (c .before .is-refused .ensures) ∙ c .if1 .taken)) (sym (c .before .is-refused .ensures) ∙ c .if1 .taken)
+
+take-requires : tie.Need-take-requires
+take-requires c κs = let s = c .before .before .before .before .before .before .before .before .before .before .before .before .before in turn (C (s .args .j) ∷ []) (c .before .before .before .before .before .before .before .before .subtract-all .ensures) (sym (c .before .before .before .is-refused .ensures) ∙ c .before .before .if1 .left) (prefix (space (s .args .h .now) (s .args .w .now)) (subtractions (s .args .j) (s .args .j) ++ (C (s .args .j) ∷ [])) (each (λ z. subtractions z (s .args .j) ++ (T z (s .args .j) ∷ [])) (suc (s .args .j)) (s .args .k - s .args .j)) (s .pre .2))
+
+is-refused-requires-2 : tie.Need-is-refused-requires-2
+is-refused-requires-2 c κs = search needs
+
+same-length-3 : tie.Need-same-length-3
+same-length-3 c = search needs
+
+same-length-4 : tie.Need-same-length-4
+same-length-4 c = search needs
+
+returns-2 : tie.Need-returns-2
+returns-2 c = let s = c .before .before .before .before .before .before .before .before .before .before .before .before .before .before .before .before .before .before .before .before in ran-stop (each (λ z. subtractions z (s .args .j) ++ (T z (s .args .j) ∷ [])) (suc (s .args .j)) (s .args .k - s .args .j)) (ran-more (C (s .args .j) ∷ []) (c .before .before .before .before .before .before .before .before .before .before .before .before .before .before .before .subtract-all .ensures) (sym (c .before .before .before .before .before .before .before .before .before .before .is-refused .ensures) ∙ c .before .before .before .before .before .before .before .before .before .if1 .left) (c .before .before .before .before .before .before .take .ensures)) (sym (c .before .is-refused2 .ensures) ∙ c .if2 .taken)
+
+below-requires : tie.Need-below-requires
+below-requires c κs = let s = c .before .before .before .before .before .before .before .before .before .before .before .before .before .before .before .before .before .before .before .before .before .before in (s .pre .0, s .pre .1, turn (each (λ z. subtractions z (s .args .j) ++ (T z (s .args .j) ∷ [])) (suc (s .args .j)) (s .args .k - s .args .j)) (ran-more (C (s .args .j) ∷ []) (c .before .before .before .before .before .before .before .before .before .before .before .before .before .before .before .before .before .subtract-all .ensures) (sym (c .before .before .before .before .before .before .before .before .before .before .before .before .is-refused .ensures) ∙ c .before .before .before .before .before .before .before .before .before .before .before .if1 .left) (c .before .before .before .before .before .before .before .before .take .ensures)) (sym (c .before .before .before .is-refused2 .ensures) ∙ c .before .before .if2 .left) (s .pre .2))
+
+same-length-5 : tie.Need-same-length-5
+same-length-5 c = search needs
+
+same-length-6 : tie.Need-same-length-6
+same-length-6 c = search needs
+
+returns-3 : tie.Need-returns-3
+returns-3 c = let s = c .before .before .before .before .before .before .before .before .before .before .before .before .before .before .before .before .before .before .before .before .before .before .before .before .before .before .before in ran-more (each (λ z. subtractions z (s .args .j) ++ (T z (s .args .j) ∷ [])) (suc (s .args .j)) (s .args .k - s .args .j)) (ran-more (C (s .args .j) ∷ []) (c .before .before .before .before .before .before .before .before .before .before .before .before .before .before .before .before .before .before .before .before .before .before .subtract-all .ensures) (sym (c .before .before .before .before .before .before .before .before .before .before .before .before .before .before .before .before .before .is-refused .ensures) ∙ c .before .before .before .before .before .before .before .before .before .before .before .before .before .before .before .before .if1 .left) (c .before .before .before .before .before .before .before .before .before .before .before .before .before .take .ensures)) (sym (c .before .before .before .before .before .before .before .before .is-refused2 .ensures) ∙ c .before .before .before .before .before .before .before .if2 .left) (c .before .before .before .before .below .ensures)
+
+pub column-spec : {M : Type 1} → statement M
+column-spec =
+    tie.close
+    (tie.spec
+    subtract-all-requires
+    is-refused-requires
+    same-length
+    same-length-2
+    returns
+    take-requires
+    is-refused-requires-2
+    same-length-3
+    same-length-4
+    returns-2
+    below-requires
+    same-length-5
+    same-length-6
+    returns-3)
