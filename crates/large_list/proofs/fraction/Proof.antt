@@ -1,0 +1,22 @@
+use native.Mathlib.Omega.{arith}
+use Rattle.gate.proofs.Answers.{whole}
+use borrow.Author.Needs.{needs}
+use Rattle.large_list.proofs.fraction.Statement.{statement}
+use Rattle.large_list.proofs.fraction.Tie as tie
+use Rattle.large_list.proofs.fraction.Reads as reads
+use Rattle.large_list.proofs.fraction.Lts as lts
+
+-- src/lib.rt:33:6
+mul-result : tie.Need-mul-result
+mul-result c = search needs
+
+-- src/lib.rt:33:5
+int-to-float-result : tie.Need-int-to-float-result
+int-to-float-result c = whole _ (omega arith)
+
+-- src/lib.rt:32:1
+returns : tie.Need-returns
+returns c = search needs
+
+pub fraction-spec : {M : Type 1} → statement M
+fraction-spec = tie.close (tie.spec mul-result int-to-float-result returns)

@@ -1,0 +1,1136 @@
+#!/usr/bin/env python3
+"""Writes the test list of the calls: begin, step, replace_response, profile_deviance and deviance_from_factor.
+
+    call_list.py LIST STDOUT
+    call_list.py --pivots SHEET
+    call_list.py --original DRIVER
+    call_list.py --large STDOUT
+
+LIST gets the cases, and STDOUT what a program that checks them must write where every call agrees.  The second form prints the pivots, or
+the refusal, of a file with a sheet and its theta lines, as the program `factor` of document 01 does.  The third compares what is computed here
+with the driver of the Rust original: pivots, refused places and deviances of each sheet of the list with each theta that it tries.
+The last writes what the program large_calls must print, whose workspace is too large for a list: it follows a rule, and a sum over all words
+is compared in place of them.
+
+How the list is made.  The arithmetic below is written from document 01 alone (Records 4 to 6, the book of Record 5, both tables of
+refusals), one operation of a Python float, which is an IEEE double, at a time and in that document's orders.  It shares nothing with the
+proved code.  Where document 01 leaves the memory's order open, the layout is that of docs/DECISIONS.md, and sheet_list.py has the reading of
+a sheet and what load leaves.  The square root is math.sqrt, which rounds correctly; the logarithm is the whole-number definition of
+crates/logarithm/specs/Ln.antt, in Python's whole numbers.  Every NaN is the word 7ff8000000000000.  When an update is finished, the script
+holds the factor to the one that the Rust's order makes on a freshly loaded workspace.
+
+A case is a workspace and a list of calls on it, each given what the last left.  After each call the answer, every number of the heading and
+every double are compared, bit for bit.  The list tells what a call must change; all else must be as it was.
+
+The list is lines of 16 lower-case hexadecimal digits, a word each.  A case is
+
+    ca5e0000 and the case's number, which counts from 1
+     0       the sheet's bytes
+     1, 2    the lengths of heading and doubles
+     3       how many calls follow
+     4       how many words hold the sheet
+     5 to 19 0
+    then     the sheet's bytes, eight to a word, the first highest, noughts behind; the heading's numbers and the doubles that load must
+             leave, the pattern behind them included
+
+and a call is
+
+    ca5e0000 and the call's number, which counts from 1 in each case
+     0       what is called: 1 begin, 2 S, 3 C, 4 T, 5 replace_response, 6 profile_deviance, 7 deviance_from_factor; 0 nothing, numbers and
+             doubles are altered, as a stranger to the calls may
+     1 to 3  the numbers of the step's name; 1 at 1 for REML
+     4 to 6  the lengths of the lists: theta, or Z'y, X'y, y'y
+     7, 8    the lengths of heading and doubles that are lent
+     9       how the answer stands: 0 accepted, 1 refused, 2 a value, 3 a refused pivot of profile_deviance, 4 no scale
+    10 to 12 the refusal's number and places; 26, block and row of that pivot
+    13       the value's word
+    14       how many numbers of the heading it must leave other than they were
+    15       how many words tell the doubles that it must leave other than they were
+    16       how many words the lists have
+    17 to 19 0
+    then     the lists; the changed numbers, index and number in the halves of a word; the changed doubles, index and then word
+"""
+import math
+import os
+import random
+import struct
+import subprocess
+import sys
+
+sys.path.insert(0, os.path.dirname(os.path.abspath(__file__)))
+import sheet_list
+
+HEAD = 20
+NAN = 0x7FF8000000000000
+TWO_PI = struct.unpack(">d", bytes.fromhex("401921fb54442d18"))[0]
+BEGIN, SUBTRACT, FACTOR, SOLVE, RESPONSE, PROFILE, DEVIANCE = range(1, 8)
+ALTER = 0
+ACCEPTED, REFUSED, VALUE, PIVOT, NO_SCALE = range(5)
+
+
+def word(x):
+    return NAN if x != x else struct.unpack(">Q", struct.pack(">d", x))[0]
+
+
+def double(w):
+    return struct.unpack(">d", struct.pack(">Q", w))[0]
+
+
+# ---- the arithmetic that Python does not do as IEEE 754 does
+
+def divide(a, b):
+    if b != 0 or b != b:
+        return a / b
+    if a == 0 or a != a:
+        return math.nan
+    return math.copysign(math.inf, a) * math.copysign(1.0, b)
+
+
+def root(x):
+    return math.sqrt(x) if x >= 0 else math.nan
+
+
+LN2 = 3196577161300663914
+UNIT = 2 ** 62
+
+
+def horner(t, k, n):
+    return 0 if n == 0 else UNIT // (2 * k + 1) + horner(t, k + 1, n - 1) * t // UNIT
+
+
+def ln(x):
+    """Record 4: fixed by a whole-number definition."""
+    if x != x or x == math.inf:
+        return x
+    if x == 0:
+        return -math.inf
+    if x < 0:
+        return math.nan
+    w = word(x)
+    field, m = w >> 52, w % 2 ** 52
+    t = 0
+    if field:
+        m, t = m + 2 ** 52, field - 1
+    shift = 53 - m.bit_length()
+    m, t = m << shift, t + 52 - shift
+    # x = m * 2^t / 2^1126, and m / centre is from 3/4 to 3/2
+    low = m < 3 * 2 ** 51
+    centre, rise = (2 ** 52, t) if low else (2 ** 53, t + 1)
+    z = abs(m - centre) * UNIT // (m + centre)
+    series = 2 * (z * horner(z * z // UNIT, 0, 10) // UNIT)
+    total = (rise - 1074) * LN2 + (series if m >= centre else -series)
+    # the quotient of two whole numbers is rounded once, to the nearest double
+    return total / UNIT
+
+
+# ---- the steps (Records 4 and 5). A name is (kind, i, j, h) with 0 for what the kind has not.
+
+def subtraction(i, j, h):
+    return (SUBTRACT, i, j, h)
+
+
+def cholesky(j):
+    return (FACTOR, j, 0, 0)
+
+
+def solving(i, j):
+    return (SOLVE, i, j, 0)
+
+
+def is_step(k, s):
+    kind, i, j, h = s
+    if kind == SUBTRACT:
+        return h < j <= i <= k
+    if kind == FACTOR:
+        return i <= k
+    return j < i <= k
+
+
+def forerunners(s):
+    kind, i, j, h = s
+    if kind == SUBTRACT:
+        first = [subtraction(i, j, h - 1)] if h else []
+        return first + [solving(i, h)] + ([solving(j, h)] if j != i else [])
+    if kind == FACTOR:
+        return [subtraction(i, i, i - 1)] if i else []
+    return [cholesky(j)] + ([subtraction(i, j, j - 1)] if j else [])
+
+
+def rust_order(k):
+    out = []
+    for j in range(k + 1):
+        out += [subtraction(j, j, h) for h in range(j)] + [cholesky(j)]
+        for i in range(j + 1, k + 1):
+            out += [subtraction(i, j, h) for h in range(j)] + [solving(i, j)]
+    return out
+
+
+# ---- a workspace
+
+class Pivot(Exception):
+    def __init__(self, block, row):
+        super().__init__(block, row)
+        self.place = (block, row)
+
+
+class Workspace:
+    """The loaded numbers by block, the working ones by block, the progress. Blocks are dictionaries by (row, column)."""
+
+    def __init__(self, n, p, m, order, sparse, diagonal, rows):
+        self.n, self.p, self.k, self.m, self.order = n, p, len(m), m, order
+        self.q = sum(m)
+        self.sparse, self.diagonal, self.rows = sparse, diagonal, rows
+        self.loaded = {t: {c: 0.0 for c in self.cells(t, True)} for t in self.targets()}
+        self.clear()
+        self.done = None
+
+    def clear(self):
+        """What load and 26 leave of the working doubles."""
+        self.theta = [0.0] * self.k
+        self.working = {t: {c: 0.0 for c in self.cells(t, False)} for t in self.targets()}
+        self.sum = 0.0
+
+    # the layout
+    def targets(self):
+        k = self.k
+        return [(j, j) for j in range(k)] + [(i, j) for i in range(k) for j in range(i)] + [(k, j) for j in range(k)] + [(k, k)]
+
+    def is_diagonal(self, j):
+        return j == 0 or (j == 1 and self.k > 1 and self.diagonal)
+
+    def cells(self, t, loaded):
+        """The cells of a block as they lie in memory."""
+        i, j = t
+        if i == self.k:
+            rows = range(self.p + 1)
+            return [(r, c) for r in rows for c in range(r + 1)] if j == self.k else [(r, c) for c in range(self.m[j]) for r in rows]
+        if i == j:
+            if loaded or self.is_diagonal(j):
+                return [(r, r) for r in range(self.m[j])]
+            return [(r, c) for r in range(self.m[j]) for c in range(r + 1)]
+        if self.sparse:
+            return [(self.rows[c], c) for c in range(self.m[0])]
+        return [(r, c) for c in range(self.m[j]) for r in range(self.m[i])]
+
+    def heading(self):
+        pad = [0] * (8 - self.k)
+        steps = rust_order(self.k)
+        done = self.done if self.done is not None else set()
+        state = 0 if self.done is None else 2 if len(done) == len(steps) else 1
+        stages = [0] * 45
+        for kind, i, j, h in done:
+            if kind == FACTOR:
+                j = h = i
+            elif kind == SOLVE:
+                h = j
+            at = i * (i + 1) // 2 + j
+            stages[at] = max(stages[at], h + 1)
+        return ([self.n, self.p, self.q, self.k] + self.m + pad + self.order + pad + [int(self.sparse), int(self.diagonal), state,
+                len(steps) - len(done)] + stages + [0] * 59 + (self.rows if self.sparse else []))
+
+    def doubles(self):
+        out = [x for t in self.targets() for x in self.loaded[t].values()]
+        out += self.theta
+        out += [x for t in self.targets() for x in self.working[t].values()]
+        return [word(x) for x in out + [self.sum]]
+
+    def fill(self, doubles):
+        """The doubles as a stranger left them."""
+        at = iter(double(w) for w in doubles)
+        for t in self.targets():
+            for c in self.loaded[t]:
+                self.loaded[t][c] = next(at)
+        self.theta = [next(at) for _ in range(self.k)]
+        for t in self.targets():
+            for c in self.working[t]:
+                self.working[t][c] = next(at)
+        self.sum = next(at)
+
+    # Record 4
+    def begin(self, theta):
+        k = self.k
+        self.theta = list(theta)
+        t = [theta[b] for b in self.order]
+        for i, j in self.targets():
+            a, w = self.loaded[i, j], self.working[i, j]
+            if i == j == k:
+                for c in w:
+                    w[c] = a[c]
+            elif i == k:
+                for c in w:
+                    w[c] = a[c] * t[j]
+            elif i == j:
+                for r, c in w:
+                    w[r, c] = (t[j] * t[j]) * a[r, r] + 1.0 if r == c else 0.0
+            else:
+                for c in w:
+                    w[c] = (a[c] * t[j]) * t[i]
+        self.sum = 0.0
+        self.done = set()
+
+    def subtract(self, i, j, h):
+        k = self.k
+        w, a, b = self.working[i, j], self.working[i, h], self.working[j, h]
+        inner = range(self.m[h])
+        if i == j == k:
+            for r, c in w:
+                x = w[r, c]
+                for e in inner:
+                    x = x - a[r, e] * b[c, e]
+                w[r, c] = x
+        elif i == j and self.is_diagonal(j):
+            l = self.loaded[i, h]
+            for r, c in w:
+                s = 0.0
+                for e in inner:
+                    if l.get((r, e), 0.0) != 0:
+                        s = s + a[r, e] * a[r, e]
+                w[r, c] = w[r, c] - s
+        elif self.sparse:
+            for e in inner:
+                c = self.rows[e]
+                for r in range(self.p + 1):
+                    w[r, c] = w[r, c] - a[r, e] * b[c, e]
+        else:
+            for r, c in w:
+                s = 0.0
+                for e in inner:
+                    s = s + a[r, e] * b[c, e]
+                w[r, c] = w[r, c] - s
+
+    def factor(self, j):
+        w = self.working[j, j]
+        if self.is_diagonal(j) and j < self.k:
+            n = self.m[j]
+            for c in range(n):
+                if w[c, c] <= 0:
+                    raise Pivot(j, c)
+                w[c, c] = root(w[c, c])
+        else:
+            n = self.m[j] if j < self.k else self.p + 1
+            for c in range(n):
+                x = w[c, c]
+                for e in range(c):
+                    x = x - w[c, e] * w[c, e]
+                if x <= 0:
+                    raise Pivot(j, c)
+                w[c, c] = root(x)
+                for r in range(c + 1, n):
+                    x = w[r, c]
+                    for e in range(c):
+                        x = x - w[r, e] * w[c, e]
+                    w[r, c] = divide(x, w[c, c])
+        if j == 0:
+            for c in range(n):
+                self.sum = self.sum + ln(w[c, c])
+        elif j < self.k:
+            s = 0.0
+            for c in range(n):
+                s = s + ln(w[c, c])
+            self.sum = self.sum + s
+
+    def solve(self, i, j):
+        w, l = self.working[i, j], self.working[j, j]
+        if self.is_diagonal(j):
+            for r, c in w:
+                w[r, c] = divide(w[r, c], l[c, c])
+            return
+        rows = self.p + 1 if i == self.k else self.m[i]
+        for r in range(rows):
+            for c in range(self.m[j]):
+                x = w[r, c]
+                for e in range(c):
+                    x = x - w[r, e] * l[c, e]
+                w[r, c] = divide(x, l[c, c])
+
+    def take(self, s):
+        """A ready step."""
+        kind, i, j, h = s
+        try:
+            if kind == SUBTRACT:
+                self.subtract(i, j, h)
+            elif kind == FACTOR:
+                self.factor(i)
+            else:
+                self.solve(i, j)
+        except Pivot:
+            self.clear()
+            self.done = None
+            raise
+        self.done.add(s)
+
+    def finished(self):
+        return self.done is not None and len(self.done) == len(rust_order(self.k))
+
+    def ready(self):
+        return [s for s in rust_order(self.k) if s not in self.done and all(f in self.done for f in forerunners(s))]
+
+    # Record 6
+    def deviance(self, reml):
+        pivots = [self.working[self.k, self.k][r, r] for r in range(self.p + 1)]
+        r2 = pivots[-1] * pivots[-1]
+        d = self.n - self.p if reml else self.n
+        if r2 <= 0 or d <= 0:
+            return (NO_SCALE, (0, 0, 0), 0)
+        s = divide(r2, float(d))
+        v = float(d) * ln(TWO_PI * s) + 2.0 * self.sum + float(d)
+        if reml:
+            t = 0.0
+            for x in pivots[:-1]:
+                t = t + ln(x)
+            v = v + 2.0 * t
+        return (VALUE, (0, 0, 0), word(v))
+
+    # the calls; each gives how the answer stands, number and places, the value's word
+    def call_begin(self, theta):
+        bad = bad_lists([theta], [self.k])
+        if bad:
+            return bad
+        self.begin([double(w) for w in theta])
+        return YES
+
+    def call_step(self, s):
+        if self.done is None or self.finished():
+            return refusal(22)
+        if not is_step(self.k, s):
+            return refusal(21)
+        if s in self.done:
+            return refusal(23)
+        if not all(f in self.done for f in forerunners(s)):
+            return refusal(24)
+        try:
+            self.take(s)
+        except Pivot as p:
+            return refusal(26, *p.place)
+        return YES
+
+    def call_response(self, lists):
+        bad = bad_lists(lists, [self.q, self.p, 1])
+        if bad:
+            return bad
+        zy, xy, yy = lists
+        starts = {}
+        at = 0
+        sizes = {b: self.m[j] for j, b in enumerate(self.order)}
+        for b in range(self.k):
+            starts[b] = at
+            at += sizes[b]
+        for j in range(self.k):
+            for c in range(self.m[j]):
+                self.loaded[self.k, j][self.p, c] = double(zy[starts[self.order[j]] + c])
+        for c in range(self.p):
+            self.loaded[self.k, self.k][self.p, c] = double(xy[c])
+        self.loaded[self.k, self.k][self.p, self.p] = double(yy[0])
+        self.done = None
+        return YES
+
+    def call_profile(self, theta, reml):
+        bad = bad_lists([theta], [self.k])
+        if bad:
+            return bad
+        self.begin([double(w) for w in theta])
+        try:
+            for s in rust_order(self.k):
+                self.take(s)
+        except Pivot as p:
+            return (PIVOT, (26, *p.place), 0)
+        return self.deviance(reml)
+
+    def call_deviance(self, reml):
+        return self.deviance(reml) if self.finished() else refusal(25)
+
+
+YES = (ACCEPTED, (0, 0, 0), 0)
+
+
+def refusal(number, first=0, second=0):
+    return (REFUSED, (number, first, second), 0)
+
+
+def bad_lists(lists, lengths):
+    for i, l in enumerate(lists):
+        if len(l) != lengths[i]:
+            return refusal(13, i)
+    for i, l in enumerate(lists):
+        for j, w in enumerate(l):
+            if sheet_list.infinite(w):
+                return refusal(14, i, j)
+    return None
+
+
+def workspace_of(text):
+    """What load makes of a sheet that it accepts."""
+    s = sheet_list.read(text)
+    sheet_list.judge(s)
+    y = sheet_list.lay(s)
+    heading, doubles = sheet_list.load(s, y)
+    w = Workspace(s.n, s.p, y.m, y.order, y.sparse, y.diagonal, heading[128:])
+    w.fill(doubles)
+    assert w.heading() == heading and w.doubles() == doubles
+    return w
+
+
+# ---- cases
+
+class Call:
+    pass
+
+
+class Case:
+    """A sheet, and the calls on the workspace that load makes of it. The lists lent are two numbers and three doubles longer than they must be."""
+
+    def __init__(self, text):
+        self.text = text
+        self.w = workspace_of(text)
+        self.fresh = self.w.heading(), self.w.doubles()
+        self.heading, self.doubles = self.fresh
+        self.room = len(self.heading) + 2, len(self.doubles) + 3
+        self.broken = None
+        self.calls = []
+
+    def record(self, kind, numbers, lists, lent, answer):
+        c = Call()
+        c.kind, c.numbers, c.lists, c.lent, c.answer = kind, numbers, lists, lent, answer
+        heading, doubles = (self.broken or self.w.heading()), self.w.doubles()
+        c.heading = [(i, x) for i, (x, old) in enumerate(zip(heading, self.heading)) if x != old]
+        c.doubles = [(i, x) for i, (x, old) in enumerate(zip(doubles, self.doubles)) if x != old]
+        self.heading, self.doubles = heading, doubles
+        self.calls.append(c)
+        return answer
+
+    def call(self, kind, numbers=(), lists=(), cut=(2, 3)):
+        """A call that is lent so many numbers and doubles more than it needs."""
+        w = self.w
+        lent = len(self.heading) + cut[0], len(self.doubles) + cut[1]
+        if self.broken or min(cut) < 0:
+            answer = refusal(20)
+        elif kind == BEGIN:
+            answer = w.call_begin(*lists)
+        elif kind in (SUBTRACT, FACTOR, SOLVE):
+            answer = w.call_step((kind, *numbers))
+            if w.finished():
+                self.hold()
+        elif kind == RESPONSE:
+            answer = w.call_response(lists)
+        elif kind == PROFILE:
+            answer = w.call_profile(lists[0], numbers[0])
+        else:
+            answer = w.call_deviance(numbers[0])
+        return self.record(kind, numbers, lists, lent, answer)
+
+    def hold(self):
+        """Demand 3: a finished update leaves what begin and the Rust's order give a freshly loaded workspace with the same numbers and theta."""
+        if self.strange:
+            return
+        v = Workspace(self.w.n, self.w.p, self.w.m, self.w.order, self.w.sparse, self.w.diagonal, self.w.rows)
+        for t in v.loaded:
+            v.loaded[t] = dict(self.w.loaded[t])
+        v.begin(self.w.theta)
+        for s in rust_order(v.k):
+            v.take(s)
+        assert v.doubles() == self.w.doubles() and v.heading() == self.w.heading()
+
+    strange = False
+
+    def begin(self, *theta, **o):
+        return self.call(BEGIN, (), ([bits(t) for t in theta],), **o)
+
+    def step(self, s, **o):
+        return self.call(s[0], s[1:], (), **o)
+
+    def profile(self, reml, *theta, **o):
+        return self.call(PROFILE, (int(reml),), ([bits(t) for t in theta],), **o)
+
+    def deviance(self, reml, **o):
+        return self.call(DEVIANCE, (int(reml),), (), **o)
+
+    def respond(self, zy, xy, yy, **o):
+        return self.call(RESPONSE, (), tuple([bits(x) for x in l] for l in (zy, xy, yy)), **o)
+
+    def finish(self, rng=None):
+        """Ready steps, drawn or as the Rust has them, to the last or a refused pivot."""
+        while self.w.done is not None and not self.w.finished():
+            ready = self.w.ready()
+            answer = self.step(rng.choice(ready) if rng else ready[0])
+            assert answer[0] == ACCEPTED or answer[1][0] == 26
+
+    def damage(self, *altered):
+        """Numbers of the heading that no call writes so."""
+        self.broken = list(self.w.heading())
+        for i, x in altered:
+            self.broken[i] = x
+        return self.record(ALTER, (), (), self.room, YES)
+
+    def mend(self):
+        self.broken = None
+        return self.record(ALTER, (), (), self.room, YES)
+
+    def alter(self, done, doubles=()):
+        """A stranger's progress and doubles, which a heading may well say."""
+        self.strange = True
+        self.w.done = done
+        words = self.w.doubles()
+        for i, x in doubles:
+            words[i] = bits(x)
+        self.w.fill(words)
+        return self.record(ALTER, (), (), self.room, YES)
+
+    def words(self):
+        text = [int.from_bytes(self.text[i:i + 8].ljust(8, b"\0"), "big") for i in range(0, len(self.text), 8)]
+        head = [len(self.text), *self.room, len(self.calls), len(text)]
+        out = head + [0] * (HEAD - len(head)) + text
+        out += self.fresh[0] + [sheet_list.PATTERN_U32] * 2 + self.fresh[1] + [sheet_list.PATTERN_F64] * 3
+        for number, c in enumerate(self.calls, 1):
+            how, places, value = c.answer
+            numbers = list(c.numbers) + [0] * (3 - len(c.numbers))
+            lengths = [len(l) for l in c.lists] + [0] * (3 - len(c.lists))
+            head = [c.kind, *numbers, *lengths, *c.lent, how, *places, value, len(c.heading), 2 * len(c.doubles), sum(lengths)]
+            out += [0xCA5E0000 << 32 | number] + head + [0] * (HEAD - len(head))
+            for l in c.lists:
+                out += l
+            out += [i << 32 | x for i, x in c.heading]
+            for i, x in c.doubles:
+                out += [i, x]
+        return out
+
+
+def bits(x):
+    """A double's word; whole numbers are words already."""
+    return x if isinstance(x, int) else struct.unpack(">Q", struct.pack(">d", x))[0]
+
+
+INF, NINF, QUIET, SIGNAL = 0x7FF0000000000000, 0xFFF0000000000000, 0xFFF8000000000001, 0x7FF0000000000001
+
+
+def sheet(n, sizes, zz, zx, zy, xx, xy, yy):
+    """A sheet's text: zz a dictionary of doubles by (column, row), the others lists."""
+    p = len(xx)
+    out = ["size\t%d\t%d\t%d\t%d\t1" % (n, p, sum(sizes), len(sizes))]
+    out += ["block\t%d\t1" % m for m in sizes]
+    out += ["zz\t%d\t%d\t%016x" % (c, r, bits(x)) for (c, r), x in sorted(zz.items())]
+    out += ["zx\t%d\t%d\t%016x" % (r, c, bits(x)) for r, row in enumerate(zx) for c, x in enumerate(row)]
+    out += ["zy\t%d\t%016x" % (r, bits(x)) for r, x in enumerate(zy)]
+    out += ["xx\t%d\t%d\t%016x" % (r, c, bits(x)) for r, row in enumerate(xx) for c, x in enumerate(row)]
+    out += ["xy\t%d\t%016x" % (r, bits(x)) for r, x in enumerate(xy)]
+    out += ["yy\t%016x" % bits(yy)]
+    return "".join(l + "\n" for l in out).encode()
+
+
+def simulated(rng, sizes, p, readings, nested=False, n=None, exact=False):
+    """The cross-products of drawn readings. Each level of the larger of two nested blocks belongs to one of the other."""
+    start = [sum(sizes[:b]) for b in range(len(sizes))]
+    q = sum(sizes)
+    big = max(range(len(sizes)), key=lambda b: sizes[b])
+    parent = [rng.randrange(sizes[1 - big]) for _ in range(sizes[big])] if nested else None
+    zz, zx, zy = {}, [[0.0] * p for _ in range(q)], [0.0] * q
+    xx, xy, yy = [[0.0] * (r + 1) for r in range(p)], [0.0] * p, 0.0
+    for i in range(readings):
+        levels = [i % m if i < m and nested else rng.randrange(m) for m in sizes]
+        if nested:
+            levels[1 - big] = parent[levels[big]]
+        x = [1.0] + [float(rng.randint(-3, 3)) if exact else rng.gauss(0, 1) for _ in range(p - 1)]
+        v = float(rng.randint(-5, 5)) if exact else rng.gauss(0, 2) + sum(x)
+        rows = [s + l for s, l in zip(start, levels)]
+        for a in rows:
+            for b in rows:
+                zz[a, b] = zz.get((a, b), 0.0) + 1.0
+            for c in range(p):
+                zx[a][c] += x[c]
+            zy[a] += v
+        for r in range(p):
+            for c in range(r + 1):
+                xx[r][c] += x[r] * x[c]
+            xy[r] += x[r] * v
+        yy += v * v
+    return sheet(n if n is not None else readings, sizes, zz, zx, zy, xx, xy, yy)
+
+
+ODD = [0.0, -0.0, 5e-324, -5e-324, 1e-200, 1e-160, 1e155, -1e155, 1e200, 1.7e308, -1.7e308, -0.7, -3.0, 2.2250738585072014e-308]
+
+
+def drawn(rng):
+    """A finite double: of any word, an odd one, or an everyday one."""
+    if rng.random() < 0.15:
+        while True:
+            w = rng.randrange(2 ** 64)
+            if not sheet_list.infinite(w):
+                return double(w)
+    return rng.choice(ODD) if rng.random() < 0.3 else rng.gauss(0, 3)
+
+
+def wild(rng, sizes, p, n, density=0.7, one_each=False):
+    """A sheet of any words: diagonals absent, negative, huge; pairs with any cells, or one in each column of the larger."""
+    start = [sum(sizes[:b]) for b in range(len(sizes))]
+    q = sum(sizes)
+    zz = {}
+
+    def some():
+        x = drawn(rng)
+        return x if x != 0 else 1.5
+
+    for b, m in enumerate(sizes):
+        for i in range(m):
+            if rng.random() < 0.8:
+                zz[start[b] + i, start[b] + i] = rng.choice([float(rng.randint(1, 30)), some()])
+    big = max(range(len(sizes)), key=lambda b: (sizes[b], -b))
+    for a in range(len(sizes)):
+        for b in range(a):
+            if one_each:
+                for c in range(sizes[big]):
+                    r = rng.randrange(sizes[1 - big])
+                    zz[start[big] + c, start[1 - big] + r] = zz[start[1 - big] + r, start[big] + c] = rng.choice([1.0, 0.25, some()])
+                continue
+            for i in range(sizes[a]):
+                for j in range(sizes[b]):
+                    if rng.random() < density:
+                        zz[start[a] + i, start[b] + j] = zz[start[b] + j, start[a] + i] = rng.choice([1.0, 0.25, some()])
+    xx = [[drawn(rng) for _ in range(r)] + [rng.choice([50.0, drawn(rng)])] for r in range(p)]
+    return sheet(n, sizes, zz, [[drawn(rng) for _ in range(p)] for _ in range(q)], [drawn(rng) for _ in range(q)], xx,
+                 [drawn(rng) for _ in range(p)], rng.choice([90.0, drawn(rng)]))
+
+
+def thetas(rng, k, odd):
+    return [rng.choice(ODD) if rng.random() < odd else rng.choice([0.5, 1.0, rng.uniform(0, 2)]) for _ in range(k)]
+
+
+def any_name(rng, k):
+    """A step's name of any numbers."""
+    def number():
+        return rng.choice([rng.randrange(k + 3), rng.randrange(12), 2 ** 32 + rng.randrange(k + 1), 2 ** 64 - 1 - rng.randrange(3), rng.randrange(2 ** 64)])
+    kind = rng.choice([SUBTRACT, FACTOR, SOLVE])
+    return (kind, number(), number() if kind != FACTOR else 0, number() if kind == SUBTRACT else 0)
+
+
+def bad_theta(rng, k):
+    t = thetas(rng, k, 0.2)
+    if rng.random() < 0.5:
+        return t[:-1] if rng.random() < 0.5 else t + [rng.choice([1.0, INF])]
+    for _ in range(rng.randint(1, 2)):
+        t[rng.randrange(k)] = rng.choice([INF, NINF, QUIET, SIGNAL])
+    return t
+
+
+def response(rng, w, odd, bad=False):
+    lists = [[rng.choice(ODD) if rng.random() < odd else rng.gauss(0, 3) for _ in range(n)] for n in (w.q, w.p, 1)]
+    if not bad:
+        lists[2][0] = abs(lists[2][0]) + 100.0 if odd == 0 else lists[2][0]
+        return lists
+    i = rng.randrange(3)
+    if rng.random() < 0.5:
+        lists[i] = lists[i][:-1] if rng.random() < 0.5 else lists[i] + [1.0]
+    if rng.random() < 0.7 or bad_lists([[bits(x) for x in l] for l in lists], [w.q, w.p, 1]) is None:
+        i = rng.randrange(3)
+        lists[i] = lists[i] or [0.0]
+        lists[i][rng.randrange(len(lists[i]))] = rng.choice([INF, NINF, QUIET, SIGNAL])
+    return lists
+
+
+def wander(c, rng, count, odd=0.15):
+    """Calls of all kinds, drawn."""
+    w = c.w
+    for _ in range(count):
+        x = rng.random()
+        steps = rust_order(w.k)
+        o = {} if rng.random() < 0.97 else {"cut": rng.choice([(-1, 3), (2, -1), (-128, 0)])}
+        under = w.done is not None and not w.finished()
+        if x < (0.02 if under else 0.35):
+            c.begin(*thetas(rng, w.k, odd), **o)
+        elif x < 0.64 and under:
+            c.step(rng.choice(w.ready()), **o)
+        elif x < 0.72:
+            c.step(rng.choice(steps), **o)
+        elif x < 0.78:
+            c.step(any_name(rng, w.k), **o)
+        elif x < 0.83:
+            done = sorted(w.done) if w.done else steps
+            c.step(rng.choice(done), **o)
+        elif x < 0.86:
+            c.deviance(rng.random() < 0.5, **o)
+        elif x < 0.89:
+            c.profile(rng.random() < 0.5, *thetas(rng, w.k, odd), **o)
+            if rng.random() < 0.5:
+                c.deviance(rng.random() < 0.5)
+        elif x < 0.90:
+            c.respond(*response(rng, w, odd), **o)
+        elif x < 0.93:
+            c.respond(*response(rng, w, odd, bad=True), **o)
+        elif x < 0.96:
+            c.begin(*bad_theta(rng, w.k), **o)
+        else:
+            c.profile(rng.random() < 0.5, *bad_theta(rng, w.k), **o)
+
+
+def whole(c, rng, orders, odd=0.0):
+    """Updates to their end in drawn orders, with both deviances, each after another theta."""
+    for _ in range(orders):
+        c.begin(*thetas(rng, c.w.k, odd))
+        c.finish(rng)
+        c.deviance(False)
+        c.deviance(True)
+
+
+def damaged(c, rng):
+    """Headings that no call leaves: every call answers 20 and writes nothing."""
+    w = c.w
+    k, left = w.k, len(rust_order(w.k))
+    alterations = [[(0, 0)], [(0, 10 ** 9 + 1)], [(1, 0)], [(1, 33)], [(2, w.q + 1)], [(3, 0)], [(3, 9)], [(4, 65536)], [(12, 7)], [(20, 2)], [(21, 3)], [(22, 3)],
+                   [(23, left + 1)], [(22, 1), (23, left - 1), (25, 1)], [(22, 2), (23, left)], [(3, 2 ** 32 - 1)]]
+    if w.sparse:
+        alterations += [[(128, w.m[1])], [(128 + w.m[0] - 1, 2 ** 32 - 1)]]
+    for altered in alterations:
+        c.damage(*altered)
+        t = thetas(rng, k, 0)
+        calls = [lambda: c.begin(*t), lambda: c.step(cholesky(0)), lambda: c.profile(False, *t), lambda: c.deviance(True),
+                 lambda: c.respond(*response(rng, w, 0)), lambda: c.begin(*t[1:]), lambda: c.profile(True, INF, *t[1:]), lambda: c.step(any_name(rng, k))]
+        for call in rng.sample(calls, 3):
+            call()
+        c.mend()
+        c.step(rng.choice(rust_order(k)))
+
+
+def worked():
+    return sheet(3, [1], {(0, 0): 3.0}, [[2.0]], [4.0], [[5.0]], [6.0], 9.0)
+
+
+def pair(n, m0, m1, rows, cells, diagonal0, diagonal1, p=1):
+    """k = 2 with one entry in each column: rows and cells by column of block 0; a diagonal of None is absent."""
+    zz = {}
+    for c in range(m0):
+        if diagonal0[c] is not None:
+            zz[c, c] = diagonal0[c]
+        zz[c, m0 + rows[c]] = zz[m0 + rows[c], c] = cells[c]
+    for r in range(m1):
+        if diagonal1[r] is not None:
+            zz[m0 + r, m0 + r] = diagonal1[r]
+    q = m0 + m1
+    return sheet(n, [m0, m1], zz, [[0.5 + r + c for c in range(p)] for r in range(q)], [1.0 + r for r in range(q)],
+                 [[0.25] * r + [5000.0 + r] for r in range(p)], [1.5] * p, 9000.0)
+
+
+def cases():
+    rng = random.Random("calls of document 01")
+    out = []
+
+    def case(text):
+        c = Case(text)
+        out.append(c)
+        return c
+
+    # the worked sheet: refusals before begin, both deviances, theta 0, REML with n = p, a lent list too short
+    c = case(worked())
+    for s in (cholesky(0), solving(1, 0), subtraction(9, 9, 9), cholesky(2 ** 64 - 1)):
+        c.step(s)
+    c.deviance(False)
+    c.begin(1.0)
+    c.step(solving(1, 0))
+    c.step(cholesky(0))
+    c.step(cholesky(0))
+    c.finish()
+    c.step(cholesky(0))
+    c.deviance(False)
+    c.deviance(True)
+    c.profile(False, 0.0)
+    c.profile(True, 1.0)
+    c.respond([4.0], [6.0], [9.0])
+    c.deviance(False)
+    wander(c, rng, 60)
+    damaged(c, rng)
+    for n in (1, 2):
+        c = case(worked().replace(b"size\t3", b"size\t%d" % n))
+        for reml in (False, True):
+            c.profile(reml, 1.0)
+            c.deviance(not reml)
+        whole(c, rng, 2, 0.3)
+
+    # s underflows to 0, and the deviance is -infinity
+    c = case(sheet(3, [2], {(0, 0): 1.0, (1, 1): 2.0}, [[0.0], [0.0]], [0.0, -0.0], [[1.0]], [0.0], 5e-324))
+    c.profile(False, 1.0)
+    c.profile(True, 1.0)
+
+    # simulated readings: k = 1 to 4 and 8, crossed and nested, and p of 1 to 4
+    shapes = [([5], 1, 20), ([7], 3, 30), ([6, 4], 2, 40), ([3, 5], 2, 40), ([4, 4], 1, 25), ([5, 3, 4], 2, 50), ([2, 6, 3], 3, 50), ([4, 3, 2, 3], 2, 60),
+              ([1] * 8, 1, 30), ([3, 2, 2, 1, 3, 1, 2, 2], 2, 60), ([12, 9], 4, 90)]
+    for sizes, p, readings in shapes:
+        c = case(simulated(rng, sizes, p, readings))
+        wander(c, rng, 20, 0.0)
+        whole(c, rng, 2 if sum(sizes) < 20 else 1)
+        if len(sizes) == 8:
+            c.profile(True, *thetas(rng, 8, 0))
+            continue
+        wander(c, rng, 40)
+        whole(c, rng, 1, 0.4)
+    for sizes, p in (([6, 2], 1), ([2, 7], 2), ([4, 4], 3)):
+        c = case(simulated(rng, sizes, p, 40, nested=True))
+        assert c.w.diagonal and not c.w.sparse
+        wander(c, rng, 40, 0.1)
+        whole(c, rng, 3, 0.1)
+        damaged(c, rng) if p == 1 else None
+    c = case(simulated(rng, [5, 3], 2, 40, n=2, exact=True))
+    whole(c, rng, 2)
+    c = case(simulated(rng, [4, 3], 3, 40, n=3))
+    whole(c, rng, 1)
+    c.profile(True, 0.5, 0.5)
+    c.profile(False, 0.5, 0.5)
+
+    # any words: refused pivots, infinities, NaNs
+    for sizes, p, n, each in (([3], 1, 5, False), ([6], 2, 9, False), ([4, 3], 1, 10, False), ([3, 4], 3, 10, False), ([5, 2], 2, 10, True), ([3, 3], 1, 10, True),
+                              ([3, 2, 2], 2, 20, False), ([2, 2, 3, 2], 1, 20, False), ([2, 1, 1, 1, 1, 1, 1, 1], 1, 20, False)):
+        for _ in range(3 if len(sizes) < 4 else 1):
+            c = case(wild(rng, sizes, p, n, one_each=each))
+            wander(c, rng, 40, 0.3)
+            whole(c, rng, 3 if len(sizes) < 8 else 1, 0.3)
+
+    # refused pivots in each block, at the first row and later
+    c = case(sheet(9, [3, 2], {(0, 0): 2.0, (1, 1): -4.0, (2, 2): 1.0, (3, 3): 1.0, (4, 4): -1.0, (0, 3): 3.0, (3, 0): 3.0, (1, 4): 1.0, (4, 1): 1.0, (2, 4): 1.0, (4, 2): 1.0},
+                   [[1.0]] * 5, [1.0] * 5, [[5.0]], [1.0], 9.0))
+    for t in ((1.0, 0.5), (0.5, 0.5), (0.25, 1.0), (0.25, 0.75), (0.5, 1.0), (0.499, 0.25), (0.0, 1.0), (0.0, 0.0), (0.0, -2.0)):
+        c.profile(False, *t)
+        c.begin(*t)
+        c.finish(rng)
+        c.deviance(False)
+    for k in (2, 3):
+        sizes = [3, 2, 2][:k]
+        q = sum(sizes)
+        start = [0, 3, 5]
+        zz = {(i, i): 2.0 for i in range(q)}
+        for a in range(k):
+            for b in range(a):
+                for i in range(sizes[a]):
+                    for j in range(sizes[b]):
+                        zz[start[a] + i, start[b] + j] = zz[start[b] + j, start[a] + i] = 0.5 * (1 + i + j)
+        for yy, xx in ((9.0, 5.0), (0.0, 5.0), (9.0, 0.0), (9.0, -1.0), (-1.0, 5.0), (1e-3, 5.0)):
+            c = case(sheet(9, sizes, zz, [[0.5, 0.25]] * q, [0.5] * q, [[5.0], [0.5, xx]], [0.5, 0.5], yy))
+            for t in ([0.25] * k, [1.0] * k, [0.0] * k, [0.1] + [3.0] * (k - 1)):
+                c.profile(rng.random() < 0.5, *t)
+                c.begin(*t)
+                c.finish(rng)
+                c.deviance(True)
+
+    # where the Rust leaves out a diagonal subtraction: a cell that underflowed in scaling, one in the division of T(1,0), a NaN column
+    for text, t in ((pair(20, 3, 2, [0, 1, 0], [1e150, 1e-200, 0.5], [3.0, 3.0, 3.0], [3.0, 3.0]), (1e-150, 1.0)),
+                    (pair(20, 3, 2, [0, 1, 0], [1.0, 1e-180, 0.5], [3.0, 1e300, 3.0], [3.0, 3.0]), (1.0, 1.0)),
+                    (pair(20, 3, 2, [0, 1, 0], [1.0, 2.0, 0.5], [3.0, None, 3.0], [3.0, 3.0]), (1e200, 1e-200)),
+                    (pair(20, 4, 2, [0, 1, 0, 1], [1.0, 2.0, 0.5, 5e-324], [3.0, 2.0, None, 1.0], [3.0, None], 2), (1e170, 0.5))):
+        c = case(text)
+        assert c.w.diagonal
+        c.profile(False, *t)
+        c.profile(True, *t)
+        c.begin(*t)
+        c.finish(rng)
+        c.deviance(True)
+        whole(c, rng, 2, 0.2)
+
+    # workspaces that a stranger altered: steps on doubles that begin did not write, divisions by 0, a factor that nothing made
+    for text in (worked(), simulated(rng, [4, 3], 2, 30), simulated(rng, [5, 2], 1, 30, nested=True), simulated(rng, [3, 2, 2], 1, 30)):
+        c = case(text)
+        k = c.w.k
+        c.alter({cholesky(0)})
+        c.step(solving(1, 0))
+        c.finish(rng)
+        c.deviance(False)
+        c.alter(set(rust_order(k)))
+        c.deviance(False)
+        c.deviance(True)
+        n = len(c.doubles)
+        for x in (-3.0, 5e-324, 1e200, INF, QUIET, -0.0, 2.0):
+            c.alter(set(rust_order(k)), [(n - 2, x), (n - 1, rng.choice([1.0, -2.5, INF, QUIET]))])
+            c.deviance(False)
+            c.deviance(True)
+        at = n - 1 - sum(len(b) for b in c.w.working.values())
+        for _ in range(4):
+            done = set()
+            for s in rust_order(k)[:rng.randrange(len(rust_order(k)))]:
+                done.add(s)
+            c.alter(done, [(i, rng.choice([INF, QUIET, 0.0, -0.0, drawn(rng), drawn(rng)])) for i in range(at, n)])
+            c.finish(rng)
+            c.deviance(True)
+        c.begin(*thetas(rng, k, 0))
+        c.finish(rng)
+        c.deviance(True)
+
+    # sparse pairs: more than 100,000 cells, one entry in each column
+    c = case(pair(2000, 317, 316, [rng.randrange(316) for _ in range(317)], [float(rng.randint(1, 4)) for _ in range(317)],
+                  [None if rng.random() < 0.1 else float(rng.randint(3, 9)) for _ in range(317)], [float(rng.randint(9, 30)) for _ in range(316)]))
+    assert c.w.sparse and c.w.diagonal
+    c.step(solving(1, 0))
+    c.begin(0.5, 0.25)
+    c.finish(rng)
+    c.deviance(False)
+    c.deviance(True)
+    c.step(subtraction(2, 1, 0))
+    c.profile(True, 1e200, 0.5)
+    c.profile(False, 5.0, 5.0)
+    c.begin(0.25, -0.5)
+    c.step(cholesky(0))
+    c.step(subtraction(1, 1, 0))
+    c.step(solving(1, 0))
+    c.step(solving(1, 0))
+    c.damage((128 + 316, 316))
+    c.step(solving(2, 0))
+    c.mend()
+    c.finish(rng)
+    c.respond([1.0] * 633, [2.0], [800.0])
+    c.deviance(False)
+    c.profile(False, 0.5, 0.25)
+    return out
+
+
+CALLS = ["load", "begin", "step", "replace_response", "profile_deviance", "deviance_from_factor"]
+
+
+def called(kind):
+    return {BEGIN: 1, SUBTRACT: 2, FACTOR: 2, SOLVE: 2, RESPONSE: 3, PROFILE: 4, DEVIANCE: 5}[kind]
+
+
+# rows of the report by the answer: a refusal's number, and these
+ROWS = {0: "accepted", 28: "value", 29: "pivot", 30: "no scale"}
+
+
+def answered(answer):
+    return {ACCEPTED: 0, REFUSED: answer[1][0], VALUE: 28, PIVOT: 29, NO_SCALE: 30}[answer[0]]
+
+
+def main():
+    if len(sys.argv) != 3:
+        sys.exit(__doc__.split("\n\n")[1])
+    if sys.argv[1] == "--pivots":
+        return print_pivots(sys.argv[2])
+    if sys.argv[1] == "--large":
+        return large(sys.argv[2])
+    if sys.argv[1] == "--original":
+        return compare(sys.argv[2])
+    all_cases = cases()
+    with open(sys.argv[1], "w") as f:
+        for number, c in enumerate(all_cases, 1):
+            for w in [0xCA5E0000 << 32 | number] + c.words():
+                f.write("%016x\n" % w)
+    calls = [x for c in all_cases for x in c.calls if x.kind != ALTER]
+    by_call, by_answer = [len(all_cases)] + [0] * 5, [len(all_cases)] + [0] * 31
+    for x in calls:
+        by_call[called(x.kind)] += 1
+        by_answer[answered(x.answer)] += 1
+    with open(sys.argv[2], "w") as f:
+        for name, n in zip(CALLS, by_call):
+            f.write("%s %d of %d\n" % (name, n, n))
+        for row, n in enumerate(by_answer):
+            if n:
+                f.write("%s %d of %d\n" % (ROWS.get(row, "refused %d:" % row), n, n))
+        n = len(calls) + len(all_cases)
+        f.write("calls %d of %d\nall agree\n" % (n, n))
+
+
+def pivots(w, theta):
+    """What `factor` prints."""
+    w.begin(theta)
+    try:
+        for s in rust_order(w.k):
+            w.take(s)
+    except Pivot as p:
+        return "refused\t26\t%d\t%d\n" % p.place
+    rows = [(j, r) for j in range(w.k + 1) for r in range(w.m[j] if j < w.k else w.p + 1)]
+    return "".join("pivot\t%d\t%d\t%016x\n" % (j, r, word(w.working[j, j][r, r])) for j, r in rows)
+
+
+def print_pivots(path):
+    with open(path, "rb") as f:
+        text = f.read()
+    at = text.index(b"theta\t")
+    sys.stdout.write(pivots(workspace_of(text[:at]), [double(int(l.split(b"\t")[2], 16)) for l in text[at:].splitlines()]))
+
+
+class Original(Workspace):
+    """The Rust's `rank_sub_diagonal`: where a column of the working pair has not one cell other than 0, it leaves out S(1,1,0)."""
+
+    def subtract(self, i, j, h):
+        a = self.working[1, 0]
+        if i == j == 1 and self.k == 2 and self.diagonal and not self.sparse:
+            if any(sum(a[r, c] != 0 for r in range(self.m[1])) != 1 for c in range(self.m[0])):
+                return
+        super().subtract(i, j, h)
+
+
+def compare(driver):
+    def run(text, *words):
+        return subprocess.run([driver, *words], input=text, capture_output=True, check=True).stdout.decode()
+
+    seen, same, left_out, values, equal = 0, 0, 0, 0, 0
+    for c in cases():
+        tried = []
+        for x in c.calls:
+            if x.kind in (BEGIN, PROFILE) and x.answer[0] != REFUSED and x.lists[0] not in tried:
+                tried.append(x.lists[0])
+        for t in tried:
+            text = c.text + b"".join(b"theta\t%d\t%016x\n" % (i, w) for i, w in enumerate(t))
+            theta = [double(w) for w in t]
+            w = workspace_of(c.text)
+            mine = pivots(w, theta)
+            rust = run(text, "pivots")
+            if rust == "err\n":
+                rust = run(text, "place")
+            seen += 1
+            if mine != rust:
+                w.__class__ = Original
+                assert pivots(w, theta) == rust, text.decode()
+                left_out += 1
+                continue
+            same += 1
+            if w.finished():
+                for mode, reml in (("ml", False), ("reml", True)):
+                    how, _, value = w.deviance(reml)
+                    rust = int(run(text, "deviance", mode).split("\t")[1], 16)
+                    values += 1
+                    equal += rust == (value if how == VALUE else 0x7FEFFFFFFFFFFFFF)
+    print("updates %d: %d bit for bit, %d where the Rust leaves out a diagonal subtraction" % (seen, same, left_out))
+    print("deviances %d: %d bit for bit" % (values, equal))
+
+
+def large(path):
+    """3 by 33,334 cells, one entry in each column: the calls of large_calls."""
+    m0 = 33334
+    q = m0 + 3
+
+    def fraction(i):
+        return i % 1009 * 37 % 1009 / 64.0
+
+    def loaded(i):
+        if m0 <= i < q:
+            return 1000000.0
+        if i < q + m0:
+            return 1.0 + fraction(i)
+        return {133345: 10000000.0, 133346: 5.0, 133347: 10000000.0}.get(i, fraction(i) - 8.0)
+
+    w = Workspace(40000, 1, [m0, 3], [0, 1], True, True, [i % 11 % 3 for i in range(128, 128 + m0)])
+    w.fill([bits(loaded(i)) for i in range(133348)] + [0] * 133351)
+
+    def total():
+        s = 0
+        for x in w.heading():
+            s = s % 2 ** 58 * 31 + x
+        for x in w.doubles():
+            s = s % 2 ** 58 * 31 + (x >> 32)
+            s = s % 2 ** 58 * 31 + x % 2 ** 32
+        return s
+
+    theta = [bits(0.5), bits(0.25)]
+    lines = []
+
+    def line(name, answer):
+        how, places, value = answer
+        lines.append("%s %d %d %d %d %d %d\n" % (name, how, *places, value, total()))
+
+    line("begin", w.call_begin(theta))
+    for s in (solving(1, 0), cholesky(0), solving(2, 0), subtraction(2, 2, 0), solving(1, 0), subtraction(2, 1, 0), subtraction(2, 1, 0), subtraction(1, 1, 0),
+              cholesky(1), solving(2, 1), subtraction(2, 2, 1), cholesky(2)):
+        line("step", w.call_step(s))
+    for reml in (False, True):
+        line("deviance_from_factor", w.call_deviance(reml))
+    line("profile_deviance", w.call_profile(theta, False))
+    line("profile_deviance", w.call_profile([bits(1e200), bits(0.5)], True))
+    line("replace_response", w.call_response([[bits(fraction(i) - 8.0) for i in range(q)], [bits(5.0)], [bits(1.0)]]))
+    line("profile_deviance", w.call_profile(theta, True))
+    with open(path, "w") as f:
+        f.writelines(lines)
+
+
+if __name__ == "__main__":
+    main()
