@@ -1,27 +1,22 @@
 -- "Refusals, loaded numbers, progress and steps left are as in document 01's book."
-use Prim.Native.Nat.{ℕ, zero, suc, _+_, _≤_, _<_}
+use Prim.Native.Nat.{ℕ, zero, suc, _+_}
 use mathlib.Core.Path.{_≡_, refl, sym, ap, subst, _∙_}
-use mathlib.Core.Bool.{Bool, true, false}
+use mathlib.Core.Bool.{Bool, false}
 use mathlib.Core.List.{List}
 use mathlib.Core.Option.{Option, none, some}
 use native.Mathlib.Omega.{arith}
-use lib.Dec.{ltb}
-use lib.ListN.{length, getD, replicate}
+use lib.ListN.{getD, replicate}
 use lib.Ieee.{Float}
 use borrow.Author.Tests.{le-ltb}
 use Rattle.storage.specs.Runs.{start, triangle}
-use Rattle.storage.specs.Part.{part}
-use Rattle.order.specs.Steps.{Step, Named, row, col, index, rustOrder}
+use Rattle.order.specs.Steps.{Step, Named, row, col, index}
 use Rattle.order.specs.Progress.{stepsLeft, done}
 use Rattle.order.proofs.Left.{left-represents}
 use Rattle.sheet.specs.Sheet.{Sheet}
 use Rattle.layout.specs.declared.Progress.{Progress}
-use Rattle.layout.specs.declared.State.{State}
-use Rattle.layout.specs.declared.State.the-variants.{Idle}
-use Rattle.layout.specs.Shapes.{thetaAt}
 use Rattle.layout.specs.Heading.{progressOf, stageOf, idle}
 use Rattle.workspace.specs.Memory.{Workspace}
-use Rattle.book.specs.Book.{Book, book, layout, last, bookLeft, bookState, bookSet}
+use Rattle.book.specs.Book.{Book, book, last, bookLeft, bookState, bookSet}
 use Rattle.book.specs.Demand.{Agrees}
 use Rattle.moves.proofs.Moves.{lawfully}
 use Rattle.standing.proofs.Stands.{Site, Begun, Updating, Stands}

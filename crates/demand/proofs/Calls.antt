@@ -1,6 +1,6 @@
 -- By induction over a list of calls, the workspace keeps in step with the book.
 use Prim.Native.Nat.{ℕ}
-use mathlib.Core.Path.{_≡_, refl, ap₂, subst, sym, _∙_}
+use mathlib.Core.Path.{_≡_, refl, ap₂}
 use mathlib.Core.List.{List, [], _∷_}
 use lib.Ieee.{Float}
 use Rattle.sheet.specs.Sheet.{Sheet}

@@ -1,17 +1,9 @@
 -- Demand 3 holds: about every list of calls from every accepted load.
 use Prim.Native.Nat.{ℕ}
-use mathlib.Core.Path.{_≡_}
-use mathlib.Core.Bool.{Bool}
 use mathlib.Core.List.{List}
-use mathlib.Core.Option.{some}
 use lib.Ieee.{Float}
-use Rattle.order.specs.Steps.{Step}
-use Rattle.sheet.specs.Sheet.{Sheet, accepted, sheetOf}
-use Rattle.sheet.specs.declared.Starts.{Starts}
-use Rattle.refusal.specs.declared.Answer.the-variants.{Accepted}
+use Rattle.sheet.specs.Sheet.{Sheet, accepted}
 use Rattle.workspace.specs.Memory.{Workspace}
-use Rattle.workspace.specs.Answers.{Outcome}
-use Rattle.workspace.specs.Load.{Loads}
 use Rattle.book.specs.Calls.{Call, leftBy}
 use Rattle.book.specs.Book.{Book, opened, bookAfter}
 use Rattle.book.specs.Demand.{Holds, Demand3}

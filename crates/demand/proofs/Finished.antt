@@ -1,29 +1,24 @@
 -- "Whatever the steps' order and whatever was abandoned or refused before, a finished update leaves the factor and log determinant that document 01's begin
 -- and the Rust's order give a freshly loaded workspace with the same loaded numbers and theta"; and no divisor is 0.
-use Prim.Native.Nat.{ℕ, zero, suc, _+_, _≤_, _<_}
+use Prim.Native.Nat.{ℕ, suc, _+_, _≤_, _<_}
 use mathlib.Core.Path.{_≡_, refl, sym, ap, ap₂, subst, _∙_}
 use mathlib.Core.Bool.{Bool, true, false, true≢false}
 use mathlib.Core.List.{List}
 use mathlib.Core.Option.{Option, none, some}
-use mathlib.Core.Logic.{by-cases}
-use native.Mathlib.Decide.{decLt}
 use native.Mathlib.Omega.{arith}
-use lib.Dec.{eqb, ltb}
-use lib.ListN.{length}
+use lib.Dec.{eqb}
 use lib.Ieee.{Float}
 use borrow.Author.Tests.{eqb-true, eq-eqb, ltb-true, lt-ltb}
 use Rattle.storage.specs.Shape.{Shape, packed}
 use Rattle.order.specs.Steps.{Step, C}
-use Rattle.order.specs.Elimination.{value, final, total}
+use Rattle.order.specs.Elimination.{value}
 use Rattle.order.specs.Progress.{State, done, stepsLeft}
 use Rattle.order.proofs.Invariant.{Held, held-done}
 use Rattle.order.proofs.Left.{left-represents, all-finished}
 use Rattle.order.proofs.Refusal.{none-refused}
 use Rattle.rules.specs.Arithmetic.{ieee}
 use Rattle.sheet.specs.Sheet.{Sheet}
-use Rattle.refusal.specs.declared.Answer.the-variants.{Accepted}
 use Rattle.layout.specs.declared.Layout.{Layout}
-use Rattle.layout.specs.declared.Progress.{Progress}
 use Rattle.layout.specs.declared.State as States
 use Rattle.layout.specs.declared.State.the-variants.{Idle, UnderWay, Finished}
 use Rattle.layout.specs.Shapes.{pick, shape}
@@ -31,7 +26,7 @@ use Rattle.layout.specs.Heading.{layoutOf, entryRow, stageOf}
 use Rattle.workspace.specs.Memory.{Workspace, workingBlock, cellOf, logSum}
 use Rattle.workspace.specs.Load.{headingOf}
 use Rattle.update.specs.Working.{pivotCount}
-use Rattle.book.specs.Book.{Book, layout, last, rust, bookState, bookSet}
+use Rattle.book.specs.Book.{Book, layout, last, bookState, bookSet}
 use Rattle.book.specs.Values.{rulesHere, startHere, valueAt, finalValue, logsAfter, refusedPivot}
 use Rattle.book.specs.Demand.{factorOf, residualPivot, FinishedClaim}
 use Rattle.re_lower.proofs.Pivotal.{root-of-accepted, never-null}

@@ -1,27 +1,25 @@
 -- 20 never comes: no call on a workspace whose heading is lawful answers it.
 use Prim.Native.Nat.{ℕ}
-use mathlib.Core.Path.{_≡_, refl, sym, ap, subst, _∙_}
+use mathlib.Core.Path.{_≡_}
 use mathlib.Core.Bool.{Bool, true, false, _||_}
 use mathlib.Core.List.{List}
 use mathlib.Core.Option.{Option, none, some}
 use native.Mathlib.Omega.{arith}
 use lib.Dec.{eqb}
-use lib.ListN.{length, getD}
+use lib.ListN.{length}
 use lib.Ieee.{Float}
-use Rattle.order.specs.Steps.{Step, col, named, after, rustOrder}
+use Rattle.order.specs.Steps.{Step, named, after, rustOrder}
 use Rattle.order.specs.Progress.{all, done}
 use Rattle.rules.specs.Arithmetic.{ieee}
 use Rattle.rules.specs.Finish.{devianceOf}
 use Rattle.refusal.specs.declared.Answer.{Answer}
 use Rattle.refusal.specs.declared.Answer.the-variants.{Accepted, Refused}
 use Rattle.refusal.specs.Numbers as Numbers
-use Rattle.refusal.specs.Numbers.{refuse}
 use Rattle.layout.specs.Shapes.{pick}
 use Rattle.layout.specs.Heading.{layoutOf, progressOf, stageOf, headed}
-use Rattle.workspace.specs.Memory.{Workspace}
 use Rattle.workspace.specs.Answers.{Outcome, untouched, firstInfinite, unlessAt}
 use Rattle.workspace.specs.Response.{replaceOf, responded}
-use Rattle.update.specs.Calls.{begun, beginOf, stepOf, onPivot, refusedBy, isUnderWay, stepped, runOf}
+use Rattle.update.specs.Calls.{begun, beginOf, stepOf, onPivot, refusedBy, isUnderWay, runOf}
 use Rattle.profile.specs.declared.Deviance.{Deviance}
 use Rattle.profile.specs.declared.Deviance.the-variants.{Value, NoScale}
 use Rattle.profile.specs.Deviance as Deviances

@@ -1,22 +1,22 @@
 -- "any undone step whose forerunners are done is accepted unless it meets a refused pivot, and writes by its rule its own block, the progress and, where it
 -- takes logarithms, their sum, nothing else; until the last step or a refused pivot some step is ready".
-use Prim.Native.Nat.{ℕ, zero, suc, _+_, _≤_, _<_}
-use mathlib.Core.Path.{_≡_, refl, sym, ap, ap₂, subst, _∙_}
-use mathlib.Core.Bool.{Bool, true, false, cond}
-use mathlib.Core.List.{List, [], _∷_, _++_}
+use Prim.Native.Nat.{ℕ, zero, _+_, _≤_, _<_}
+use mathlib.Core.Path.{_≡_, refl, sym, ap, subst, _∙_}
+use mathlib.Core.Bool.{Bool, true}
+use mathlib.Core.List.{List, _++_}
 use mathlib.Core.Option.{Option, none, some}
-use mathlib.Core.Logic.{_⊎_, inl, inr, ⊎-elim, by-cases}
+use mathlib.Core.Logic.{by-cases}
 use native.Mathlib.Decide.{decLt, ℕ-discrete}
 use native.Mathlib.Omega.{arith}
 use lib.Dec.{eqb}
-use lib.ListN.{length, getD, take, drop, length-append}
+use lib.ListN.{length, getD, length-append}
 use lib.Ieee.{Float}
-use borrow.Author.Tests.{eq-eqb, ne-eqb, eqb-true}
-use Rattle.storage.specs.Part.{part, store}
+use borrow.Author.Tests.{eq-eqb}
+use Rattle.storage.specs.Part.{part}
 use Rattle.storage.specs.Shape.{sizeOf}
 use Rattle.storage.proofs.Parts.{take-store, drop-store, length-part}
-use Rattle.order.specs.Steps.{Step, S, C, T, Named, row, col, index, after}
-use Rattle.order.specs.Progress.{all, done, join, stepsLeft, refusedIn}
+use Rattle.order.specs.Steps.{Step, S, C, T, Named, row, col}
+use Rattle.order.specs.Progress.{done, stepsLeft, refusedIn}
 use Rattle.order.proofs.Next.{some-next}
 use Rattle.rules.specs.Arithmetic.{ieee}
 use Rattle.sheet.specs.Sheet.{Sheet}
@@ -27,9 +27,8 @@ use Rattle.layout.specs.declared.Layout.{Layout}
 use Rattle.layout.specs.declared.Progress.{Progress}
 use Rattle.layout.specs.declared.State.{State}
 use Rattle.layout.specs.declared.State.the-variants.{Idle, UnderWay, Finished}
-use Rattle.layout.specs.Shapes.{pick, levels, shape, sizes, workingAt, sumAt, doublesNeeded}
-use Rattle.layout.specs.Heading.{layoutOf, progressOf, stageOf, entryRow, written, progressNumbers}
-use Rattle.layout.specs.Blocks.{padded}
+use Rattle.layout.specs.Shapes.{pick, shape, sizes, workingAt, sumAt, doublesNeeded}
+use Rattle.layout.specs.Heading.{layoutOf, progressOf, entryRow, written, progressNumbers}
 use Rattle.layout.proofs.Heading.{length-written, layout-back, progress-stored}
 use Rattle.layout.proofs.Places.{size-working, working-inside}
 use Rattle.workspace.specs.Memory.{Workspace, workingBlock, logSum, headingWith}
@@ -38,19 +37,15 @@ use Rattle.update.specs.Working.{logged}
 use Rattle.update.specs.Calls.{advanced, stepOf, stepped, madeBy, sumBy, refusedBy, onPivot}
 use Rattle.book.specs.Book.{Book, book, layout, last, rust, inStep, bookState}
 use Rattle.book.specs.Values.{rulesHere, startHere}
-use Rattle.book.specs.Demand.{ReadyBy, TakesLogs, Own, in-block, in-sum, Writes, UnderWayClaim}
+use Rattle.book.specs.Demand.{ReadyBy, TakesLogs, in-block, in-sum, Writes, UnderWayClaim}
+use Rattle.moves.proofs.Kept.{numbers-many}
 use Rattle.memory.proofs.Step.{withBlock, with-length, with-own, with-sum, with-elsewhere}
 use Rattle.same_rules.proofs.Same.{made-length}
-use Rattle.standing.proofs.Stands.{behind, Site, Begun, Stands}
-use Rattle.standing.proofs.Site.{layout-of, progress-of, alike, loaded-many}
+use Rattle.standing.proofs.Stands.{behind, Site, Stands}
+use Rattle.standing.proofs.Site.{layout-of, alike, loaded-many}
 use Rattle.standing.proofs.Step.{Comes, step-ready, step-comes}
 use Rattle.running.proofs.Rust.{answerIn, in-step}
 use Rattle.demand.proofs.Agrees.{begun-of}
-
--- a progress is 47 numbers
-numbers-many : (g : Progress) → _≡_ {A = ℕ} (length (progressNumbers g)) 47
-unfolding progressNumbers padded
-numbers-many g = refl
 
 -- a row that is refused is no acceptance
 refused-not : {X : Type 0} (n a b : ℕ) → refuse n a b ≡ Accepted → X

@@ -9,6 +9,7 @@ use borrow.Author.Tests.{eq-eqb, ne-eqb, eqb-true}
 use lib.Dec.{eqb}
 use lib.ListN.{getD}
 use Rattle.sheet.specs.declared.Counts.{Counts}
+use Rattle.sheet.specs.declared.Reading.{Reading}
 use Rattle.sheet.specs.declared.Reading.the-variants.{Sheet as Read, Refused}
 use Rattle.sheet.specs.declared.Starts.{Starts}
 use Rattle.sheet.specs.Sheet.{Sheet, Outcome, accepted, refused, readSheet, sheetOf}
@@ -33,10 +34,10 @@ agree a b h = go (eqb a b) refl h
     go true q k = eqb-true a b q
     go false q k = absurd (false≢true (sym k))
 
-module _ (s : List ℕ) {z : Starts} (e : (sheet : Sheet) × (sheetOf s ≡ accepted sheet z)) where
+module _ (s : List ℕ) {z : Starts} (e : (sheet : Sheet) × (readSheet s ≡ accepted sheet z)) where
   -- the sheet as it is read, and its shape
   read : readSheet s ≡ accepted (e .0) z
-  read = alone-read s (e .0) z (e .1) .0
+  read = e .1
 
   pub holds : Holds s z
   holds = (e .0, read)
@@ -45,7 +46,7 @@ module _ (s : List ℕ) {z : Starts} (e : (sheet : Sheet) × (sheetOf s ≡ acce
   shape = read-whole s (e .0) z (read) .shape
 
   -- a refusal, or none
-  refuses : (number line : ℕ) → 0 < number → refusalOf (e .0) ≡ number → Names (e .0) number line → Answers (sheetOf s) (Refused number line)
+  refuses : (number line : ℕ) → 0 < number → refusalOf (e .0) ≡ number → Names (e .0) number line → Answers (readSheet s) (Refused number line)
   refuses number line a f n = subst (λ (o : Outcome). Answers o (Refused number line)) (sym (e .1)) (record { applies = a; first = f; names = n })
 
   -- the tests, over the places' counts
@@ -55,11 +56,11 @@ module _ (s : List ℕ) {z : Starts} (e : (sheet : Sheet) × (sheetOf s ≡ acce
   blocks-is : {b : Bool} → eqb (z .counts .k) 0 ≡ b → eqb (e .0 .counts .k) 0 ≡ b
   blocks-is q = ap (λ (c : Counts). eqb (c .k) 0) (sym (shape .same-counts)) ∙ q
 
-  pub five : z .counts .flag ≡ 0 → Answers (sheetOf s) (Refused 5 0)
+  pub five : z .counts .flag ≡ 0 → Answers (readSheet s) (Refused 5 0)
   unfolding refusalOf
   five f = refuses 5 0 (omega arith) (simp (flag-is (eq-eqb _ 0 f))) refl
 
-  pub six : (z .counts .flag ≡ 0 → ⊥) → z .counts .k ≡ 0 → Answers (sheetOf s) (Refused 6 0)
+  pub six : (z .counts .flag ≡ 0 → ⊥) → z .counts .k ≡ 0 → Answers (readSheet s) (Refused 6 0)
   unfolding refusalOf
   six f k = refuses 6 0 (omega arith) (simp (flag-is (ne-eqb _ 0 f), blocks-is (eq-eqb _ 0 k))) refl
 
@@ -91,13 +92,13 @@ module _ (s : List ℕ) {z : Starts} (e : (sheet : Sheet) × (sheetOf s ≡ acce
     slope : hasSlope (e .0) ≡ v
     slope = sym (told (e .0) read)
 
-    pub seven : v ≡ true → Answers (sheetOf s) (Refused 7 0)
+    pub seven : v ≡ true → Answers (readSheet s) (Refused 7 0)
     unfolding refusalOf
     seven u = refuses 7 0 (omega arith) (simp (flag-is (ne-eqb _ 0 f), blocks-is (ne-eqb _ 0 k), slope ∙ u)) refl
 
     -- where 7 does not apply
     module _ (u : v ≡ false) {m : List ℕ} (levels : (sheet : Sheet) → readSheet s ≡ accepted sheet z → m ≡ padded 8 (levelList (sheet .blocks))) {t : ℕ} (total : t ≡ sum (λ i. getD m i 0) 8) where
-      pub eight : not (eqb t (z .counts .q)) ≡ true → Answers (sheetOf s) (Refused 8 0)
+      pub eight : not (eqb t (z .counts .q)) ≡ true → Answers (readSheet s) (Refused 8 0)
       unfolding refusalOf
       eight w =
           refuses 8 0 (omega arith)
@@ -113,17 +114,17 @@ module _ (s : List ℕ) {z : Starts} (e : (sheet : Sheet) × (sheetOf s ≡ acce
         answer : Found (e .0) r
         answer = found (e .0) read (levels (e .0) read)
 
-        pub nine : 0 < r → Answers (sheetOf s) (Refused 9 r)
+        pub nine : 0 < r → Answers (readSheet s) (Refused 9 r)
         nine h = go answer
           where
-            go : Found (e .0) r → Answers (sheetOf s) (Refused 9 r)
+            go : Found (e .0) r → Answers (readSheet s) (Refused 9 r)
             go (inl x) = absurd (omega (arith, x .0))
             go (inr x) = refuses 9 r (omega arith) (from-nine (line-faulty (e .0) r (x .1))) (x .1)
 
-        pub none : r ≤ 0 → Answers (sheetOf s) (Read z)
+        pub none : r ≤ 0 → Answers (readSheet s) (Read z)
         none h = go answer
           where
-            go : Found (e .0) r → Answers (sheetOf s) (Read z)
+            go : Found (e .0) r → Answers (readSheet s) (Read z)
             go (inl x) = subst (λ (o : Outcome). Answers o (Read z)) (sym (e .1)) (from-nine (x .1), refl)
             go (inr x) = absurd (omega (arith, x .0))
 
@@ -135,3 +136,10 @@ reading-sheet (refused number line) e = let q : _≡_ {A = ℕ} 0 1 = cc in absu
 pub reading-refused : (o : Outcome) {number line : ℕ} → Refused number line ≡ readingOf o → Answers o (Refused number line)
 reading-refused (accepted sheet starts) e = let q : _≡_ {A = ℕ} 0 1 = cc in absurd (omega arith)
 reading-refused (refused number line) e = e
+
+-- what is said of the sheet read is said of the whole bytes where that is all of them
+pub whole-answer : (s : List ℕ) {z : Starts} (r : Reading) → (sheet : Sheet) × (sheetOf s ≡ accepted sheet z) → Answers (readSheet s) r → Answers (sheetOf s) r
+whole-answer s {z} r e a = subst (λ (o : Outcome). Answers o r) (alone-read s (e .0) z (e .1) .0 ∙ sym (e .1)) a
+
+pub whole-read : (s : List ℕ) {z : Starts} → (sheet : Sheet) × (sheetOf s ≡ accepted sheet z) → (sheet : Sheet) × (readSheet s ≡ accepted sheet z)
+whole-read s {z} e = (e .0, alone-read s (e .0) z (e .1) .0)

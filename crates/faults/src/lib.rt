@@ -2,13 +2,13 @@
 use sheet::Reading;
 use sheet::Starts;
 ghost use mathlib.Core.Path.{_≡_};
-ghost use Rattle.sheet.specs.Sheet.{Sheet, accepted, sheetOf};
+ghost use Rattle.sheet.specs.Sheet.{Sheet, accepted, readSheet, sheetOf};
 ghost use Rattle.sheet.specs.Answer.{Answers};
 
-// What 5 to 9 say of a sheet that 1 to 4 do not refuse, whose lines start at z.
+// What 5 to 9 say of a sheet that 1 to 4 do not refuse, whose lines start at z, whatever stands behind it.
 pub fn judged(s: &[u8], z: Starts) -> Reading
-    requires { ⌜ ((sheet : Sheet) × (sheetOf (now s) ≡ accepted sheet z)) ⌝ }
-    ensures { λ r. ⌜ Answers (sheetOf (now (s .entry))) r ⌝ }
+    requires { ⌜ ((sheet : Sheet) × (readSheet (now s) ≡ accepted sheet z)) ⌝ }
+    ensures { λ r. ⌜ Answers (readSheet (now (s .entry))) r ⌝ }
 {
     if z.counts.flag == 0 {
         return Reading::Refused { number: 5, line: 0 };
@@ -33,6 +33,17 @@ pub fn judged(s: &[u8], z: Starts) -> Reading
         };
     }
     Reading::Sheet(z)
+}
+
+// What 1 to 9 say of the sheet that any bytes begin with.
+pub fn first_answer(s: &[u8]) -> Reading
+    ensures { λ r. ⌜ Answers (readSheet (now (s .entry))) r ⌝ }
+{
+    let r = reader::read(s);
+    match r {
+        Reading::Sheet(z) => judged(s, z),
+        Reading::Refused { number, line } => Reading::Refused { number, line },
+    }
 }
 
 // What 1 to 9 say of any bytes.

@@ -67,7 +67,7 @@ fn load_allowed(s: &[u8], z: Starts, y: Layout, h: &mut [u32], w: &mut [f64]) ->
 }
 
 // A sheet that 1 to 9 do not refuse: 10 and 11, then 12, or it is loaded.
-fn load_sheet(s: &[u8], z: Starts, h: &mut [u32], w: &mut [f64]) -> Answer
+pub fn load_sheet(s: &[u8], z: Starts, h: &mut [u32], w: &mut [f64]) -> Answer
     requires { ⌜ ((sheet : Sheet) × (readSheet (now s) ≡ accepted sheet z) × (refusalOf sheet ≡ 0)) ⌝ }
     ensures { λ r. ⌜ ((sheet : Sheet) → readSheet (now (s .entry)) ≡ accepted sheet z → record { answer = r; left = space (now (h .exit)) (now (w .exit)) } ≡ loadSheet sheet (now (h .entry)) (now (w .entry))) ⌝ }
 {

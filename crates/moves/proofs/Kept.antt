@@ -1,37 +1,27 @@
--- A workspace whose heading is lawful has a lawful one after any step, refused or not: 20 has not to be looked for again.
-use Prim.Native.Nat.{ℕ, zero, suc, _+_, _<_, _≤_}
+-- A heading with a new progress: its layout is the old one, the progress is read back, and it is refused with 20 no more than the old one.
+use Prim.Native.Nat.{ℕ, _+_, _<_, _≤_}
 use mathlib.Core.Path.{_≡_, refl, sym, ap, ap₂, fun-ext, _∙_}
-use mathlib.Core.Bool.{Bool, true, false, not, _&&_, _||_, and-eq-true-iff, true≢false}
-use mathlib.Core.List.{List, [], _∷_, _++_}
+use mathlib.Core.Bool.{Bool, true, not, _&&_, _||_, and-eq-true-iff}
+use mathlib.Core.List.{List, []}
 use mathlib.Core.Logic.{inl, inr}
-use mathlib.Core.Option.{Option, none, some}
 use native.Mathlib.Omega.{arith}
 use lib.Dec.{leb, ltb, eqb}
-use lib.ListN.{length, getD, take, drop}
-use lib.Ieee.{Float}
-use lib.Seq.{length-take-le}
-use Rattle.storage.specs.Part.{part, store}
-use Rattle.storage.proofs.Parts.{length-part, length-store, part-in, part-else, store-else, store-in}
-use Rattle.order.specs.Steps.{Step, named, after}
-use Rattle.order.specs.Progress.{all, done}
-use Rattle.order.proofs.Sets.{named-iff, ready-after}
+use lib.ListN.{length, getD}
+use Rattle.storage.specs.Part.{part}
+use Rattle.storage.proofs.Parts.{length-store, part-in, part-else, store-else, store-in}
 use Rattle.layout.specs.declared.Layout.{Layout}
 use Rattle.layout.specs.declared.Progress.{Progress}
 use Rattle.layout.specs.declared.State.{State}
 use Rattle.layout.specs.declared.State.the-variants.{Idle, UnderWay, Finished}
 use Rattle.layout.specs.Blocks.{padded}
-use Rattle.layout.specs.Shapes.{pick, levels, numbersNeeded, doublesNeeded}
-use Rattle.layout.specs.Heading.{stateNumber, stateOf, layoutNumbers, progressNumbers, written, layoutOf, progressOf, stageOf, entryRow, every, lawful, progressLawful, idle, headed}
+use Rattle.layout.specs.Shapes.{levels, numbersNeeded, doublesNeeded}
+use Rattle.layout.specs.Heading.{stateNumber, stateOf, layoutNumbers, progressNumbers, written, layoutOf, progressOf, entryRow, every, lawful, progressLawful, headed}
 use Rattle.layout.proofs.Fits.{fits}
-use Rattle.layout.proofs.Lawful.{is-lawful}
-use Rattle.layout.proofs.Heading.{idle-lawful, progress-back}
+use Rattle.layout.proofs.Heading.{progress-back}
 use Rattle.workspace.specs.Memory.{headingWith}
-use Rattle.workspace.specs.Answers.{Outcome, space, untouched}
-use Rattle.update.specs.Calls.{advanced, isUnderWay, stepped, dropped, refusedBy, onPivot, stepOf}
-use Rattle.moves.proofs.Moves.{lawfully, length-advanced, lawful-advanced}
 
 -- a progress is 47 numbers: the state, the steps left, 45 stages
-numbers-many : (g : Progress) → _≡_ {A = ℕ} (length (progressNumbers g)) 47
+pub numbers-many : (g : Progress) → _≡_ {A = ℕ} (length (progressNumbers g)) 47
 unfolding progressNumbers padded
 numbers-many g = refl
 
@@ -169,53 +159,3 @@ module _ (h : List ℕ) (doubles : ℕ) (ok : headed h doubles ≡ true) (g : Pr
       ∙ rw (layout-kept h long g, progress-read h long g many, length-kept h long g, number-kept h long g 20 (omega arith), number-kept h long g 21 (omega arith), a, r)
       (nine-exchanged (layoutOf h) (progressOf h) (length h) (getD h 20 0) (getD h 21 0) (getD h 22 0) (entryRow h) doubles g (stateNumber (g .state)) (state-small (g .state)) lawfully′
       (sym (headed-nine h doubles) ∙ ok))
-
--- ---- any step
--- a choice, with the test known
-pick-case : (P : Outcome → Type 0) (b : Bool) (x z : Outcome) → (b ≡ true → P x) → (b ≡ false → P z) → P (pick b x z)
-pick-case P true x z f g = f refl
-pick-case P false x z f g = g refl
-
-is-under-way : (s : State) → isUnderWay s ≡ true → s ≡ UnderWay
-is-under-way Idle e = absurd (true≢false (sym e))
-is-under-way UnderWay e = refl
-is-under-way Finished e = absurd (true≢false (sym e))
-
--- a heading has 45 stages
-stages-many : (h : List ℕ) → 128 ≤ length h → length (progressOf h .stages) ≡ 45
-unfolding progressOf
-stages-many h long = length-part 24 45 h (omega arith)
-
-module _ (h : List ℕ) (w : List Float) (doubles : ℕ) (ok : headed h doubles ≡ true) where
-  abbrev Good : Outcome → Type 0
-  Good o = headed (o .left .heading) doubles ≡ true
-
-  few : layoutOf h .k ≤ 8
-  few = is-lawful (layoutOf h) (fits h doubles ok .layout) .blocks .1
-
-  -- a refused pivot leaves none, and an accepted step one more
-  pivot-good : (r : Option ℕ) (s : Step) → isUnderWay (progressOf h .state) ≡ true → named (layoutOf h .k) s ≡ true → done (stageOf (progressOf h)) s ≡ false
-      → all (done (stageOf (progressOf h))) (after s) ≡ true → Good (onPivot h w r s)
-  unfolding stepped
-  pivot-good none s u n d f =
-      let l = fits h doubles ok in
-      let k : ℕ = layoutOf h .k in
-      let g : Progress = progressOf h in
-      let m : length (g .stages) ≡ 45 = stages-many h (l .long) in
-      let q = named-iff k s .0 n in
-      let r = ready-after k (stageOf g) (lawfully k g (l .progress) .most) (done (stageOf g)) (λ x y. refl) s q .1 (d, f) in
-      headed-with h doubles ok (advanced g s) (length-advanced k few g m s q) (lawful-advanced k few g m s q (l .progress) (is-under-way (g .state) u) r)
-  pivot-good (some r) s u n d f = headed-with h doubles ok (idle (layoutOf h .k)) refl (idle-lawful (layoutOf h .k) few)
-
-  -- Whatever is asked for and whatever comes, the heading stays lawful.
-  pub step-headed : (s : Step) → headed (stepOf h w s .left .heading) doubles ≡ true
-  unfolding stepOf
-  step-headed s =
-      let d : Step → Bool = done (stageOf (progressOf h)) in
-      pick-case Good (headed h (length w)) _ _
-      (λ e. pick-case Good (isUnderWay (progressOf h .state)) _ _
-      (λ u. pick-case Good (named (layoutOf h .k) s) _ _
-      (λ n. pick-case Good (d s) _ _ (λ x. ok) (λ x. pick-case Good (all d (after s)) _ _ (λ f. pivot-good (refusedBy h w s) s u n x f) (λ f. ok)))
-      (λ n. ok))
-      (λ u. ok))
-      (λ e. ok)

@@ -91,7 +91,7 @@ fn pivot_place(y: Layout, j: u64, r: u64) -> usize
 }
 
 // Pivot r of block j.
-fn read_pivot(y: Layout, w: &[f64], j: u64, r: u64) -> f64
+pub fn read_pivot(y: Layout, w: &[f64], j: u64, r: u64) -> f64
     requires { ⌜ (lawful y ≡ true) × (doublesNeeded y ≤ length (now w)) × (j ≤ y .k) × (r < rowsOf y j) ⌝ }
     ensures { λ v. ⌜ v ≡ pivotAt y (now (w .entry)) j r ⌝ }
 {

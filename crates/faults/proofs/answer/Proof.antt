@@ -1,7 +1,7 @@
 -- `faults::answer`: 1 to 4 as the reader says, else 5 to 9.
 use mathlib.Core.Path.{sym, _∙_}
 use Rattle.sheet.specs.Sheet.{sheetOf}
-use Rattle.faults.proofs.Order.{reading-sheet, reading-refused}
+use Rattle.faults.proofs.Order.{reading-sheet, reading-refused, whole-read, whole-answer}
 use borrow.Author.Needs.{needs}
 use Rattle.faults.proofs.answer.Statement.{statement}
 use Rattle.faults.proofs.answer.Tie as tie
@@ -13,13 +13,13 @@ enum-known-r : tie.Need-enum-known-r
 enum-known-r c = search needs
 
 judged-requires : tie.Need-judged-requires
-judged-requires c κs = reading-sheet _ (sym (c .before .r .given .1) ∙ c .before .before .before .sheet .ensures)
+judged-requires c κs = whole-read _ (reading-sheet _ (sym (c .before .r .given .1) ∙ c .before .before .before .sheet .ensures))
 
 enum-known-r-2 : tie.Need-enum-known-r-2
 enum-known-r-2 c = search needs
 
 returns : tie.Need-returns
-returns c = search needs
+returns c = whole-answer _ _ (reading-sheet _ (sym (c .before .before .r .given .1) ∙ c .before .before .before .before .sheet .ensures)) (c .judged .ensures)
 
 returns-2 : tie.Need-returns-2
 returns-2 c =
