@@ -60,6 +60,45 @@ nan-pivot :
 unfolding printed ended
 nan-pivot = refl
 
+-- two blocks, the smaller one first in the sheet: block 0 is the larger. The numbers are those of a plain script (tools/factor_list.py).
+abbrev twoBlocks : List String
+twoBlocks =
+    "size 5 1 3 2 1"
+    ∷ "block 1 1"
+    ∷ "block 2 1"
+    ∷ "zz 0 0 4008000000000000"
+    ∷ "zz 0 1 4000000000000000"
+    ∷ "zz 0 2 3ff0000000000000"
+    ∷ "zz 1 0 4000000000000000"
+    ∷ "zz 1 1 4000000000000000"
+    ∷ "zz 2 0 3ff0000000000000"
+    ∷ "zz 2 2 3ff0000000000000"
+    ∷ "zx 0 0 4008000000000000"
+    ∷ "zx 1 0 4000000000000000"
+    ∷ "zx 2 0 3ff0000000000000"
+    ∷ "zy 0 4010000000000000"
+    ∷ "zy 1 4008000000000000"
+    ∷ "zy 2 3ff0000000000000"
+    ∷ "xx 0 0 4014000000000000"
+    ∷ "xy 0 4018000000000000"
+    ∷ "yy 4040000000000000"
+    ∷ "theta 0 3ff0000000000000"
+    ∷ "theta 1 4000000000000000"
+    ∷ []
+
+abbrev twoPivots : List String
+twoPivots =
+    "pivot 0 0 4008000000000000"
+    ∷ "pivot 0 1 4001e3779b97f4a8"
+    ∷ "pivot 1 0 3ff314c3d92a9e91"
+    ∷ "pivot 2 0 3ff83fab8b4d4315"
+    ∷ "pivot 2 1 4013d11cfb190a01"
+    ∷ []
+
+sorted-blocks : printed (ended twoBlocks) ≡ ended twoPivots
+unfolding printed ended
+sorted-blocks = refl
+
 -- flag 0 is 5, before the theta part is read
 flag-answers : Answers (readSheet (ended (with-line 1 "size 3 1 1 1 0" sheetLines))) (Refused 5 0)
 unfolding reading ended
