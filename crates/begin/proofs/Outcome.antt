@@ -19,13 +19,13 @@ use Rattle.layout.specs.Heading.{layoutOf, entryRow, lawful, underWay, headed}
 use Rattle.workspace.specs.Memory.{headingWith}
 use Rattle.workspace.specs.Answers.{space, accept, firstInfinite}
 use Rattle.layout.proofs.Fits.{fits}
-use Rattle.heading.specs.Small.{SmallProgress}
+use Rattle.heading_writer.specs.Small.{SmallProgress}
 use Rattle.progress.proofs.Count.{triple-small, step-count}
 use Rattle.finite.specs.Found.{foundAt}
 use Rattle.update.specs.Calls.{begun, beginOf}
 use Rattle.started.specs.Started.{sortedTheta}
-use Rattle.begin.specs.Begun.{DoublesBegun}
-use Rattle.begin.proofs.Stored.{blocks-stored}
+use Rattle.begin_writes.specs.Begun.{DoublesBegun}
+use Rattle.begin_writes.proofs.Stored.{blocks-stored}
 
 -- ---- an update just begun fits the heading
 

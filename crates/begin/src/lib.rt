@@ -1,10 +1,6 @@
-// Begin (document 01, Record 4): theta is kept, every working block becomes its loaded block scaled, the sum of the logarithms is +0.0 and every step is
+// Begin (document 01, Record 4): theta is kept, every working block becomes its loaded block scaled, the sum of the logarithms is +0.0 and every
+// step is
 // left; and its refusals 20, 13 and 14. What it answers and leaves is defined in the crate update, specs/Calls.antt.
-use layout::Layout;
-use layout::Progress;
-use layout::State;
-use refusal::Answer;
-use refusal::Refusal;
 ghost use mathlib.Core.Path.{_≡_};
 ghost use mathlib.Core.Bool.{true};
 ghost use Prim.Native.Nat.{_≤_};
@@ -15,7 +11,10 @@ ghost use Rattle.refusal.specs.Numbers.{refusal};
 ghost use Rattle.workspace.specs.Memory.{headingWith};
 ghost use Rattle.workspace.specs.Answers.{space};
 ghost use Rattle.update.specs.Calls.{beginOf};
-ghost use Rattle.begin.specs.Begun.{DoublesBegun};
+ghost use Rattle.begin_writes.specs.Begun.{DoublesBegun};
+use layout::Layout;
+use refusal::Answer;
+use refusal::Refusal;
 
 // A number and its two places.
 fn refused(number: u64, first: u64, second: u64) -> Refusal
@@ -28,39 +27,13 @@ fn refused(number: u64, first: u64, second: u64) -> Refusal
     }
 }
 
-// An update just begun: no step is done, every one is left.
-fn under_way(k: u64) -> Progress
-    requires { ⌜ k ≤ 8 ⌝ }
-    ensures { λ r. ⌜ r ≡ underWay k ⌝ }
-{
-    let left = progress::step_count(k);
-    Progress {
-        state: State::UnderWay,
-        left,
-        stages: [0; 45],
-    }
-}
-
-// Theta, the working blocks and the sum.
-fn write_doubles(y: Layout, w: &mut [f64], theta: &[f64])
-    requires { ⌜ (lawful y ≡ true) × (length (now theta) ≡ y .k) × (doublesNeeded y ≤ length (now w)) ⌝ }
-    ensures { λ _. ⌜ DoublesBegun y (now (theta .entry)) (now (w .entry)) (now (w .exit)) ⌝ }
-{
-    let at = places::theta_at(y);
-    let sum = places::sum_at(y);
-    let k = theta.len();
-    runs::put(w, at, at + k, 0, k, theta);
-    started::start_blocks(y, w, theta);
-    w[sum] = 0.0;
-}
-
 // The doubles, and the progress of an update just begun.
 fn write(y: Layout, h: &mut [u32], w: &mut [f64], theta: &[f64])
     requires { ⌜ (128 ≤ length (now h)) × (lawful y ≡ true) × (length (now theta) ≡ y .k) × (doublesNeeded y ≤ length (now w)) ⌝ }
     ensures { λ _. ⌜ (now (h .exit) ≡ headingWith (now (h .entry)) (underWay (y .k))) × DoublesBegun y (now (theta .entry)) (now (w .entry)) (now (w .exit)) ⌝ }
 {
-    write_doubles(y, w, theta);
-    heading::write_progress(h, under_way(y.k));
+    begin_writes::write_doubles(y, w, theta);
+    heading_writer::write_progress(h, begin_writes::under_way(y.k));
 }
 
 // Begin in a workspace: 13 where theta has another length than there are blocks, 14 where one is infinite or NaN; else all is written.

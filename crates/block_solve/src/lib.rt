@@ -3,7 +3,7 @@ ghost use mathlib.Core.Path.{_≡_};
 ghost use Prim.Native.Nat.{_+_, _≤_};
 ghost use lib.ListN.{length};
 ghost use Rattle.storage.specs.Shape.{packed, sizeOf};
-ghost use Rattle.re_factor.specs.Factor.{solvedForward, solvedBackward, divided};
+ghost use Rattle.re_factor.specs.Factor.{solvedForward, solvedBackward};
 
 // Forward substitution of the n entries at z of v with the packed factor at off of w.
 pub fn forward(v: &mut [f64], z: usize, w: &[f64], off: usize, n: usize)
@@ -22,17 +22,5 @@ pub fn backward(v: &mut [f64], z: usize, w: &[f64], off: usize, n: usize)
 {
     let last = z + n;
     let end = off + re_lower::row_start(n);
-    substitution::backward(&mut v[z..last], &w[off..end], n);
-}
-
-// Either of them with a diagonal factor: each entry divided by its pivot.
-pub fn divide(v: &mut [f64], z: usize, w: &[f64], off: usize, n: usize)
-    requires { ⌜ (z + n ≤ length (now v)) × (off + n ≤ length (now w)) ⌝ }
-    ensures { λ _. ⌜ now (v .exit) ≡ divided z off n (now (w .entry)) (now (v .entry)) ⌝ }
-{
-    let mut i = 0;
-    while i < n {
-        v[z + i] = v[z + i] / w[off + i];
-        i += 1;
-    }
+    back_substitution::backward(&mut v[z..last], &w[off..end], n);
 }

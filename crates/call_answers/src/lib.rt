@@ -75,7 +75,7 @@ pub fn of_deviance(d: Deviance) -> Told {
 pub fn is_told(t: Told, head: &[u64; 20]) -> bool {
     let r = t.refusal;
     let places = (r.number == head[10]) & (r.first == head[11]) & (r.second == head[12]);
-    (t.how == head[9]) & places & vector_list::agrees(head[13], head[13], t.value)
+    (t.how == head[9]) & places & agreement::agrees(head[13], head[13], t.value)
 }
 
 // Counts a call by its answer and by what it left in h and w; what must be left follows from its body. False where the body says what

@@ -16,7 +16,7 @@ pub fn divide_columns(w: &mut [f64], x: Numbers) -> Answer
     if sizes::clash(w.len(), off, size, pivots, cols) {
         return answer::out_of_form();
     }
-    cross_block::divide_columns(w, off, rows, cols, pivots);
+    divide_columns::divide_columns(w, off, rows, cols, pivots);
     answer::nothing()
 }
 

@@ -21,7 +21,7 @@ pub fn packed_block(f: u64, w: &mut [f64], x: Numbers, s: f64) -> Answer
     if f == 0 {
         return answer::verdict(cholesky::chol(&mut w[off..], n));
     }
-    answer::double(substitution::log_pivots(&w[off..], n, s))
+    answer::double(pivot_logs::log_pivots(&w[off..], n, s))
 }
 
 // chol_diagonal and log_diagonal.
@@ -36,7 +36,7 @@ pub fn diagonal_block(f: u64, w: &mut [f64], x: Numbers, s: f64) -> Answer
     if f == 1 {
         return answer::verdict(re_lower::chol_diagonal(&mut w[off..], n));
     }
-    answer::double(substitution::log_diagonal(&w[off..], n, s))
+    answer::double(pivot_logs::log_diagonal(&w[off..], n, s))
 }
 
 // solve_row and backward.
@@ -56,7 +56,7 @@ pub fn solve(f: u64, w: &mut [f64], v: &[f64], x: Numbers) -> Answer
         substitution::solve_row(&mut w[off..], &v[l..], n);
         return answer::nothing();
     }
-    substitution::backward(&mut w[off..], &v[l..], n);
+    back_substitution::backward(&mut w[off..], &v[l..], n);
     answer::nothing()
 }
 

@@ -26,7 +26,7 @@ pub fn subtract_dense(w: &mut [f64], x: Numbers) -> Answer
     if sizes::clash(w.len(), off, size, b, right) {
         return answer::out_of_form();
     }
-    schur::subtract_dense(w, off, rows, cols, a, b, inner);
+    schur_dense::subtract_dense(w, off, rows, cols, a, b, inner);
     answer::nothing()
 }
 
@@ -47,9 +47,9 @@ pub fn subtract_square(f: u64, w: &mut [f64], x: Numbers) -> Answer
         return answer::out_of_form();
     }
     if f == 14 {
-        schur::rank_sub(w, off, rows, a, inner);
+        rank_dense::rank_sub(w, off, rows, a, inner);
         return answer::nothing();
     }
-    schur::subtract_last(w, off, rows, a, inner);
+    schur_last::subtract_last(w, off, rows, a, inner);
     answer::nothing()
 }

@@ -89,7 +89,7 @@ pub fn same_doubles(w: &[f64], words: &[u64], from: usize, n: usize) -> bool
     let mut i: usize = 0;
     while i < w.len() {
         let x = word(words, from, n, i);
-        if !vector_list::agrees(x, x, w[i]) {
+        if !agreement::agrees(x, x, w[i]) {
             return false;
         }
         i += 1;

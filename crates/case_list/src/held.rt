@@ -69,7 +69,7 @@ fn same_words(w: &[f64], words: &[u64], free: usize, end: usize) -> bool
     let mut i: usize = 0;
     while i < w.len() {
         let x = words[i];
-        let ok = vector_list::agrees(x, x, w[i]);
+        let ok = agreement::agrees(x, x, w[i]);
         if !ok & ((i < free) | (end <= i)) {
             return false;
         }
@@ -81,7 +81,7 @@ fn same_words(w: &[f64], words: &[u64], free: usize, end: usize) -> bool
 // Whether a kernel's answer is that of the head: words 11 and 12.
 fn same_answer(head: &[u64; 20], a: Answer) -> bool {
     let x = head[12];
-    let value = vector_list::agrees(x, x, a.value);
+    let value = agreement::agrees(x, x, a.value);
     (a.row == head[11]) & value
 }
 

@@ -10,16 +10,16 @@ fn print_lower(f: usize) {
             io::write_all(STDOUT_FILENO, b"re_lower::chol_diagonal");
         }
         2 => {
-            io::write_all(STDOUT_FILENO, b"substitution::log_pivots");
+            io::write_all(STDOUT_FILENO, b"pivot_logs::log_pivots");
         }
         3 => {
-            io::write_all(STDOUT_FILENO, b"substitution::log_diagonal");
+            io::write_all(STDOUT_FILENO, b"pivot_logs::log_diagonal");
         }
         4 => {
             io::write_all(STDOUT_FILENO, b"substitution::solve_row");
         }
         5 => {
-            io::write_all(STDOUT_FILENO, b"substitution::backward");
+            io::write_all(STDOUT_FILENO, b"back_substitution::backward");
         }
         6 => {
             io::write_all(STDOUT_FILENO, b"re_lower::get");
@@ -33,7 +33,7 @@ fn print_lower(f: usize) {
 fn print_cross(f: usize) {
     match f {
         8 => {
-            io::write_all(STDOUT_FILENO, b"cross_block::divide_columns");
+            io::write_all(STDOUT_FILENO, b"divide_columns::divide_columns");
         }
         9 => {
             io::write_all(STDOUT_FILENO, b"sparse_schur::subtract_sparse");
@@ -53,13 +53,13 @@ fn print_cross(f: usize) {
 fn print_products(f: usize) {
     match f {
         13 => {
-            io::write_all(STDOUT_FILENO, b"schur::subtract_dense");
+            io::write_all(STDOUT_FILENO, b"schur_dense::subtract_dense");
         }
         14 => {
-            io::write_all(STDOUT_FILENO, b"schur::rank_sub");
+            io::write_all(STDOUT_FILENO, b"rank_dense::rank_sub");
         }
         _ => {
-            io::write_all(STDOUT_FILENO, b"schur::subtract_last");
+            io::write_all(STDOUT_FILENO, b"schur_last::subtract_last");
         }
     }
 }
@@ -76,7 +76,7 @@ fn print_vectors(f: usize) {
             io::write_all(STDOUT_FILENO, b"sparse_matvec::less_sparse");
         }
         _ => {
-            io::write_all(STDOUT_FILENO, b"sparse_matvec::less_sparse_t");
+            io::write_all(STDOUT_FILENO, b"sparse_matvec_t::less_sparse_t");
         }
     }
 }
@@ -84,7 +84,7 @@ fn print_vectors(f: usize) {
 fn print_factor(f: usize) {
     match f {
         20 => {
-            io::write_all(STDOUT_FILENO, b"diagonal_init::init");
+            io::write_all(STDOUT_FILENO, b"triangle_init::init");
         }
         21 => {
             io::write_all(STDOUT_FILENO, b"diagonal_init::init_diagonal");
@@ -96,16 +96,16 @@ fn print_factor(f: usize) {
             io::write_all(STDOUT_FILENO, b"re_factor::chol_diagonal");
         }
         24 => {
-            io::write_all(STDOUT_FILENO, b"re_factor::log_pivots");
+            io::write_all(STDOUT_FILENO, b"block_logs::log_pivots");
         }
         25 => {
-            io::write_all(STDOUT_FILENO, b"re_factor::log_diagonal");
+            io::write_all(STDOUT_FILENO, b"block_logs::log_diagonal");
         }
         26 => {
-            io::write_all(STDOUT_FILENO, b"re_factor::logs_later");
+            io::write_all(STDOUT_FILENO, b"block_logs::logs_later");
         }
         27 => {
-            io::write_all(STDOUT_FILENO, b"re_factor::logs_later_diagonal");
+            io::write_all(STDOUT_FILENO, b"block_logs::logs_later_diagonal");
         }
         28 => {
             io::write_all(STDOUT_FILENO, b"block_solve::forward");
@@ -114,7 +114,7 @@ fn print_factor(f: usize) {
             io::write_all(STDOUT_FILENO, b"block_solve::backward");
         }
         _ => {
-            io::write_all(STDOUT_FILENO, b"block_solve::divide");
+            io::write_all(STDOUT_FILENO, b"block_divide::divide");
         }
     }
 }
@@ -125,7 +125,10 @@ fn print_diagonal(f: usize) {
             io::write_all(STDOUT_FILENO, b"rank_diagonal::rank_sub_diagonal");
         }
         _ => {
-            io::write_all(STDOUT_FILENO, b"rank_diagonal::rank_sub_diagonal_sparse");
+            io::write_all(
+                STDOUT_FILENO,
+                b"rank_diagonal_sparse::rank_sub_diagonal_sparse",
+            );
         }
     }
 }

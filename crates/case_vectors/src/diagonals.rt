@@ -45,6 +45,6 @@ pub fn rank_sub_diagonal_sparse(w: &mut [f64], h: &[u32], x: Numbers) -> Answer
     if sizes::beyond(h.len(), first, inner) {
         return answer::out_of_form();
     }
-    rank_diagonal::rank_sub_diagonal_sparse(w, off, n, a, inner, src, h, first);
+    rank_diagonal_sparse::rank_sub_diagonal_sparse(w, off, n, a, inner, src, h, first);
     answer::nothing()
 }

@@ -15,7 +15,7 @@ pub fn init(w: &mut [f64], x: Numbers, t: f64) -> Answer
     if sizes::clash(w.len(), off, size, src, n) {
         return answer::out_of_form();
     }
-    diagonal_init::init(w, off, n, src, t);
+    triangle_init::init(w, off, n, src, t);
     answer::nothing()
 }
 
@@ -45,9 +45,9 @@ pub fn packed_block(f: u64, w: &mut [f64], x: Numbers, s: f64) -> Answer
         return answer::verdict(re_factor::chol(w, off, n));
     }
     if f == 24 {
-        return answer::double(re_factor::log_pivots(w, off, n, s));
+        return answer::double(block_logs::log_pivots(w, off, n, s));
     }
-    answer::double(re_factor::logs_later(w, off, n, s))
+    answer::double(block_logs::logs_later(w, off, n, s))
 }
 
 // chol_diagonal, log_diagonal and logs_later_diagonal.
@@ -63,9 +63,9 @@ pub fn diagonal_block(f: u64, w: &mut [f64], x: Numbers, s: f64) -> Answer
         return answer::verdict(re_factor::chol_diagonal(w, off, n));
     }
     if f == 25 {
-        return answer::double(re_factor::log_diagonal(w, off, n, s));
+        return answer::double(block_logs::log_diagonal(w, off, n, s));
     }
-    answer::double(re_factor::logs_later_diagonal(w, off, n, s))
+    answer::double(block_logs::logs_later_diagonal(w, off, n, s))
 }
 
 // forward and backward.
@@ -101,6 +101,6 @@ pub fn divide(w: &mut [f64], v: &[f64], x: Numbers) -> Answer
     if sizes::beyond(v.len(), off, n) {
         return answer::out_of_form();
     }
-    block_solve::divide(w, z, v, off, n);
+    block_divide::divide(w, z, v, off, n);
     answer::nothing()
 }

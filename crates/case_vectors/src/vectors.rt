@@ -86,6 +86,6 @@ pub fn less_sparse_t(w: &mut [f64], v: &[f64], h: &[u32], x: Numbers) -> Answer
     if sizes::bad_rows(h, first, cols, rows) {
         return answer::out_of_form();
     }
-    sparse_matvec::less_sparse_t(w, off, cols, z, rows, v, a, h, first);
+    sparse_matvec_t::less_sparse_t(w, off, cols, z, rows, v, a, h, first);
     answer::nothing()
 }

@@ -1,4 +1,5 @@
-// Whether each level of one block has exactly one entry with the levels of another (document 01, Record 2, the gate for k = 2), read from the zz lines.
+// Whether each level of one block has exactly one entry with the levels of another (document 01, Record 2, the gate for k = 2), read from the zz
+// lines.
 use sheet::Counts;
 use sheet::Line;
 use sheet::Starts;

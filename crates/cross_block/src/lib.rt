@@ -1,29 +1,11 @@
-// T (document 01, Record 4; the Rust's `trisolve_*`), on the whole list of doubles: the target's cells are the rule's, every other double stays.
-// Rows of cross blocks and fixed rows go through the same functions.
+// T by a packed factor (document 01, Record 4; the Rust's `trisolve_*`), on the whole list of doubles: the target's cells are the rule's, every other
+// double stays. Rows of cross blocks and fixed rows go through the same functions. specs/ has T by a diagonal too.
 ghost use mathlib.Core.Path.{_≡_};
 ghost use mathlib.Core.Logic.{_⊎_};
 ghost use Prim.Native.Nat.{_+_, _≤_, _<_};
 ghost use lib.ListN.{length};
-ghost use Rattle.storage.specs.Runs.{start, triangle};
-ghost use Rattle.storage.specs.Shape.{packed, diagonal, columns, sizeOf};
-ghost use Rattle.cross_block.specs.Blocks.{dividedColumns, solvedRows, solvedColumn};
-
-// T by a diagonal factor: each column of the dense block at off divided by its pivot.
-pub fn divide_columns(w: &mut [f64], off: usize, rows: usize, cols: usize, pivots: usize)
-    requires { ⌜ (off + sizeOf (columns rows cols) ≤ length (now w)) × (pivots + sizeOf (diagonal cols) ≤ length (now w)) ⌝ }
-    requires { ⌜ (off + sizeOf (columns rows cols) ≤ pivots) ⊎ (pivots + sizeOf (diagonal cols) ≤ off) ⌝ }
-    ensures { λ _. ⌜ now (w .exit) ≡ dividedColumns off rows cols pivots (now (w .entry)) ⌝ }
-{
-    let end = off + cols * rows;
-    let mut c = 0;
-    let mut to = 0;
-    while c < cols {
-        let p = w[pivots + c];
-        runs::divide(w, off, end, to, rows, p);
-        c += 1;
-        to += rows;
-    }
-}
+ghost use Rattle.storage.specs.Shape.{packed, columns, sizeOf};
+ghost use Rattle.cross_block.specs.Blocks.{solvedRows, solvedColumn};
 
 // Column c of the block at off, from `to` on within it, solved with the columns before it and row c of the factor, which lies from `row` on.
 fn solve_column(
@@ -39,10 +21,10 @@ fn solve_column(
     requires { ⌜ (rows ≤ length (now acc)) × (off + (to + rows) ≤ end) × (end ≤ length (now w)) × (off + sizeOf (columns rows c) ≤ length (now w)) × (row + c < length (now w)) ⌝ }
     ensures { λ _. ⌜ now (w .exit) ≡ solvedColumn (off + to) off rows row c (now (w .entry)) ⌝ }
 {
-    runs::read(acc, rows, w, off + to);
-    axpy::less_products(acc, rows, w, off, rows, w, row, 1, 0, c);
+    run_copies::read(acc, rows, w, off + to);
+    axpy_products::less_products(acc, rows, w, off, rows, w, row, 1, 0, c);
     let p = w[row + c];
-    runs::over(w, off, end, to, rows, acc, p);
+    run_quotients::over(w, off, end, to, rows, acc, p);
 }
 
 // T by the packed factor at l: forward substitution in each row of the dense block at off, all rows side by side.

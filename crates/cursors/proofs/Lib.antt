@@ -1,4 +1,1 @@
-pub mod Columns
-pub mod Entries
 pub mod Blocks
-pub mod Turns

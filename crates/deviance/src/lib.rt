@@ -1,20 +1,14 @@
 // The deviance of a finished factor (document 01, Record 6), and its refusals 20 and 25. What it answers is defined in the crate profile,
-// specs/Deviance.antt; the tail by layout, doubles and log determinant in specs/Tail.antt.
-use layout::Layout;
+// specs/Deviance.antt; the tail by layout, doubles and log determinant in the crate deviance_tail, specs/Tail.antt.
+ghost use mathlib.Core.Path.{_≡_};
+ghost use mathlib.Core.Bool.{true};
+ghost use lib.ListN.{length};
+ghost use Rattle.layout.specs.Heading.{headed};
+ghost use Rattle.refusal.specs.Numbers.{refusal};
+ghost use Rattle.profile.specs.Deviance.{isFinished, devianceFromFactor};
 use layout::State;
 use profile::Deviance;
 use refusal::Refusal;
-ghost use mathlib.Core.Path.{_≡_};
-ghost use mathlib.Core.Bool.{true};
-ghost use Prim.Native.Nat.{_≤_};
-ghost use lib.ListN.{length};
-ghost use Rattle.rules.specs.Arithmetic.{ieee};
-ghost use Rattle.rules.specs.Finish.{devianceOf};
-ghost use Rattle.layout.specs.Shapes.{doublesNeeded};
-ghost use Rattle.layout.specs.Heading.{lawful, headed};
-ghost use Rattle.refusal.specs.Numbers.{refusal};
-ghost use Rattle.profile.specs.Deviance.{isFinished, freedom, devianceFromFactor};
-ghost use Rattle.deviance.specs.Tail.{pivotOf, logDeterminantOf, devianceWith};
 
 // A number with no place.
 pub fn refused(number: u64) -> Refusal
@@ -38,61 +32,6 @@ pub fn is_finished(s: State) -> bool
     }
 }
 
-// Twice the logarithms' sum.
-pub fn log_determinant(y: Layout, w: &[f64]) -> f64
-    requires { ⌜ (lawful y ≡ true) × (doublesNeeded y ≤ length (now w)) ⌝ }
-    ensures { λ r. ⌜ r ≡ logDeterminantOf y (now (w .entry)) ⌝ }
-{
-    2.0 * w[places::sum_at(y)]
-}
-
-// n, or n - p: both are exact.
-fn freedom(y: Layout, reml: bool) -> f64
-    requires { ⌜ lawful y ≡ true ⌝ }
-    ensures { λ r. ⌜ r ≡ freedom y reml ⌝ }
-{
-    if reml {
-        return (y.n as f64) - (y.p as f64);
-    }
-    y.n as f64
-}
-
-// The last pivot of all.
-fn last_pivot(y: Layout, w: &[f64]) -> f64
-    requires { ⌜ (lawful y ≡ true) × (doublesNeeded y ≤ length (now w)) ⌝ }
-    ensures { λ r. ⌜ r ≡ pivotOf y (now (w .entry)) (y .p) ⌝ }
-{
-    let p = y.p as usize;
-    w[places::working_at(y, y.k, y.k) + re_lower::row_start(p) + p]
-}
-
-// The deviance with d and the scale s. REML adds twice the logarithms of the first p pivots of block k.
-fn value(y: Layout, w: &[f64], d: f64, s: f64, logdet: f64, reml: bool) -> f64
-    requires { ⌜ (lawful y ≡ true) × (doublesNeeded y ≤ length (now w)) ⌝ }
-    ensures { λ r. ⌜ r ≡ devianceOf ieee reml d s logdet (pivotOf y (now (w .entry))) (y .p) ⌝ }
-{
-    let ml = d * logarithm::ln(f64::from_bits(4618760256179416344) * s) + logdet + d;
-    if reml {
-        let at = places::working_at(y, y.k, y.k);
-        return ml + 2.0 * re_factor::log_pivots(w, at, y.p as usize, 0.0);
-    }
-    ml
-}
-
-// The deviance of the doubles, the log determinant being known: no scale where the square of the last pivot or d is at most 0.
-pub fn tail(y: Layout, w: &[f64], logdet: f64, reml: bool) -> Deviance
-    requires { ⌜ (lawful y ≡ true) × (doublesNeeded y ≤ length (now w)) ⌝ }
-    ensures { λ r. ⌜ r ≡ devianceWith y (now (w .entry)) logdet reml ⌝ }
-{
-    let pivot = last_pivot(y, w);
-    let r2 = pivot * pivot;
-    let d = freedom(y, reml);
-    if (r2 <= 0.0) | (d <= 0.0) {
-        return Deviance::NoScale;
-    }
-    Deviance::Value(value(y, w, d, r2 / d, logdet, reml))
-}
-
 // The deviance of a workspace; 25 where its factor is not finished.
 fn of_workspace(h: &[u32], w: &[f64], reml: bool) -> Deviance
     requires { ⌜ headed (now h) (length (now w)) ≡ true ⌝ }
@@ -102,7 +41,7 @@ fn of_workspace(h: &[u32], w: &[f64], reml: bool) -> Deviance
     let g = heading::progress(h);
     let state = g.state;
     if is_finished(state) {
-        return tail(y, w, log_determinant(y, w), reml);
+        return deviance_tail::tail(y, w, deviance_tail::log_determinant(y, w), reml);
     }
     Deviance::Refused(refused(25))
 }

@@ -27,8 +27,8 @@ use Rattle.re_lower.proofs.Blocks.{accepted-none, refused-some, triangle-room, 
 use Rattle.update.specs.Working.{refusedRow, factored, logged, pivotCount}
 use Rattle.update.specs.Calls.{madeBy, sumBy, refusedBy}
 use Rattle.layout.specs.Fits.{Fits}
-use Rattle.factoring.specs.Factors.{factorShapeOf, leftOf, logsOf, Factors}
-use Rattle.factoring.proofs.Forms.{Forms, BlockFactored, pivotsIn, Summed}
+use Rattle.factor_logs.specs.Factors.{factorShapeOf, leftOf, logsOf, Factors}
+use Rattle.factor_logs.proofs.Forms.{Forms, BlockFactored, pivotsIn, Summed}
 
 -- ---- a block by its form
 

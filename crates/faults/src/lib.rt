@@ -1,4 +1,5 @@
-// Refusals 1 to 9 of a sheet (document 01, "Refused because of the input"), 1 to 4 by the reader, then 5 to 9 each over the whole sheet, in that order.
+// Refusals 1 to 9 of a sheet (document 01, "Refused because of the input"), 1 to 4 by the reader, then 5 to 9 each over the whole sheet, in that
+// order.
 use sheet::Reading;
 use sheet::Starts;
 ghost use mathlib.Core.Path.{_≡_};

@@ -1,32 +1,13 @@
 // The steps of an update in the Rust's order (document 01, Record 5), to its end or to the refused pivot. Every step is ready when its turn comes, so
-// none is asked for its forerunners, and the heading is not tested again. What a run comes to is defined in specs/Underway.antt.
-use refusal::Answer;
-use update::Name;
+// none is asked for its forerunners, and the heading is not tested again. What a run comes to is defined in the crate ready_step,
+// specs/Underway.antt.
 ghost use mathlib.Core.List.{_∷_, _++_, []};
-ghost use mathlib.Core.Path.{_≡_};
 ghost use Prim.Native.Nat.{suc, _-_, _≤_};
 ghost use Rattle.order.specs.Steps.{T, each, subtractions, columnSteps, rustOrder};
 ghost use Rattle.workspace.specs.Answers.{space};
-ghost use Rattle.update.specs.Names.{stepOfName};
-ghost use Rattle.in_order.specs.Underway.{isRefused, Underway, Ran};
-
-// Whether an answer is a refusal.
-fn is_refused(a: Answer) -> bool
-    ensures { λ r. ⌜ r ≡ isRefused a ⌝ }
-{
-    match a {
-        Answer::Accepted => false,
-        Answer::Refused(_) => true,
-    }
-}
-
-// The step whose turn it is.
-fn take(h: &mut [u32], w: &mut [f64], name: Name) -> Answer
-    requires { ⌜ Underway (space (now h) (now w)) (stepOfName name ∷ []) ⌝ }
-    ensures { λ r. ⌜ Ran (space (now (h .entry)) (now (w .entry))) (stepOfName name ∷ []) (record { answer = r; left = space (now (h .exit)) (now (w .exit)) }) ⌝ }
-{
-    step::take_ready(h, w, name)
-}
+ghost use Rattle.ready_step.specs.Underway.{Underway, Ran};
+use refusal::Answer;
+use update::Name;
 
 // All S(i,j,x), x rising.
 fn subtract_all(h: &mut [u32], w: &mut [f64], i: u64, j: u64) -> Answer
@@ -35,8 +16,8 @@ fn subtract_all(h: &mut [u32], w: &mut [f64], i: u64, j: u64) -> Answer
 {
     let mut x: u64 = 0;
     while x < j {
-        let a = take(h, w, Name::S(i, j, x));
-        if is_refused(a) {
+        let a = ready_step::take(h, w, Name::S(i, j, x));
+        if ready_step::is_refused(a) {
             return a;
         }
         x += 1;
@@ -50,10 +31,10 @@ fn target(h: &mut [u32], w: &mut [f64], i: u64, j: u64) -> Answer
     ensures { λ r. ⌜ Ran (space (now (h .entry)) (now (w .entry))) (subtractions i j ++ (T i j ∷ [])) (record { answer = r; left = space (now (h .exit)) (now (w .exit)) }) ⌝ }
 {
     let a = subtract_all(h, w, i, j);
-    if is_refused(a) {
+    if ready_step::is_refused(a) {
         return a;
     }
-    take(h, w, Name::T(i, j))
+    ready_step::take(h, w, Name::T(i, j))
 }
 
 // The targets of column j below the diagonal.
@@ -64,7 +45,7 @@ fn below(h: &mut [u32], w: &mut [f64], j: u64, k: u64) -> Answer
     let mut i: u64 = j + 1;
     while i < k + 1 {
         let a = target(h, w, i, j);
-        if is_refused(a) {
+        if ready_step::is_refused(a) {
             return a;
         }
         i += 1;
@@ -78,11 +59,11 @@ fn column(h: &mut [u32], w: &mut [f64], j: u64, k: u64) -> Answer
     ensures { λ r. ⌜ Ran (space (now (h .entry)) (now (w .entry))) (columnSteps k j) (record { answer = r; left = space (now (h .exit)) (now (w .exit)) }) ⌝ }
 {
     let a = subtract_all(h, w, j, j);
-    if is_refused(a) {
+    if ready_step::is_refused(a) {
         return a;
     }
-    let b = take(h, w, Name::C(j));
-    if is_refused(b) {
+    let b = ready_step::take(h, w, Name::C(j));
+    if ready_step::is_refused(b) {
         return b;
     }
     below(h, w, j, k)
@@ -96,7 +77,7 @@ pub fn run(h: &mut [u32], w: &mut [f64], k: u64) -> Answer
     let mut j: u64 = 0;
     while j < k + 1 {
         let a = column(h, w, j, k);
-        if is_refused(a) {
+        if ready_step::is_refused(a) {
             return a;
         }
         j += 1;

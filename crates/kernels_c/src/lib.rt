@@ -13,7 +13,7 @@ ghost use Rattle.matvec.specs.Products.{lessProduct, lessProductT, lessSparsePr
 ghost use Rattle.re_lower.specs.Lower.{logsOfTriangle, logsOfDiagonal, rowSolved, backSolved};
 ghost use Rattle.kernels_c.specs.Answers.{numberOf, TriangleAnswered, DiagonalAnswered};
 
-// schur::subtract_dense.
+// schur_dense::subtract_dense.
 #[no_mangle]
 pub extern "C" fn husk_subtract_dense(
     w: &mut [f64],
@@ -29,27 +29,27 @@ pub extern "C" fn husk_subtract_dense(
     requires { ⌜ (off + sizeOf (columns rows cols) ≤ b) ⊎ (b + sizeOf (columns cols inner) ≤ off) ⌝ }
     ensures { λ _. ⌜ now (w .exit) ≡ subtractedDense off rows cols a b inner (now (w .entry)) ⌝ }
 {
-    schur::subtract_dense(w, off, rows, cols, a, b, inner);
+    schur_dense::subtract_dense(w, off, rows, cols, a, b, inner);
 }
 
-// schur::rank_sub.
+// rank_dense::rank_sub.
 #[no_mangle]
 pub extern "C" fn husk_rank_sub(w: &mut [f64], off: usize, rows: usize, a: usize, inner: usize)
     requires { ⌜ (rows ≤ 316) × (off + sizeOf (packed rows) ≤ length (now w)) × (a + sizeOf (columns rows inner) ≤ length (now w)) ⌝ }
     requires { ⌜ (off + sizeOf (packed rows) ≤ a) ⊎ (a + sizeOf (columns rows inner) ≤ off) ⌝ }
     ensures { λ _. ⌜ now (w .exit) ≡ subtractedRank off rows a inner (now (w .entry)) ⌝ }
 {
-    schur::rank_sub(w, off, rows, a, inner);
+    rank_dense::rank_sub(w, off, rows, a, inner);
 }
 
-// schur::subtract_last.
+// schur_last::subtract_last.
 #[no_mangle]
 pub extern "C" fn husk_subtract_last(w: &mut [f64], off: usize, rows: usize, a: usize, inner: usize)
     requires { ⌜ (rows ≤ 316) × (off + sizeOf (packed rows) ≤ length (now w)) × (a + sizeOf (columns rows inner) ≤ length (now w)) ⌝ }
     requires { ⌜ (off + sizeOf (packed rows) ≤ a) ⊎ (a + sizeOf (columns rows inner) ≤ off) ⌝ }
     ensures { λ _. ⌜ now (w .exit) ≡ subtractedLast off rows a inner (now (w .entry)) ⌝ }
 {
-    schur::subtract_last(w, off, rows, a, inner);
+    schur_last::subtract_last(w, off, rows, a, inner);
 }
 
 // sparse_schur::subtract_sparse.
@@ -74,7 +74,7 @@ pub extern "C" fn husk_subtract_sparse(
     sparse_schur::subtract_sparse(w, off, rows, cols, a, v, inner, h, first);
 }
 
-// cross_block::divide_columns.
+// divide_columns::divide_columns.
 #[no_mangle]
 pub extern "C" fn husk_divide_columns(
     w: &mut [f64],
@@ -87,7 +87,7 @@ pub extern "C" fn husk_divide_columns(
     requires { ⌜ (off + sizeOf (columns rows cols) ≤ pivots) ⊎ (pivots + sizeOf (diagonal cols) ≤ off) ⌝ }
     ensures { λ _. ⌜ now (w .exit) ≡ dividedColumns off rows cols pivots (now (w .entry)) ⌝ }
 {
-    cross_block::divide_columns(w, off, rows, cols, pivots);
+    divide_columns::divide_columns(w, off, rows, cols, pivots);
 }
 
 // cross_block::solve_rows.
@@ -135,7 +135,7 @@ pub extern "C" fn husk_rank_sub_diagonal(
     rank_diagonal::rank_sub_diagonal(w, off, n, a, inner, src);
 }
 
-// rank_diagonal::rank_sub_diagonal_sparse.
+// rank_diagonal_sparse::rank_sub_diagonal_sparse.
 #[no_mangle]
 pub extern "C" fn husk_rank_sub_diagonal_sparse(
     w: &mut [f64],
@@ -152,7 +152,7 @@ pub extern "C" fn husk_rank_sub_diagonal_sparse(
     requires { ⌜ (off + sizeOf (diagonal n) ≤ src) ⊎ (src + inner ≤ off) ⌝ }
     ensures { λ _. ⌜ now (w .exit) ≡ subtractedDiagonal off n (entries inner (rowFrom (now (h .entry)) first)) a inner src (now (w .entry)) ⌝ }
 {
-    rank_diagonal::rank_sub_diagonal_sparse(w, off, n, a, inner, src, h, first);
+    rank_diagonal_sparse::rank_sub_diagonal_sparse(w, off, n, a, inner, src, h, first);
 }
 
 // matvec::less_product.
@@ -212,7 +212,7 @@ pub extern "C" fn husk_less_sparse(
     sparse_matvec::less_sparse(v, off, rows, z, cols, w, x, h, first);
 }
 
-// sparse_matvec::less_sparse_t.
+// sparse_matvec_t::less_sparse_t.
 #[no_mangle]
 pub extern "C" fn husk_less_sparse_t(
     v: &mut [f64],
@@ -230,7 +230,7 @@ pub extern "C" fn husk_less_sparse_t(
     requires { ⌜ RowsBelow (now h) first cols rows ⌝ }
     ensures { λ _. ⌜ now (v .exit) ≡ lessSparseProductT off cols z rows x (rowFrom (now (h .entry)) first) (now (w .entry)) (now (v .entry)) ⌝ }
 {
-    sparse_matvec::less_sparse_t(v, off, cols, z, rows, w, x, h, first);
+    sparse_matvec_t::less_sparse_t(v, off, cols, z, rows, w, x, h, first);
 }
 
 // n where every pivot is accepted, else the row of the refused one.
@@ -263,22 +263,22 @@ pub extern "C" fn husk_chol_diagonal(t: &mut [f64], n: usize) -> usize
     number(p, n)
 }
 
-// substitution::log_pivots.
+// pivot_logs::log_pivots.
 #[no_mangle]
 pub extern "C" fn husk_log_pivots(t: &[f64], n: usize, s: f64) -> f64
     requires { ⌜ start triangle n ≤ length (now t) ⌝ }
     ensures { λ r. ⌜ r ≡ logsOfTriangle (now (t .entry)) n s ⌝ }
 {
-    substitution::log_pivots(t, n, s)
+    pivot_logs::log_pivots(t, n, s)
 }
 
-// substitution::log_diagonal.
+// pivot_logs::log_diagonal.
 #[no_mangle]
 pub extern "C" fn husk_log_diagonal(t: &[f64], n: usize, s: f64) -> f64
     requires { ⌜ n ≤ length (now t) ⌝ }
     ensures { λ r. ⌜ r ≡ logsOfDiagonal (now (t .entry)) n s ⌝ }
 {
-    substitution::log_diagonal(t, n, s)
+    pivot_logs::log_diagonal(t, n, s)
 }
 
 // substitution::solve_row.
@@ -290,11 +290,11 @@ pub extern "C" fn husk_solve_row(t: &mut [f64], l: &[f64], n: usize)
     substitution::solve_row(t, l, n);
 }
 
-// substitution::backward.
+// back_substitution::backward.
 #[no_mangle]
 pub extern "C" fn husk_backward(t: &mut [f64], l: &[f64], n: usize)
     requires { ⌜ (n ≤ length (now t)) × (start triangle n ≤ length (now l)) ⌝ }
     ensures { λ _. ⌜ now (t .exit) ≡ backSolved (now (t .entry)) (now (l .entry)) n ⌝ }
 {
-    substitution::backward(t, l, n);
+    back_substitution::backward(t, l, n);
 }

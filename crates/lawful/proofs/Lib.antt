@@ -1,3 +1,1 @@
-pub mod Every
-pub mod Sheets
 pub mod Tests

@@ -14,7 +14,7 @@ use Rattle.layout.specs.Shapes.{levels}
 use Rattle.layout.specs.Heading.{every, within, same, sheetLevels, isDense, isSparse, pairLawful, lawful}
 use Rattle.layout.proofs.Lawful.{every-at}
 use Rattle.lawful.specs.Ranged.{Ranged}
-use Rattle.lawful.proofs.Sheets.{assoc}
+use Rattle.sorted_blocks.proofs.Sheets.{assoc}
 
 -- ---- a pair, by the gate's answer
 module _ (y : Layout) (i j : ℕ) {p : Pair} {rows cols : ℕ} (e : p ≡ pairOf (y .k) rows cols (y .diagonal) cols) (a : rows ≡ levels y i) (b : cols ≡ levels y j) where

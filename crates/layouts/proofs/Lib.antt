@@ -1,4 +1,2 @@
 pub mod Picking
 pub mod Reading
-pub mod Pairs
-pub mod Found

@@ -1,8 +1,4 @@
-// The layout of a sheet and the gate's verdict on it (document 01, Record 2).
-use layout::Layout;
-use layout::Pair;
-use refusal::Refusal;
-use sheet::Starts;
+// The layout of a sheet (document 01, Record 2).
 ghost use mathlib.Core.Path.{_≡_};
 ghost use mathlib.Core.Bool.{_&&_};
 ghost use Prim.Native.Nat.{ℕ, _<_, _≤_};
@@ -12,12 +8,14 @@ ghost use Rattle.sheet.specs.Sheet.{Sheet, accepted, readSheet};
 ghost use Rattle.sheet.specs.Fault.{refusalOf};
 ghost use Rattle.layout.specs.Blocks.{sorted, each, padded};
 ghost use Rattle.layout.specs.Gate.{pairOf};
-ghost use Rattle.layout.specs.Shapes.{levels, pairs};
+ghost use Rattle.layout.specs.Shapes.{levels};
 ghost use Rattle.layout.specs.Heading.{isSparse};
 ghost use Rattle.levels.specs.Held.{Holds};
-ghost use Rattle.workspace.specs.Loaded.{firstDenied, layoutOfSheet};
+ghost use Rattle.workspace.specs.Loaded.{layoutOfSheet};
 ghost use Rattle.layouts.specs.Ordered.{Ordered};
-ghost use Rattle.layouts.specs.Search.{answerOf, numberOf, verdict};
+use layout::Layout;
+use layout::Pair;
+use sheet::Starts;
 
 // The levels of the sorted blocks.
 fn sorted_levels(m: [u64; 8], order: [u64; 8], k: u64) -> [u64; 8]
@@ -73,7 +71,7 @@ fn one_sparse(k: u64, m: [u64; 8], diagonal: bool) -> bool
     if k != 2 {
         return false;
     }
-    is_sparse(gate::pair_of(k, m[1], m[0], diagonal, m[0]))
+    is_sparse(pair_gate::pair_of(k, m[1], m[0], diagonal, m[0]))
 }
 
 // The layout of a sheet that 5 to 9 do not refuse.
@@ -97,57 +95,4 @@ pub fn layout_of(s: &[u8], z: Starts) -> Layout
         sparse: sparse,
         diagonal: diagonal,
     }
-}
-
-// 10 or 11 of a pair that is refused, else 0.
-fn number(p: Pair) -> u64
-    ensures { λ r. ⌜ r ≡ numberOf p ⌝ }
-{
-    match p {
-        Pair::Dense => 0,
-        Pair::Sparse => 0,
-        Pair::Refused(n) => n,
-    }
-}
-
-// What the gate says of pair (j, jj): 10 or 11, or 0.
-fn verdict(y: Layout, j: u64, jj: u64) -> u64
-    requires { ⌜ (j < 8) × (jj < 8) × ((i : ℕ) → i < 8 → levels y i ≤ 65535) ⌝ }
-    ensures { λ r. ⌜ r ≡ verdict y j jj ⌝ }
-{
-    let m = y.m;
-    let rows = m[j as usize];
-    let cols = m[jj as usize];
-    number(gate::pair_of(y.k, rows, cols, y.diagonal, cols))
-}
-
-// The first pair that the gate refuses, in turn j = 1.., jj = 0..j-1: its number 10 or 11, j and jj; or number 0. The layout of a sheet says all that
-// the gate asks.
-pub fn denied(y: Layout) -> Refusal
-    requires { ⌜ (y .k ≤ 8) × ((i : ℕ) → i < 8 → levels y i ≤ 65535) ⌝ }
-    ensures { λ r. ⌜ ((sheet : Sheet) → y ≡ layoutOfSheet sheet → r ≡ answerOf (firstDenied sheet y (pairs (y .k)))) ⌝ }
-{
-    let mut found = Refusal {
-        number: 0,
-        first: 0,
-        second: 0,
-    };
-    let mut j: u64 = 1;
-    'pairs: while j < y.k {
-        let mut jj: u64 = 0;
-        while jj < j {
-            let n = verdict(y, j, jj);
-            if n != 0 {
-                found = Refusal {
-                    number: n,
-                    first: j,
-                    second: jj,
-                };
-                break 'pairs;
-            }
-            jj += 1;
-        }
-        j += 1;
-    }
-    found
 }

@@ -27,7 +27,7 @@ use Rattle.workspace.specs.Memory.{noughts}
 use Rattle.workspace.specs.Loaded.{entryRowIn, double, loadedWord, loadedFrom, loadedNumbers}
 use Rattle.workspace.specs.Load.{doublesOf}
 use Rattle.workspace.proofs.Lengths.{length-loaded, length-doubles}
-use Rattle.places.proofs.Before.{before-factor, before-row}
+use Rattle.block_sizes.proofs.Before.{before-factor, before-row}
 use Rattle.loading.proofs.Facts.{Known}
 use Rattle.loading.proofs.Cells.{fixedOf, lastOf, all-length, behind, cell-value}
 

@@ -1,31 +1,20 @@
-// The numbers of a sheet into a workspace (document 01, Record 3): every double that the formula counts becomes +0.0, and then each word of the sheet goes into its
+// The numbers of a sheet into a workspace (document 01, Record 3): every double that the formula counts becomes +0.0, and then each word of the
+// sheet goes into its
 // place. Definitions are in the crates workspace, specs/Loaded.antt, and word_places, specs/Spread.antt.
-use block_map::Map;
-use layout::Layout;
-use sheet::Starts;
-use word_places::Run;
 ghost use mathlib.Core.Path.{_≡_};
-ghost use mathlib.Core.Bool.{true};
 ghost use Prim.Native.Nat.{_+_, _*_, _/_, _≤_};
 ghost use lib.ListN.{length};
-ghost use Rattle.storage.specs.Runs.{tab};
 ghost use Rattle.storage.specs.Part.{store};
-ghost use Rattle.rules.specs.Arithmetic.{ieee};
 ghost use Rattle.sheet.specs.Sheet.{Sheet, accepted, readSheet};
 ghost use Rattle.layout.specs.Shapes.{doublesNeeded};
-ghost use Rattle.layout.specs.Heading.{lawful};
 ghost use Rattle.workspace.specs.Load.{doublesOf};
 ghost use Rattle.block_map.specs.Blocks.{Maps};
 ghost use Rattle.loading.specs.Ready.{Ready, otherLines};
 ghost use Rattle.loading.specs.Runs.{firstRuns, lastRuns};
-
-// Every double that the formula counts becomes +0.0.
-fn clear_all(y: Layout, w: &mut [f64])
-    requires { ⌜ (lawful y ≡ true) × (doublesNeeded y ≤ length (now w)) ⌝ }
-    ensures { λ _. ⌜ now (w .exit) ≡ store 0 (tab (doublesNeeded y) (λ i. ieee .zero)) (now (w .entry)) ⌝ }
-{
-    runs::clear(w, places::sum_at(y) + 1);
-}
+use block_map::Map;
+use layout::Layout;
+use sheet::Starts;
+use word_places::Run;
 
 // How many zz lines a sheet has: all its lines but the others.
 pub fn entries_of(z: Starts, y: Layout) -> u64
@@ -61,8 +50,8 @@ pub fn load_numbers(s: &[u8], z: Starts, y: Layout, w: &mut [f64])
     requires { ⌜ Ready (now s) z y × (doublesNeeded y ≤ length (now w)) ⌝ }
     ensures { λ _. ⌜ ((sheet : Sheet) → readSheet (now (s .entry)) ≡ accepted sheet z → now (w .exit) ≡ store 0 (doublesOf sheet y) (now (w .entry))) ⌝ }
 {
-    let m = block_map::map_of(y);
-    clear_all(y, w);
+    let m = row_map::map_of(y);
+    clear_doubles::clear_all(y, w);
     first_runs(s, z, y, m, w);
     last_runs(s, z, y, m, w);
 }

@@ -1,4 +1,5 @@
-// A dense cross block times a vector (document 01, Record 7; the Rust's `cross_matvec_sub`; crate matvec_t has the transpose). The solve's vectors lie in the list v,
+// A dense cross block times a vector (document 01, Record 7; the Rust's `cross_matvec_sub`; crate matvec_t has the transpose). The solve's vectors
+// lie in the list v,
 // the blocks in w: the target's entries are the rule's, every other double stays. A dense block has at most 316 rows.
 ghost use mathlib.Core.Path.{_≡_};
 ghost use mathlib.Core.Logic.{_⊎_};
@@ -21,8 +22,8 @@ fn less_sums(
     requires { ⌜ (rows ≤ length (now acc)) × (off + rows ≤ length (now v)) × (z + cols ≤ length (now v)) × (a + sizeOf (columns rows cols) ≤ length (now w)) ⌝ }
     ensures { λ _. ⌜ now (v .exit) ≡ lessProduct off rows z cols a (now (w .entry)) (now (v .entry)) ⌝ }
 {
-    runs::clear(acc, rows);
-    axpy::add_products(acc, rows, w, a, rows, v, z, 1, 0, cols);
+    run_copies::clear(acc, rows);
+    axpy_products::add_products(acc, rows, w, a, rows, v, z, 1, 0, cols);
     runs::less(v, off, off + rows, 0, rows, acc);
 }
 

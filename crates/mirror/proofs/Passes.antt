@@ -24,9 +24,9 @@ use Rattle.levels.specs.Held.{levelList}
 use Rattle.cursors.specs.Held.{sheetIn, held, entryOf, placeOf, Given, Levelled}
 use Rattle.cursors.specs.Columns.{Below, Column}
 use Rattle.cursors.specs.Turns.{InGroup, Pass}
-use Rattle.cursors.proofs.Columns.{last-or-before, Mirrored, column-start, cursor-unmirrored, column-closed}
-use Rattle.cursors.proofs.Entries.{place-first, whole, counts-same, rises, in-range, unmirrored-fault, sound, none-faulty}
-use Rattle.cursors.proofs.Turns.{group-low, group-high, is-group, read-here, faulty-here}
+use Rattle.mirror_turn.proofs.Columns.{last-or-before, Mirrored, column-start, cursor-unmirrored, column-closed}
+use Rattle.mirror_turn.proofs.Entries.{place-first, whole, counts-same, rises, in-range, unmirrored-fault, sound, none-faulty}
+use Rattle.mirror_turn.proofs.Turns.{group-low, group-high, is-group, read-here, faulty-here}
 use Rattle.mirror.specs.Mirror.{Found, Judged, Closed}
 
 -- ---- the end of a pass

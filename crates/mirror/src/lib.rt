@@ -1,4 +1,5 @@
-// Number 9 of a sheet (document 01, "Refused because of the input"): the line of a faulty zz entry. The lines are read again where they stand, in one pass for
+// Number 9 of a sheet (document 01, "Refused because of the input"): the line of a faulty zz entry. The lines are read again where they stand, in
+// one pass for
 // each group of columns.
 use sheet::Starts;
 ghost use mathlib.Core.Path.{_≡_};
@@ -31,7 +32,7 @@ fn unmet(s: &[u8], z: Starts, n: u64, base: u64, cur: &[usize], due: u64) -> u64
         let j = (col - base) as usize;
         let o = line::pair_line(b"zz\t", s, cur[j]);
         if (o.first == col) & (col < o.second) {
-            return cursors::number_of(s, z, n, o.first, o.second);
+            return mirror_turn::number_of(s, z, n, o.first, o.second);
         }
         col += 1;
     }
@@ -47,7 +48,7 @@ fn pass(s: &[u8], z: Starts, m: [u64; 8], n: u64, base: u64, cur: &mut [usize]) 
     let mut at = z.zz;
     let mut i: u64 = 0;
     while i < n {
-        let t = cursors::turn(s, z, m, n, base, cur, due, i, at);
+        let t = mirror_turn::turn(s, z, m, n, base, cur, due, i, at);
         if 0 < t.fault {
             return t.fault;
         }

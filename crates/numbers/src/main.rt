@@ -94,7 +94,7 @@ fn result(v: Vector) -> f64
 fn judged(v: Vector) -> bool
     ensures { λ r. ⌜ r ≡ judgedOf v ⌝ }
 {
-    vector_list::agrees(v.lower, v.upper, result(v))
+    agreement::agrees(v.lower, v.upper, result(v))
 }
 
 // The tally after one line more.

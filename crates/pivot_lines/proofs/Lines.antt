@@ -26,9 +26,9 @@ use Rattle.update.specs.Working.{pivotCount}
 use Rattle.worked.specs.Print.{pivotLine}
 use Rattle.worked.specs.Program.{pivotRows, pivotLines}
 use Rattle.print.proofs.Written.{Put, put-then}
-use Rattle.print.proofs.Lines.{pivot-short}
-use Rattle.views.specs.Pivots.{rowsOf, pivotShape, pivotAt}
-use Rattle.views.proofs.Places.{shape-is, last-rows, other-rows, last-kind, diagonal-kind, packed-kind}
+use Rattle.print_lines.proofs.Lines.{pivot-short}
+use Rattle.pivot_places.specs.Pivots.{rowsOf, pivotShape, pivotAt}
+use Rattle.pivot_places.proofs.Places.{shape-is, last-rows, other-rows, last-kind, diagonal-kind, packed-kind}
 use Rattle.pivot_lines.specs.Lines.{rowLines, blockLines}
 
 -- ---- how many bytes

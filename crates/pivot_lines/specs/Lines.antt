@@ -4,7 +4,7 @@ use mathlib.Core.List.{List, [], _++_}
 use lib.Ieee.{Float}
 use Rattle.layout.specs.declared.Layout.{Layout}
 use Rattle.worked.specs.Print.{pivotLine}
-use Rattle.views.specs.Pivots.{rowsOf, pivotAt}
+use Rattle.pivot_places.specs.Pivots.{rowsOf, pivotAt}
 
 -- the first n pivots of block j
 unfoldable pub rowLines : Layout → List Float → ℕ → ℕ → List ℕ

@@ -10,7 +10,7 @@ ghost use Rattle.layout.specs.Heading.{lawful, layoutOf, headed};
 ghost use Rattle.workspace.specs.Answers.{space};
 ghost use Rattle.worked.specs.Program.{pivotLines};
 ghost use Rattle.print.proofs.Written.{Put};
-ghost use Rattle.views.specs.Pivots.{rowsOf};
+ghost use Rattle.pivot_places.specs.Pivots.{rowsOf};
 ghost use Rattle.pivot_lines.specs.Lines.{rowLines, blockLines};
 
 // The pivots of block j. A line of at most 4,096 rows has at most 31 bytes, and the last is written where there is room for any.
@@ -22,8 +22,8 @@ fn put_rows(y: Layout, w: &[f64], j: u64, out: &mut [u8], from: usize) -> usize
     let mut at = from;
     let mut r: usize = 0;
     while r < n {
-        let x = views::read_pivot(y, w, j, r as u64);
-        at = print::put_pivot(out, at, j, r as u64, x);
+        let x = pivot_places::read_pivot(y, w, j, r as u64);
+        at = print_lines::put_pivot(out, at, j, r as u64, x);
         r += 1;
     }
     at

@@ -1,4 +1,3 @@
 pub mod Numbers
 pub mod Written
 pub mod Digits
-pub mod Lines

@@ -1,17 +1,16 @@
-// Writes the lines that the program `factor` prints (document 01, "Worked sheets") into lent bytes, from a place on, and answers the place
-// behind. The lines are defined in the crate factor, specs/Print.antt.
+// Writes bytes, numbers and words into lent bytes, from a place on, and answers the place behind (document 01, "Worked sheets").
 ghost use mathlib.Core.Path.{_≡_};
 ghost use Prim.Native.Nat.{_+_, _≤_};
 ghost use mathlib.Core.List.{[], _∷_};
 ghost use lib.ListN.{length};
 ghost use lib.Ieee.{binary64, toBits};
 ghost use Rattle.storage.specs.Part.{store};
-ghost use Rattle.worked.specs.Print.{number, hexDigit, hexadecimal, word, pivotLine, refusedLine};
+ghost use Rattle.worked.specs.Print.{number, hexDigit, hexadecimal, word};
 
 // The bytes that end a field: a tab between two, LF at the end of the line.
-const TAB: u8 = 9;
+pub const TAB: u8 = 9;
 
-const LF: u8 = 10;
+pub const LF: u8 = 10;
 
 // The word that stands for every NaN.
 const NAN: u64 = 0x7ff8000000000000;
@@ -27,7 +26,7 @@ fn bits_of(x: f64) -> u64
 }
 
 // One byte, at a place that is there.
-fn put_byte(out: &mut [u8], at: usize, b: u8) -> usize
+pub fn put_byte(out: &mut [u8], at: usize, b: u8) -> usize
     requires { ⌜ at + 1 ≤ length (now out) ⌝ }
     ensures { λ r. ⌜ (r ≡ at + 1) × (now (out .exit) ≡ store at (b ∷ []) (now (out .entry))) ⌝ }
 {
@@ -36,7 +35,7 @@ fn put_byte(out: &mut [u8], at: usize, b: u8) -> usize
 }
 
 // The bytes of a text.
-fn put_text(out: &mut [u8], at: usize, text: &[u8]) -> usize
+pub fn put_text(out: &mut [u8], at: usize, text: &[u8]) -> usize
     requires { ⌜ at + length (now text) ≤ length (now out) ⌝ }
     ensures { λ r. ⌜ (r ≡ at + length (now (text .entry))) × (now (out .exit) ≡ store at (now (text .entry)) (now (out .entry))) ⌝ }
 {
@@ -94,32 +93,4 @@ pub fn put_word(out: &mut [u8], at: usize, x: f64) -> usize
     ensures { λ r. ⌜ (r ≡ at + 16) × (now (out .exit) ≡ store at (word x) (now (out .entry))) ⌝ }
 {
     put_hexadecimal(out, at, 16, bits_of(x))
-}
-
-// The line of a pivot: its block, its row and its word.
-pub fn put_pivot(out: &mut [u8], at: usize, block: u64, row: u64, x: f64) -> usize
-    requires { ⌜ at + 65 ≤ length (now out) ⌝ }
-    ensures { λ r. ⌜ (r ≡ at + length (pivotLine block row x)) × (now (out .exit) ≡ store at (pivotLine block row x) (now (out .entry))) ⌝ }
-{
-    let p = put_text(out, at, b"pivot\t");
-    let p = put_number(out, p, block);
-    let p = put_byte(out, p, TAB);
-    let p = put_number(out, p, row);
-    let p = put_byte(out, p, TAB);
-    let p = put_word(out, p, x);
-    put_byte(out, p, LF)
-}
-
-// The line of a refusal: its number and its two places.
-pub fn put_refused(out: &mut [u8], at: usize, number: u64, first: u64, second: u64) -> usize
-    requires { ⌜ at + 71 ≤ length (now out) ⌝ }
-    ensures { λ r. ⌜ (r ≡ at + length (refusedLine number first second)) × (now (out .exit) ≡ store at (refusedLine number first second) (now (out .entry))) ⌝ }
-{
-    let p = put_text(out, at, b"refused\t");
-    let p = put_number(out, p, number);
-    let p = put_byte(out, p, TAB);
-    let p = put_number(out, p, first);
-    let p = put_byte(out, p, TAB);
-    let p = put_number(out, p, second);
-    put_byte(out, p, LF)
 }

@@ -19,12 +19,12 @@ use Rattle.workspace.specs.Memory.{headingWith}
 use Rattle.workspace.specs.Answers.{space, accept, firstInfinite}
 use Rattle.workspace.specs.Response.{responded, replaceOf}
 use Rattle.layout.proofs.Fits.{fits}
-use Rattle.heading.specs.Small.{SmallProgress}
+use Rattle.heading_writer.specs.Small.{SmallProgress}
 use Rattle.progress.proofs.Count.{triple-small, step-count}
 use Rattle.response_rows.specs.Strided.{responseRows}
 use Rattle.response_rows.proofs.Stored.{rows-stored}
-use Rattle.response.specs.Faults.{lengthFault, wordFault, firstOf}
-use Rattle.response.proofs.Faults.{unlessRefused, lengths, words, both, first-none, all-right}
+use Rattle.response_faults.specs.Faults.{lengthFault, wordFault, firstOf}
+use Rattle.response_faults.proofs.Faults.{unlessRefused, lengths, words, both, first-none, all-right}
 
 -- ---- progress none fits the heading
 

@@ -92,7 +92,7 @@ pub fn write_response(y: Layout, w: &mut [f64], zty: &[f64], xty: &[f64], yty: &
     requires { ⌜ (lawful y ≡ true) × (loadedLength y ≤ length (now w)) × (length (now zty) ≡ y .q) × (length (now xty) ≡ y .p) × (length (now yty) ≡ 1) ⌝ }
     ensures { λ _. ⌜ now (w .exit) ≡ responseRows y (now (zty .entry)) (now (xty .entry)) (now (yty .entry)) (now (w .entry)) ⌝ }
 {
-    let m = block_map::map_of(y);
+    let m = row_map::map_of(y);
     write_blocks(y, m, w, zty);
     write_last(y, m, w, xty, yty);
 }

@@ -20,10 +20,10 @@ fn line_at(run: Run, s: &[u8], at: usize) -> Line
     match run {
         Run::Zz => line::pair_line(b"zz\t", s, at),
         Run::Zx => line::pair_line(b"zx\t", s, at),
-        Run::Zy => line::single_line(b"zy\t", s, at),
+        Run::Zy => single_line::single_line(b"zy\t", s, at),
         Run::Xx => line::pair_line(b"xx\t", s, at),
-        Run::Xy => line::single_line(b"xy\t", s, at),
-        Run::Yy => line::bare_line(b"yy\t", s, at),
+        Run::Xy => single_line::single_line(b"xy\t", s, at),
+        Run::Yy => bare_line::bare_line(b"yy\t", s, at),
     }
 }
 

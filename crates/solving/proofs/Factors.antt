@@ -13,7 +13,7 @@ use Rattle.storage.specs.Shape.{packed, diagonal, columns, entries, sizeOf}
 use Rattle.layout.specs.declared.Layout.{Layout}
 use Rattle.layout.specs.Shapes.{shape, workingAt, doublesNeeded}
 use Rattle.layout.specs.Heading.{lawful}
-use Rattle.places.proofs.Sizes.{not-both}
+use Rattle.block_sizes.proofs.Sizes.{not-both}
 use Rattle.cross_block.specs.Blocks.{dividedColumns, solvedRows}
 use Rattle.working_blocks.specs.Rows.{rowsOf}
 use Rattle.working_blocks.proofs.Shapes.{Apart, first-shape, second-shape, triangle-shape, sparse-shape, dense-shape, block-inside, block-apart, sparse-two, triangle-dense, rows-limit}

@@ -1,4 +1,5 @@
-// The steps T (document 01, Record 4) on a workspace: by a diagonal factor or by a triangle, with the places and the rows of the blocks from the layout.
+// The steps T (document 01, Record 4) on a workspace: by a diagonal factor or by a triangle, with the places and the rows of the blocks from the
+// layout.
 use layout::Layout;
 ghost use mathlib.Core.Path.{_≡_};
 ghost use mathlib.Core.Bool.{true, false};
@@ -49,7 +50,7 @@ fn divide(y: Layout, w: &mut [f64], i: u64, j: u64)
     let pivots = places::working_at(y, j, j);
     let rows = height(y, i);
     let cols = working_blocks::rows_of(y, j);
-    cross_block::divide_columns(w, off, rows, cols, pivots);
+    divide_columns::divide_columns(w, off, rows, cols, pivots);
 }
 
 // T(i, j) by a triangle: forward substitution in each row.

@@ -1,42 +1,16 @@
-// A sparse cross block of one entry a column times a vector (document 01, Record 7; the Rust's `cross_matvec_sub`, `cross_matvec_t_sub`).
+// A sparse cross block of one entry a column times a vector (document 01, Record 7; the Rust's `cross_matvec_sub`).
 ghost use mathlib.Core.Path.{_≡_};
 ghost use mathlib.Core.Logic.{_⊎_};
 ghost use Prim.Native.Nat.{_+_, _≤_, _<_};
 ghost use lib.ListN.{length};
 ghost use Rattle.blocks.specs.Blocks.{rowFrom, RowsBelow};
-ghost use Rattle.matvec.specs.Products.{lessSparseProductT, lessSparseProduct, lessEntry};
+ghost use Rattle.matvec.specs.Products.{lessSparseProduct, lessEntry};
 
 // A row's number as an index.
-fn wide(x: u32) -> usize
+pub fn wide(x: u32) -> usize
     ensures { λ r. ⌜ r ≡ x ⌝ }
 {
     x as usize
-}
-
-// Going backward: the vector at off less the transpose of a sparse block, whose entries are at x of w, times the vector at z.
-pub fn less_sparse_t(
-    v: &mut [f64],
-    off: usize,
-    cols: usize,
-    z: usize,
-    rows: usize,
-    w: &[f64],
-    x: usize,
-    h: &[u32],
-    first: usize,
-)
-    requires { ⌜ (off + cols ≤ length (now v)) × (z + rows ≤ length (now v)) × (x + cols ≤ length (now w)) × (first + cols ≤ length (now h)) ⌝ }
-    requires { ⌜ (off + cols ≤ z) ⊎ (z + rows ≤ off) ⌝ }
-    requires { ⌜ RowsBelow (now h) first cols rows ⌝ }
-    ensures { λ _. ⌜ now (v .exit) ≡ lessSparseProductT off cols z rows x (rowFrom (now (h .entry)) first) (now (w .entry)) (now (v .entry)) ⌝ }
-{
-    let mut c = 0;
-    while c < cols {
-        let r = wide(h[first + c]);
-        let s = 0.0 + w[x + c] * v[z + r];
-        v[off + c] = v[off + c] - s;
-        c += 1;
-    }
 }
 
 // v[at] less x times e, unless e is ±0.

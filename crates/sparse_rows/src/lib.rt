@@ -25,10 +25,10 @@ fn put_row<'a>(y: Layout, counts: &'a [u64; 8], first: &'a [u64; 8], l: Line, h:
     requires { ⌜ (lawful y ≡ true) × (now counts ≡ y .m) × FirstRows y (now first) × (1 < y .k) × (128 + levels y 0 ≤ length (now h)) ⌝ }
     ensures { λ _. ⌜ now (h .exit) ≡ putRow y 0 l (now (h .entry)) ⌝ }
 {
-    if block_map::block_of(y, counts, first, l.first) != 0 {
+    if row_map::block_of(y, counts, first, l.first) != 0 {
         return;
     }
-    if block_map::block_of(y, counts, first, l.second) != 1 {
+    if row_map::block_of(y, counts, first, l.second) != 1 {
         return;
     }
     let t = (128 + word_places::level_of(y, first, 0, l.first)) as usize;
@@ -63,7 +63,7 @@ pub fn load_rows(s: &[u8], z: Starts, y: Layout, h: &mut [u32])
     ensures { λ _. ⌜ ((sheet : Sheet) → readSheet (now (s .entry)) ≡ accepted sheet z → now (h .exit) ≡ store 128 (pick (y .sparse) (tab (levels y 0) (entryRowIn sheet y)) []) (now (h .entry))) ⌝ }
 {
     if y.sparse {
-        let m = block_map::map_of(y);
+        let m = row_map::map_of(y);
         put_rows(s, z.zz, loading::entries_of(z, y), y, m, h);
     }
 }

@@ -28,7 +28,7 @@ fn less_column(
     requires { ⌜ (rows ≤ length (now acc)) × (off + (to + rows) ≤ end) × (end ≤ length (now w)) × (ax + rows ≤ length (now w)) ⌝ }
     ensures { λ _. ⌜ now (w .exit) ≡ lessColumn (off + to) rows ax f (now (w .entry)) ⌝ }
 {
-    runs::read(acc, rows, w, ax);
+    run_copies::read(acc, rows, w, ax);
     runs::less_times(w, off, end, to, rows, acc, f);
 }
 

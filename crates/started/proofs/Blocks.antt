@@ -21,7 +21,7 @@ use Rattle.layout.specs.declared.Layout.{Layout}
 use Rattle.layout.specs.Shapes.{Target, target, factors, across, pairs, targets, levels, shape, sizes, loadedSizes, loadedAt, workingAt, doublesNeeded}
 use Rattle.layout.proofs.Places.{size-working}
 use Rattle.layout.proofs.Formula.{loaded-factor, loaded-other, loaded-last}
-use Rattle.places.proofs.Sizes.{below}
+use Rattle.block_sizes.proofs.Sizes.{below}
 use Rattle.re_factor.specs.Factor as factor
 use Rattle.cross_block.specs.Blocks.{scaledTwice, scaledOnce}
 use Rattle.started.specs.Started.{startedBlock, startedBlocks, BlockStarted, BlocksStarted}

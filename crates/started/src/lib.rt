@@ -1,26 +1,17 @@
-// Begin on the working blocks of a workspace (document 01, Record 4): each becomes its loaded block scaled by theta, factor by factor, pair by pair, the
-// fixed rows and the last triangle. What is left is defined in specs/Started.antt.
-use layout::Layout;
+// Begin on a cross block and on fixed rows (document 01, Record 4): each becomes its loaded block scaled by theta. What begin leaves of every block
+// is
+// defined in specs/Started.antt.
 ghost use mathlib.Core.Path.{_≡_};
-ghost use mathlib.Core.Bool.{true, _&&_, _||_};
-ghost use Prim.Native.Nat.{_+_, _≤_, _<_};
-ghost use lib.Dec.{eqb};
+ghost use mathlib.Core.Bool.{true};
+ghost use Prim.Native.Nat.{_≤_, _<_};
 ghost use lib.ListN.{length};
-ghost use Rattle.storage.specs.Part.{part, store};
-ghost use Rattle.layout.specs.Shapes.{levels, factors, across, pairs, targets, doublesNeeded};
+ghost use Rattle.layout.specs.Shapes.{doublesNeeded};
 ghost use Rattle.layout.specs.Heading.{lawful};
-ghost use Rattle.started.specs.Started.{sortedTheta, BlockStarted, BlocksStarted};
-
-// The levels of sorted block j.
-fn levels_of(y: Layout, j: u64) -> usize
-    requires { ⌜ j < 8 ⌝ }
-    ensures { λ r. ⌜ r ≡ levels y j ⌝ }
-{
-    y.m[j as usize] as usize
-}
+ghost use Rattle.started.specs.Started.{sortedTheta, BlockStarted};
+use layout::Layout;
 
 // Theta of sorted block j, out of theta in sheet order.
-fn theta_of(y: Layout, theta: &[f64], j: u64) -> f64
+pub fn theta_of(y: Layout, theta: &[f64], j: u64) -> f64
     requires { ⌜ (lawful y ≡ true) × (length (now theta) ≡ y .k) × (j < y .k) ⌝ }
     ensures { λ r. ⌜ r ≡ sortedTheta y (now (theta .entry)) j ⌝ }
 {
@@ -28,49 +19,14 @@ fn theta_of(y: Layout, theta: &[f64], j: u64) -> f64
     theta[sheet as usize]
 }
 
-// Whether factor j is a diagonal: the first is, and block 1 where the layout says so.
-fn is_diagonal(y: Layout, j: u64) -> bool
-    ensures { λ r. ⌜ r ≡ (eqb j 0 || (y .diagonal && eqb j 1)) ⌝ }
-{
-    (j == 0) | (y.diagonal & (j == 1))
-}
-
-// The n doubles at src are copied to off.
-fn copy(w: &mut [f64], off: usize, src: usize, n: usize)
-    requires { ⌜ (off + n ≤ length (now w)) × (src + n ≤ off) ⌝ }
-    ensures { λ _. ⌜ now (w .exit) ≡ store off (part src n (now (w .entry))) (now (w .entry)) ⌝ }
-{
-    let mut i = 0;
-    while i < n {
-        w[off + i] = w[src + i];
-        i += 1;
-    }
-}
-
-// Factor j begun: (t·t)·a + 1 on its diagonal, 0 beside it.
-fn start_factor(y: Layout, w: &mut [f64], theta: &[f64], j: u64)
-    requires { ⌜ (lawful y ≡ true) × (length (now theta) ≡ y .k) × (doublesNeeded y ≤ length (now w)) × (j < y .k) ⌝ }
-    ensures { λ _. ⌜ BlockStarted y (sortedTheta y (now (theta .entry))) j j (now (w .entry)) (now (w .exit)) ⌝ }
-{
-    let off = places::working_at(y, j, j);
-    let src = places::loaded_at(y, j, j);
-    let n = levels_of(y, j);
-    let t = theta_of(y, theta, j);
-    if is_diagonal(y, j) {
-        diagonal_init::init_diagonal(w, off, n, src, t);
-        return;
-    }
-    diagonal_init::init(w, off, n, src, t);
-}
-
 // Block (i, j) beside the factors begun: a pair times theta of its column block, then of its row block; fixed rows times theta of their column block.
-fn start_beside(y: Layout, w: &mut [f64], theta: &[f64], i: u64, j: u64)
+pub fn start_beside(y: Layout, w: &mut [f64], theta: &[f64], i: u64, j: u64)
     requires { ⌜ (lawful y ≡ true) × (length (now theta) ≡ y .k) × (doublesNeeded y ≤ length (now w)) × (j < i) × (i ≤ y .k) ⌝ }
     ensures { λ _. ⌜ BlockStarted y (sortedTheta y (now (theta .entry))) i j (now (w .entry)) (now (w .exit)) ⌝ }
 {
     let off = places::working_at(y, i, j);
     let src = places::loaded_at(y, i, j);
-    let n = places::size_of(y, false, i, j) as usize;
+    let n = block_sizes::size_of(y, false, i, j) as usize;
     let column = theta_of(y, theta, j);
     if i == y.k {
         scaling::scale_once(w, off, src, n, column);
@@ -78,64 +34,4 @@ fn start_beside(y: Layout, w: &mut [f64], theta: &[f64], i: u64, j: u64)
     }
     let row = theta_of(y, theta, i);
     scaling::scale_twice(w, off, src, n, column, row);
-}
-
-// The last triangle begun: as it was loaded.
-fn start_last(y: Layout, w: &mut [f64], theta: &[f64])
-    requires { ⌜ (lawful y ≡ true) × (doublesNeeded y ≤ length (now w)) ⌝ }
-    ensures { λ _. ⌜ BlockStarted y (sortedTheta y (now (theta .entry))) (y .k) (y .k) (now (w .entry)) (now (w .exit)) ⌝ }
-{
-    let off = places::working_at(y, y.k, y.k);
-    let src = places::loaded_at(y, y.k, y.k);
-    let n = places::size_of(y, true, y.k, y.k) as usize;
-    copy(w, off, src, n);
-}
-
-// All factors begun.
-fn start_factors(y: Layout, w: &mut [f64], theta: &[f64])
-    requires { ⌜ (lawful y ≡ true) × (length (now theta) ≡ y .k) × (doublesNeeded y ≤ length (now w)) ⌝ }
-    ensures { λ _. ⌜ BlocksStarted y (sortedTheta y (now (theta .entry))) (factors (y .k)) (now (w .entry)) (now (w .exit)) ⌝ }
-{
-    let k = y.k;
-    let mut j: u64 = 0;
-    while j < k {
-        start_factor(y, w, theta, j);
-        j += 1;
-    }
-}
-
-// The blocks of row i beside the factors begun.
-fn start_row(y: Layout, w: &mut [f64], theta: &[f64], i: u64)
-    requires { ⌜ (lawful y ≡ true) × (length (now theta) ≡ y .k) × (doublesNeeded y ≤ length (now w)) × (i ≤ y .k) ⌝ }
-    ensures { λ _. ⌜ BlocksStarted y (sortedTheta y (now (theta .entry))) (across i i) (now (w .entry)) (now (w .exit)) ⌝ }
-{
-    let mut j: u64 = 0;
-    while j < i {
-        start_beside(y, w, theta, i, j);
-        j += 1;
-    }
-}
-
-// All pairs begun.
-fn start_pairs(y: Layout, w: &mut [f64], theta: &[f64])
-    requires { ⌜ (lawful y ≡ true) × (length (now theta) ≡ y .k) × (doublesNeeded y ≤ length (now w)) ⌝ }
-    ensures { λ _. ⌜ BlocksStarted y (sortedTheta y (now (theta .entry))) (pairs (y .k)) (now (w .entry)) (now (w .exit)) ⌝ }
-{
-    let k = y.k;
-    let mut i: u64 = 0;
-    while i < k {
-        start_row(y, w, theta, i);
-        i += 1;
-    }
-}
-
-// Every working block begun; no other double is touched.
-pub fn start_blocks(y: Layout, w: &mut [f64], theta: &[f64])
-    requires { ⌜ (lawful y ≡ true) × (length (now theta) ≡ y .k) × (doublesNeeded y ≤ length (now w)) ⌝ }
-    ensures { λ _. ⌜ BlocksStarted y (sortedTheta y (now (theta .entry))) (targets (y .k)) (now (w .entry)) (now (w .exit)) ⌝ }
-{
-    start_factors(y, w, theta);
-    start_pairs(y, w, theta);
-    start_row(y, w, theta, y.k);
-    start_last(y, w, theta);
 }

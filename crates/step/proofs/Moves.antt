@@ -12,10 +12,10 @@ use Rattle.layout.specs.declared.Layout.{Layout}
 use Rattle.layout.specs.declared.Progress.{Progress}
 use Rattle.layout.specs.Heading.{progressOf}
 use Rattle.update.specs.Calls.{refusedBy}
-use Rattle.heading.specs.Small.{SmallProgress}
+use Rattle.heading_writer.specs.Small.{SmallProgress}
 use Rattle.response.proofs.Replaced.{idle-small}
-use Rattle.step.specs.declared.Moved.{Moved}
-use Rattle.step.specs.Taken.{movedBy, Taken}
+use Rattle.taking.specs.declared.Moved.{Moved}
+use Rattle.taking.specs.Taken.{movedBy, Taken}
 
 -- ---- numbers below a bound
 

@@ -19,7 +19,7 @@ use Rattle.layout.specs.declared.Layout.{Layout}
 use Rattle.layout.specs.Shapes.{pick, levels, shape, loadedShape, loadedAt, workingAt}
 use Rattle.layout.specs.Heading.{layoutOf, entryRow}
 use Rattle.layout.proofs.Lawful.{both}
-use Rattle.places.proofs.Sizes.{below, not-both}
+use Rattle.block_sizes.proofs.Sizes.{below, not-both}
 use Rattle.layout.specs.Fits.{Fits}
 use Rattle.blocks.specs.Blocks.{block, entry, rowFrom}
 use Rattle.rank_diagonal.specs.Diagonal.{loaded, subtractedDiagonal}

@@ -1,21 +1,20 @@
-// The list of test vectors of the square root and the logarithm: its lines, and the comparison.
+// The list of test vectors of the square root and the logarithm: its lines.
 ghost use mathlib.Core.Path.{_≡_};
 ghost use mathlib.Core.Bool.{true};
-ghost use Prim.Native.Nat.{_<_, _^_};
-ghost use lib.Ieee.{binary64, ofBits, toBits};
-ghost use Rattle.vector_list.specs.Words.{digitOf, areDigits, spelt, agreesOf};
-ghost use Rattle.vector_list.specs.Words.{rank as rankOf};
+ghost use Prim.Native.Nat.{_<_};
+ghost use lib.Ieee.{binary64, ofBits};
+ghost use Rattle.vector_list.specs.Words.{digitOf, areDigits, spelt};
 ghost use Rattle.vector_list.specs.Vectors.{groupOf, placeOf, isVector, vectorOf};
 
 // A line's length, with its line feed.
 pub const LINE: usize = 55;
 
 // The word of -0, which is the sign's bit, that of the infinity above 0, and the one that stands for every NaN.
-const SIGN: u64 = 0x8000000000000000;
+pub const SIGN: u64 = 0x8000000000000000;
 
 const INFINITY: u64 = 0x7ff0000000000000;
 
-const NAN: u64 = 0x7ff8000000000000;
+pub const NAN: u64 = 0x7ff8000000000000;
 
 // A record: the place among the fourteen counts, and the words.
 pub struct Vector {
@@ -139,32 +138,4 @@ pub fn double(word: u64) -> f64
         return 0.0 / 0.0;
     }
     f64::from_bits(word)
-}
-
-// The word of a double, of a NaN always the same one.
-fn word_of(x: f64) -> u64
-    ensures { λ r. ⌜ r ≡ toBits binary64 x ⌝ }
-{
-    if x != x {
-        return NAN;
-    }
-    f64::to_bits(x)
-}
-
-// A word's place in the order of doubles.
-fn rank(w: u64) -> u64
-    ensures { λ r. ⌜ r ≡ rankOf w ⌝ }
-{
-    if w < SIGN {
-        return SIGN + w;
-    }
-    u64::MAX - w
-}
-
-// Whether a result lies from lower to upper.
-pub fn agrees(lower: u64, upper: u64, r: f64) -> bool
-    ensures { λ a. ⌜ a ≡ agreesOf lower upper r ⌝ }
-{
-    let w = rank(word_of(r));
-    (rank(lower) <= w) & (w <= rank(upper))
 }

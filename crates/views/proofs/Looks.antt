@@ -18,15 +18,15 @@ use Rattle.layout.specs.Shapes.{pick, levels, shape, workingAt, numbersNeeded, 
 use Rattle.layout.specs.Heading.{layoutOf, progressOf, entryRow, every, lawful, progressLawful, headed}
 use Rattle.workspace.specs.Memory.{cellOf, workingBlock}
 use Rattle.profile.specs.Deviance.{isFinished, logDeterminant}
-use Rattle.places.proofs.Sizes.{doubles-small}
-use Rattle.deviance.specs.Tail.{logDeterminantOf}
+use Rattle.block_sizes.proofs.Sizes.{doubles-small}
+use Rattle.deviance_tail.specs.Tail.{logDeterminantOf}
 use Rattle.views.specs.declared.Left.{Left}
 use Rattle.views.specs.declared.Left.the-variants.{Steps, Refused as Denied}
 use Rattle.views.specs.declared.Look.{Look}
 use Rattle.views.specs.declared.Look.the-variants.{Value, Absent, Refused}
-use Rattle.views.specs.Pivots.{rowsOf, isPivot, pivotShape, pivotAt, pivotLook}
-use Rattle.views.specs.Views.{stepsLeftOf, finishedLook, determinantOf, pivotOf}
-use Rattle.views.proofs.Places.{shape-is}
+use Rattle.pivot_places.specs.Pivots.{rowsOf, isPivot, pivotShape, pivotAt}
+use Rattle.views.specs.Views.{stepsLeftOf, finishedLook, determinantOf, pivotOf, pivotLook}
+use Rattle.pivot_places.proofs.Places.{shape-is}
 
 -- ---- 20 by the heading alone: more doubles than any workspace has are as good as those that it needs
 enough : (a b c d e f g x z i : Bool) → (e ≡ true → x ≡ z) → (a && b && c && d && e && f && g && x && i) ≡ (a && b && c && d && e && f && g && z && i)

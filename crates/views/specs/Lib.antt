@@ -1,2 +1,1 @@
-pub mod Pivots
 pub mod Views

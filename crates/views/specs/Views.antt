@@ -6,6 +6,7 @@ use lib.ListN.{length}
 use lib.Ieee.{Float}
 use Rattle.refusal.specs.declared.Refusal.{Refusal}
 use Rattle.refusal.specs.Numbers.{refusal, noRefusal}
+use Rattle.layout.specs.declared.Layout.{Layout}
 use Rattle.layout.specs.Shapes.{pick, shape, doublesNeeded}
 use Rattle.layout.specs.Heading.{layoutOf, progressOf, entryRow, headed}
 use Rattle.workspace.specs.Memory.{cellOf, workingBlock}
@@ -14,7 +15,7 @@ use Rattle.views.specs.declared.Left.{Left}
 use Rattle.views.specs.declared.Left.the-variants.{Steps, Refused as Denied}
 use Rattle.views.specs.declared.Look.{Look}
 use Rattle.views.specs.declared.Look.the-variants.{Value, Absent, Refused}
-use Rattle.views.specs.Pivots.{isPivot}
+use Rattle.pivot_places.specs.Pivots.{isPivot, pivotAt}
 
 -- document 01's number and places of an answer, 0 where it is none of its refusals
 abbrev pub refusalOfLeft : Left → Refusal
@@ -46,3 +47,7 @@ abbrev pub pivotOf : List ℕ → List Float → ℕ → ℕ → Look
 pivotOf h w j r =
     finishedLook h w
     (pick (isPivot (layoutOf h) j r) (Value (cellOf (shape (layoutOf h) (entryRow h) j j) (workingBlock h w j j) r r)) Absent)
+
+-- pivot r of block j by the layout alone, or that there is none
+abbrev pub pivotLook : Layout → List Float → ℕ → ℕ → Look
+pivotLook y w j r = pick (isPivot y j r) (Value (pivotAt y w j r)) Absent

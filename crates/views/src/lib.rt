@@ -1,9 +1,5 @@
 // What a caller may look at in a workspace: the steps left, the log determinant and the pivots (document 01, Record 5 and "Worked sheets"), with the
 // refusals 20 and 25. What each answers is defined in specs/Views.antt.
-use deviance::is_finished;
-use deviance::refused;
-use layout::Layout;
-use refusal::Refusal;
 ghost use mathlib.Core.Path.{_≡_};
 ghost use mathlib.Core.Bool.{true};
 ghost use Prim.Native.Nat.{_<_, _≤_};
@@ -11,8 +7,11 @@ ghost use lib.ListN.{length};
 ghost use Rattle.layout.specs.Shapes.{doublesNeeded};
 ghost use Rattle.layout.specs.Heading.{progressOf, lawful};
 ghost use Rattle.profile.specs.Deviance.{isFinished};
-ghost use Rattle.views.specs.Pivots.{rowsOf, pivotIn, pivotAt, pivotLook};
-ghost use Rattle.views.specs.Views.{stepsLeftOf, determinantOf, pivotOf};
+ghost use Rattle.views.specs.Views.{stepsLeftOf, determinantOf, pivotOf, pivotLook};
+use deviance::is_finished;
+use deviance::refused;
+use layout::Layout;
+use refusal::Refusal;
 
 // The steps left, or 20.
 pub enum Left {
@@ -57,45 +56,11 @@ pub fn log_determinant(h: &[u32], w: &[f64]) -> Look
 {
     if headed::is_headed(h, w.len()) {
         if has_factor(h) {
-            return Look::Value(deviance::log_determinant(heading::layout(h), w));
+            return Look::Value(deviance_tail::log_determinant(heading::layout(h), w));
         }
         return Look::Refused(refused(25));
     }
     Look::Refused(refused(20))
-}
-
-// How many rows block j has.
-fn rows(y: Layout, j: u64) -> u64
-    requires { ⌜ (lawful y ≡ true) × (j ≤ y .k) ⌝ }
-    ensures { λ r. ⌜ r ≡ rowsOf y j ⌝ }
-{
-    if j == y.k {
-        return y.p + 1;
-    }
-    lawful::level(y, j)
-}
-
-// Where pivot r lies in its block: in a diagonal at r, in a triangle at the end of row r.
-fn pivot_place(y: Layout, j: u64, r: u64) -> usize
-    requires { ⌜ (lawful y ≡ true) × (j ≤ y .k) × (r < rowsOf y j) ⌝ }
-    ensures { λ v. ⌜ v ≡ pivotIn y j r ⌝ }
-{
-    let t = r as usize;
-    if j == y.k {
-        return re_lower::row_start(t) + t;
-    }
-    if (j == 0) | (y.diagonal & (j == 1)) {
-        return t;
-    }
-    re_lower::row_start(t) + t
-}
-
-// Pivot r of block j.
-pub fn read_pivot(y: Layout, w: &[f64], j: u64, r: u64) -> f64
-    requires { ⌜ (lawful y ≡ true) × (doublesNeeded y ≤ length (now w)) × (j ≤ y .k) × (r < rowsOf y j) ⌝ }
-    ensures { λ v. ⌜ v ≡ pivotAt y (now (w .entry)) j r ⌝ }
-{
-    w[places::working_at(y, j, j) + pivot_place(y, j, r)]
 }
 
 // Pivot r of block j where there is one.
@@ -104,8 +69,8 @@ fn pivot_or_absent(y: Layout, w: &[f64], j: u64, r: u64) -> Look
     ensures { λ v. ⌜ v ≡ pivotLook y (now (w .entry)) j r ⌝ }
 {
     if j <= y.k {
-        if r < rows(y, j) {
-            return Look::Value(read_pivot(y, w, j, r));
+        if r < pivot_places::rows(y, j) {
+            return Look::Value(pivot_places::read_pivot(y, w, j, r));
         }
     }
     Look::Absent

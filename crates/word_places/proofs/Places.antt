@@ -16,7 +16,7 @@ use Rattle.layout.specs.Shapes.{levels, loadedAt, loadedLength, sumAt}
 use Rattle.layout.specs.Heading.{lawful}
 use Rattle.layout.proofs.Places.{loaded-inside}
 use Rattle.workspace.specs.Loaded.{rowStart, inBlock}
-use Rattle.places.proofs.Sizes.{doubles-small}
+use Rattle.block_sizes.proofs.Sizes.{doubles-small}
 use Rattle.block_map.specs.Blocks.{blockOf}
 use Rattle.block_map.proofs.Rows.{block-in}
 use Rattle.word_places.specs.Spread.{EachLine, spread, entryPlace, fixedPlace}

@@ -64,7 +64,7 @@ fn entry_place<'a>(
     requires { ⌜ (lawful y ≡ true) × (now counts ≡ y .m) × FirstRows y (now first) × BlockStarts y (now at) ⌝ }
     ensures { λ r. ⌜ r ≡ entryPlace y col row ⌝ }
 {
-    let i = block_map::block_of(y, counts, first, row);
+    let i = row_map::block_of(y, counts, first, row);
     if i >= y.k {
         return NOWHERE;
     }
@@ -72,7 +72,7 @@ fn entry_place<'a>(
     if col == row {
         return (start_of(y, at, i, i) + r) as usize;
     }
-    let j = block_map::block_of(y, counts, first, col);
+    let j = row_map::block_of(y, counts, first, col);
     if j >= i {
         return NOWHERE;
     }
@@ -92,7 +92,7 @@ fn fixed_place<'a>(
     requires { ⌜ (lawful y ≡ true) × (now counts ≡ y .m) × FirstRows y (now first) × BlockStarts y (now at) × (r ≤ y .p) ⌝ }
     ensures { λ o. ⌜ o ≡ fixedPlace y x r ⌝ }
 {
-    let j = block_map::block_of(y, counts, first, x);
+    let j = row_map::block_of(y, counts, first, x);
     if j >= y.k {
         return NOWHERE;
     }

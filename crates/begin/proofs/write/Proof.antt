@@ -1,7 +1,7 @@
 -- `begin::write`: the doubles, then the progress.
 use mathlib.Core.Path.{sym, ap, subst, _∙_}
-use Rattle.places.proofs.Sizes.{few-blocks}
-use Rattle.heading.specs.Small.{SmallProgress}
+use Rattle.block_sizes.proofs.Sizes.{few-blocks}
+use Rattle.heading_writer.specs.Small.{SmallProgress}
 use Rattle.workspace.specs.Memory.{headingWith}
 use Rattle.begin.proofs.Outcome.{under-way-small}
 use borrow.Author.Needs.{needs}
@@ -9,9 +9,9 @@ use Rattle.begin.proofs.write.Statement.{statement}
 use Rattle.begin.proofs.write.Tie as tie
 use Rattle.begin.proofs.write.Reads as reads
 use Rattle.begin.proofs.write.Lts as lts
-use Rattle.begin.proofs.under_way.Reads as under-way-reads
-use Rattle.begin.proofs.write_doubles.Reads as write-doubles-reads
-use Rattle.heading.proofs.write_progress.Reads as write-progress-reads
+use Rattle.begin_writes.proofs.under_way.Reads as under-way-reads
+use Rattle.begin_writes.proofs.write_doubles.Reads as write-doubles-reads
+use Rattle.heading_writer.proofs.write_progress.Reads as write-progress-reads
 
 -- src/lib.rt:62:5
 write-doubles-requires : tie.Need-write-doubles-requires

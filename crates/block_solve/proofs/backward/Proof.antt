@@ -9,7 +9,7 @@ use Rattle.block_solve.proofs.backward.Statement.{statement}
 use Rattle.block_solve.proofs.backward.Tie as tie
 use Rattle.block_solve.proofs.backward.Reads as reads
 use Rattle.block_solve.proofs.backward.Lts as lts
-use Rattle.substitution.proofs.backward.Reads as backward-reads
+use Rattle.back_substitution.proofs.backward.Reads as backward-reads
 use Rattle.re_lower.proofs.row_start.Reads as row-start-reads
 
 add-last : tie.Need-add-last

@@ -6,7 +6,7 @@ use Rattle.count_line.proofs.block_line.Tie as tie
 use Rattle.count_line.proofs.block_line.Reads as reads
 use Rattle.count_line.proofs.block_line.Lts as lts
 use Rattle.field.proofs.number.Reads as number-reads
-use Rattle.field.proofs.tag.Reads as tag-reads
+use Rattle.tag_field.proofs.tag.Reads as tag-reads
 
 slice-aggregate-tag : tie.Need-slice-aggregate-tag
 slice-aggregate-tag c = search needs

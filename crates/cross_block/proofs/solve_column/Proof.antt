@@ -8,9 +8,9 @@ use Rattle.cross_block.proofs.solve_column.Statement.{statement}
 use Rattle.cross_block.proofs.solve_column.Tie as tie
 use Rattle.cross_block.proofs.solve_column.Reads as reads
 use Rattle.cross_block.proofs.solve_column.Lts as lts
-use Rattle.axpy.proofs.less_products.Reads as less-products-reads
-use Rattle.runs.proofs.over.Reads as over-reads
-use Rattle.runs.proofs.read.Reads as read-reads
+use Rattle.axpy_products.proofs.less_products.Reads as less-products-reads
+use Rattle.run_quotients.proofs.over.Reads as over-reads
+use Rattle.run_copies.proofs.read.Reads as read-reads
 
 -- src/lib.rt:69:30
 add-read : tie.Need-add-read

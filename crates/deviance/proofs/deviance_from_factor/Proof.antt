@@ -1,6 +1,6 @@
 -- `deviance::deviance_from_factor`: 20, or a workspace.
 use mathlib.Core.Path.{sym, _∙_}
-use Rattle.deviance.proofs.Tails.{not-headed}
+use Rattle.deviance_tail.proofs.Tails.{not-headed}
 use borrow.Author.Needs.{needs}
 use Rattle.deviance.proofs.deviance_from_factor.Statement.{statement}
 use Rattle.deviance.proofs.deviance_from_factor.Tie as tie

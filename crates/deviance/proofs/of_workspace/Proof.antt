@@ -3,16 +3,16 @@ use mathlib.Core.Path.{ap, _∙_}
 use Rattle.layout.specs.declared.Progress.{Progress}
 use Rattle.profile.specs.Deviance.{isFinished}
 use Rattle.layout.proofs.Fits.{fits}
-use Rattle.deviance.proofs.Tails.{not-finished, finished, workspace}
+use Rattle.deviance_tail.proofs.Tails.{not-finished, finished, workspace}
 use borrow.Author.Needs.{needs}
 use Rattle.deviance.proofs.of_workspace.Statement.{statement}
 use Rattle.deviance.proofs.of_workspace.Tie as tie
 use Rattle.deviance.proofs.of_workspace.Reads as reads
 use Rattle.deviance.proofs.of_workspace.Lts as lts
 use Rattle.deviance.proofs.is_finished.Reads as is-finished-reads
-use Rattle.deviance.proofs.log_determinant.Reads as log-determinant-reads
+use Rattle.deviance_tail.proofs.log_determinant.Reads as log-determinant-reads
 use Rattle.deviance.proofs.refused.Reads as refused-reads
-use Rattle.deviance.proofs.tail.Reads as tail-reads
+use Rattle.deviance_tail.proofs.tail.Reads as tail-reads
 use Rattle.heading.proofs.layout.Reads as layout-reads
 use Rattle.heading.proofs.progress.Reads as progress-reads
 

@@ -3,13 +3,13 @@ use denote.Ref.{now}
 use mathlib.Core.Path.{subst}
 use Rattle.sheet.specs.Sheet.{readSheet}
 use Rattle.sheet.specs.Answer.{Answers}
-use Rattle.factor_text.proofs.Texts.{goes-on, long-out, read-out, unread-out}
+use Rattle.refusal_text.proofs.Texts.{goes-on, long-out, read-out, unread-out}
 use borrow.Author.Needs.{needs}
 use Rattle.factor_text.proofs.factor.Statement.{statement}
 use Rattle.factor_text.proofs.factor.Tie as tie
 use Rattle.factor_text.proofs.factor.Reads as reads
 use Rattle.factor_text.proofs.factor.Lts as lts
-use Rattle.factor_text.proofs.put_refusal.Reads as put-refusal-reads
+use Rattle.refusal_text.proofs.put_refusal.Reads as put-refusal-reads
 use Rattle.factor_text.proofs.put_sheet.Reads as put-sheet-reads
 use Rattle.faults.proofs.first_answer.Reads as first-answer-reads
 

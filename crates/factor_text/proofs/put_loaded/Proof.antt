@@ -3,14 +3,14 @@ use denote.Ref.{now}
 use Rattle.refusal.specs.declared.Answer.{Answer}
 use Rattle.workspace.specs.Answers.{space}
 use Rattle.worked.specs.Program.{afterLoad}
-use Rattle.factor_text.proofs.Texts.{answered}
+use Rattle.refusal_text.proofs.Texts.{answered}
 use borrow.Author.Needs.{needs}
 use Rattle.factor_text.proofs.put_loaded.Statement.{statement}
 use Rattle.factor_text.proofs.put_loaded.Tie as tie
 use Rattle.factor_text.proofs.put_loaded.Reads as reads
 use Rattle.factor_text.proofs.put_loaded.Lts as lts
-use Rattle.factor_text.proofs.put_refusal.Reads as put-refusal-reads
-use Rattle.factor_text.proofs.put_theta.Reads as put-theta-reads
+use Rattle.refusal_text.proofs.put_refusal.Reads as put-refusal-reads
+use Rattle.theta_text.proofs.put_theta.Reads as put-theta-reads
 
 enum-told : tie.Need-enum-told
 enum-told c = search needs

@@ -1,6 +1,6 @@
 -- `factor_text::put_sheet`: load, and what it came to.
 use denote.Ref.{now}
-use Rattle.factor_text.proofs.Texts.{few-lines, sheet-out}
+use Rattle.refusal_text.proofs.Texts.{few-lines, sheet-out}
 use borrow.Author.Needs.{needs}
 use Rattle.factor_text.proofs.put_sheet.Statement.{statement}
 use Rattle.factor_text.proofs.put_sheet.Tie as tie

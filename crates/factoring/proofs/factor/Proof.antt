@@ -6,9 +6,9 @@ use Rattle.factoring.proofs.factor.Statement.{statement}
 use Rattle.factoring.proofs.factor.Tie as tie
 use Rattle.factoring.proofs.factor.Reads as reads
 use Rattle.factoring.proofs.factor.Lts as lts
-use Rattle.factoring.proofs.add_logs.Reads as add-logs-reads
+use Rattle.factor_logs.proofs.add_logs.Reads as add-logs-reads
 use Rattle.factoring.proofs.factor_block.Reads as factor-block-reads
-use Rattle.factoring.proofs.form_of.Reads as form-of-reads
+use Rattle.factor_logs.proofs.form_of.Reads as form-of-reads
 use Rattle.places.proofs.working_at.Reads as working-at-reads
 
 working-at-requires : tie.Need-working-at-requires

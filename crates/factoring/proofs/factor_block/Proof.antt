@@ -1,5 +1,5 @@
 -- `factoring::factor_block`: the kernel of its form.
-use Rattle.factoring.proofs.Forms.{diagonal-fits, triangle-fits, diagonal-factored, triangle-factored}
+use Rattle.factor_logs.proofs.Forms.{diagonal-fits, triangle-fits, diagonal-factored, triangle-factored}
 use borrow.Author.Needs.{needs}
 use Rattle.factoring.proofs.factor_block.Statement.{statement}
 use Rattle.factoring.proofs.factor_block.Tie as tie

@@ -1,12 +1,12 @@
 -- `headed::is_headed`: test after test.
-use Rattle.headed.proofs.Asked.{too-short, no-flags, not-lawful, not-going, all-asked, few-blocks, is-true}
+use Rattle.heading_room.proofs.Asked.{too-short, no-flags, not-lawful, not-going, all-asked, few-blocks, is-true}
 use borrow.Author.Needs.{needs}
 use Rattle.headed.proofs.is_headed.Statement.{statement}
 use Rattle.headed.proofs.is_headed.Tie as tie
 use Rattle.headed.proofs.is_headed.Reads as reads
 use Rattle.headed.proofs.is_headed.Lts as lts
-use Rattle.headed.proofs.has_flags.Reads as has-flags-reads
-use Rattle.headed.proofs.has_room.Reads as has-room-reads
+use Rattle.heading_room.proofs.has_flags.Reads as has-flags-reads
+use Rattle.heading_room.proofs.has_room.Reads as has-room-reads
 use Rattle.heading.proofs.layout.Reads as layout-reads
 use Rattle.lawful.proofs.is_lawful.Reads as is-lawful-reads
 use Rattle.lawful_progress.proofs.is_lawful_progress.Reads as is-lawful-progress-reads

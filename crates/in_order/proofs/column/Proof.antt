@@ -7,16 +7,16 @@ use lib.ListN.{length}
 use Rattle.order.specs.Steps.{S, C, T, each, subtractions, columnSteps, rustOrder}
 use Rattle.workspace.specs.Answers.{space}
 use Rattle.update.specs.Names.{stepOfName}
-use Rattle.in_order.proofs.Runs.{ran-stop, ran-more, turn}
-use Rattle.in_order.proofs.Turns.{prefix}
+use Rattle.ready_step.proofs.Runs.{ran-stop, ran-more, turn}
+use Rattle.ready_step.proofs.Turns.{prefix}
 use borrow.Author.Needs.{needs}
 use Rattle.in_order.proofs.column.Statement.{statement}
 use Rattle.in_order.proofs.column.Tie as tie
 use Rattle.in_order.proofs.column.Reads as reads
 use Rattle.in_order.proofs.column.Lts as lts
 use Rattle.in_order.proofs.subtract_all.Reads as subtract-all-reads
-use Rattle.in_order.proofs.is_refused.Reads as is-refused-reads
-use Rattle.in_order.proofs.take.Reads as take-reads
+use Rattle.ready_step.proofs.is_refused.Reads as is-refused-reads
+use Rattle.ready_step.proofs.take.Reads as take-reads
 use Rattle.in_order.proofs.below.Reads as below-reads
 
 subtract-all-requires : tie.Need-subtract-all-requires

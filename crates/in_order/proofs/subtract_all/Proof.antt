@@ -7,14 +7,14 @@ use lib.ListN.{length}
 use Rattle.order.specs.Steps.{S, C, T, each, subtractions, columnSteps, rustOrder}
 use Rattle.workspace.specs.Answers.{space}
 use Rattle.update.specs.Names.{stepOfName}
-use Rattle.in_order.proofs.Runs.{outcome, Going, going-start, going-turn, going-more, going-refused, going-done}
+use Rattle.ready_step.proofs.Runs.{outcome, Going, going-start, going-turn, going-more, going-refused, going-done}
 use borrow.Author.Needs.{needs}
 use Rattle.in_order.proofs.subtract_all.Statement.{statement}
 use Rattle.in_order.proofs.subtract_all.Tie as tie
 use Rattle.in_order.proofs.subtract_all.Reads as reads
 use Rattle.in_order.proofs.subtract_all.Lts as lts
-use Rattle.in_order.proofs.take.Reads as take-reads
-use Rattle.in_order.proofs.is_refused.Reads as is-refused-reads
+use Rattle.ready_step.proofs.take.Reads as take-reads
+use Rattle.ready_step.proofs.is_refused.Reads as is-refused-reads
 
 abbrev Inv-loop : tie.InvT-loop
 Inv-loop h₀ w₀ i j x₀ h w x = Going (space h₀ w₀) (subtractions i j) (λ z. S i j z ∷ []) x j (space h w) × (length h ≡ length h₀) × (length w ≡ length w₀)

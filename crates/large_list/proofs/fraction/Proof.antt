@@ -1,5 +1,5 @@
 use native.Mathlib.Omega.{arith}
-use Rattle.gate.proofs.Answers.{whole}
+use Rattle.pair_gate.proofs.Answers.{whole}
 use borrow.Author.Needs.{needs}
 use Rattle.large_list.proofs.fraction.Statement.{statement}
 use Rattle.large_list.proofs.fraction.Tie as tie

@@ -4,13 +4,13 @@ use Prim.Native.Nat.{_-_}
 use borrow.Author.Needs.{needs}
 use Rattle.layout.specs.Shapes.{levels}
 use Rattle.layout.specs.Heading.{within}
-use Rattle.lawful.proofs.Every.{Passing, passing-none, passing-more, passing-fails, passing-all}
+use Rattle.sorted_blocks.proofs.Every.{Passing, passing-none, passing-more, passing-fails, passing-all}
 use Rattle.lawful.proofs.has_levels.Statement.{statement}
 use Rattle.lawful.proofs.has_levels.Tie as tie
 use Rattle.lawful.proofs.has_levels.Reads as reads
 use Rattle.lawful.proofs.has_levels.Lts as lts
-use Rattle.lawful.proofs.in_range.Reads as in-range-reads
-use Rattle.lawful.proofs.level.Reads as level-reads
+use Rattle.lawful_counts.proofs.in_range.Reads as in-range-reads
+use Rattle.sorted_blocks.proofs.level.Reads as level-reads
 
 abbrev Inv-loop : tie.InvT-loop
 Inv-loop y k j₀ j = Passing (λ x. within 1 65535 (levels y x)) k j

@@ -5,9 +5,9 @@ use Rattle.lawful.proofs.is_lawful.Statement.{statement}
 use Rattle.lawful.proofs.is_lawful.Tie as tie
 use Rattle.lawful.proofs.is_lawful.Reads as reads
 use Rattle.lawful.proofs.is_lawful.Lts as lts
-use Rattle.lawful.proofs.has_counts.Reads as has-counts-reads
+use Rattle.lawful_counts.proofs.has_counts.Reads as has-counts-reads
 use Rattle.lawful.proofs.has_levels.Reads as has-levels-reads
-use Rattle.lawful.proofs.is_sorted.Reads as is-sorted-reads
+use Rattle.sorted_blocks.proofs.is_sorted.Reads as is-sorted-reads
 use Rattle.lawful.proofs.pairs_pass.Reads as pairs-pass-reads
 use Rattle.lawful.proofs.total.Reads as total-reads
 

@@ -6,8 +6,8 @@ use Rattle.lawful.proofs.pair_passes.Statement.{statement}
 use Rattle.lawful.proofs.pair_passes.Tie as tie
 use Rattle.lawful.proofs.pair_passes.Reads as reads
 use Rattle.lawful.proofs.pair_passes.Lts as lts
-use Rattle.gate.proofs.pair_of.Reads as pair-of-reads
-use Rattle.lawful.proofs.level.Reads as level-reads
+use Rattle.pair_gate.proofs.pair_of.Reads as pair-of-reads
+use Rattle.sorted_blocks.proofs.level.Reads as level-reads
 
 level-requires : tie.Need-level-requires
 level-requires c κs = search needs

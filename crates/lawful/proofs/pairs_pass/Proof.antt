@@ -2,7 +2,7 @@
 use Prim.Native.Nat.{_-_}
 use borrow.Author.Needs.{needs}
 use Rattle.layout.specs.Heading.{every, pairLawful}
-use Rattle.lawful.proofs.Every.{Passing, passing-none, passing-more, passing-fails, passing-all}
+use Rattle.sorted_blocks.proofs.Every.{Passing, passing-none, passing-more, passing-fails, passing-all}
 use Rattle.lawful.proofs.pairs_pass.Statement.{statement}
 use Rattle.lawful.proofs.pairs_pass.Tie as tie
 use Rattle.lawful.proofs.pairs_pass.Reads as reads

@@ -2,7 +2,7 @@
 use Prim.Native.Nat.{_-_}
 use borrow.Author.Needs.{needs}
 use Rattle.layout.specs.Heading.{pairLawful}
-use Rattle.lawful.proofs.Every.{Passing, passing-none, passing-more, passing-fails, passing-all}
+use Rattle.sorted_blocks.proofs.Every.{Passing, passing-none, passing-more, passing-fails, passing-all}
 use Rattle.lawful.proofs.row_passes.Statement.{statement}
 use Rattle.lawful.proofs.row_passes.Tie as tie
 use Rattle.lawful.proofs.row_passes.Reads as reads

@@ -2,12 +2,12 @@
 use native.Mathlib.Omega.{arith}
 use Prim.Native.Nat.{_-_, _≤_}
 use borrow.Author.Needs.{needs}
-use Rattle.lawful.proofs.Sheets.{Summed, summed-none, summed-more, summed-done}
+use Rattle.sorted_blocks.proofs.Sheets.{Summed, summed-none, summed-more, summed-done}
 use Rattle.lawful.proofs.total.Statement.{statement}
 use Rattle.lawful.proofs.total.Tie as tie
 use Rattle.lawful.proofs.total.Reads as reads
 use Rattle.lawful.proofs.total.Lts as lts
-use Rattle.lawful.proofs.level.Reads as level-reads
+use Rattle.sorted_blocks.proofs.level.Reads as level-reads
 
 abbrev Inv-loop : tie.InvT-loop
 Inv-loop y k t₀ j₀ t j = (j ≤ k) × Summed y t j

@@ -1,15 +1,15 @@
 -- `lawful_progress::is_lawful_progress`: test after test.
-use Rattle.lawful_progress.proofs.Stages.{not-bounded, all-tests}
+use Rattle.stage_walk.proofs.Stages.{not-bounded, all-tests}
 use borrow.Author.Needs.{needs}
 use Rattle.lawful_progress.proofs.is_lawful_progress.Statement.{statement}
 use Rattle.lawful_progress.proofs.is_lawful_progress.Tie as tie
 use Rattle.lawful_progress.proofs.is_lawful_progress.Reads as reads
 use Rattle.lawful_progress.proofs.is_lawful_progress.Lts as lts
 use Rattle.heading.proofs.progress.Reads as progress-reads
-use Rattle.lawful_progress.proofs.is_bounded.Reads as is-bounded-reads
+use Rattle.stage_walk.proofs.is_bounded.Reads as is-bounded-reads
 use Rattle.lawful_progress.proofs.state_lawful.Reads as state-lawful-reads
 use Rattle.progress.proofs.step_count.Reads as step-count-reads
-use Rattle.lawful_progress.proofs.walk_all.Reads as walk-all-reads
+use Rattle.walk_order.proofs.walk_all.Reads as walk-all-reads
 
 is-bounded-requires : tie.Need-is-bounded-requires
 is-bounded-requires c κs = search needs

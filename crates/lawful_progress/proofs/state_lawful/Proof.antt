@@ -1,5 +1,5 @@
 -- `lawful_progress::state_lawful`: an arm for each state.
-use Rattle.lawful_progress.proofs.Stages.{state-idle, state-going, state-done}
+use Rattle.stage_walk.proofs.Stages.{state-idle, state-going, state-done}
 use borrow.Author.Needs.{needs}
 use Rattle.lawful_progress.proofs.state_lawful.Statement.{statement}
 use Rattle.lawful_progress.proofs.state_lawful.Tie as tie

@@ -6,7 +6,7 @@ use borrow.Author.Needs.{needs}
 use lib.ListN.{getD}
 use Rattle.levels.proofs.Reading.{few}
 use Rattle.layouts.proofs.Reading.{order-is, levels-are, layout-small}
-use Rattle.layouts.proofs.Pairs.{whole}
+use Rattle.gate_search.proofs.Pairs.{whole}
 use Rattle.layouts.proofs.layout_of.Statement.{statement}
 use Rattle.layouts.proofs.layout_of.Tie as tie
 use Rattle.layouts.proofs.layout_of.Reads as reads

@@ -8,7 +8,7 @@ use Rattle.layouts.proofs.one_sparse.Statement.{statement}
 use Rattle.layouts.proofs.one_sparse.Tie as tie
 use Rattle.layouts.proofs.one_sparse.Reads as reads
 use Rattle.layouts.proofs.one_sparse.Lts as lts
-use Rattle.gate.proofs.pair_of.Reads as pair-of-reads
+use Rattle.pair_gate.proofs.pair_of.Reads as pair-of-reads
 use Rattle.layouts.proofs.is_sparse.Reads as is-sparse-reads
 
 returns : tie.Need-returns

@@ -6,8 +6,8 @@ use Rattle.line.proofs.pair_line.Tie as tie
 use Rattle.line.proofs.pair_line.Reads as reads
 use Rattle.line.proofs.pair_line.Lts as lts
 use Rattle.field.proofs.number.Reads as number-reads
-use Rattle.field.proofs.tag.Reads as tag-reads
-use Rattle.field.proofs.word.Reads as word-reads
+use Rattle.tag_field.proofs.tag.Reads as tag-reads
+use Rattle.word_field.proofs.word.Reads as word-reads
 
 tag-requires : tie.Need-tag-requires
 tag-requires c κs = search needs

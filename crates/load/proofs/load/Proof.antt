@@ -3,7 +3,7 @@ use mathlib.Core.Path.{subst}
 use denote.Ref.{now}
 use Rattle.sheet.specs.Sheet.{sheetOf}
 use Rattle.sheet.specs.Answer.{Answers}
-use Rattle.load.proofs.Outcomes.{to-read, read-out, unread-out}
+use Rattle.load_room.proofs.Outcomes.{to-read, read-out, unread-out}
 use borrow.Author.Needs.{needs}
 use Rattle.load.proofs.load.Statement.{statement}
 use Rattle.load.proofs.load.Tie as tie

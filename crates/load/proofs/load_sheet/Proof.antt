@@ -1,7 +1,7 @@
 -- `load::load_sheet`: the gate's refusal, or past the gate.
 use denote.Ref.{now}
-use Rattle.load.proofs.Fits.{gate-small}
-use Rattle.load.proofs.Outcomes.{gate-open, denied-out, open-out}
+use Rattle.load_room.proofs.Fits.{gate-small}
+use Rattle.load_room.proofs.Outcomes.{gate-open, denied-out, open-out}
 use borrow.Author.Needs.{needs}
 use Rattle.load.proofs.load_sheet.Statement.{statement}
 use Rattle.load.proofs.load_sheet.Tie as tie

@@ -8,8 +8,8 @@ use Rattle.matvec.proofs.less_sums.Statement.{statement}
 use Rattle.matvec.proofs.less_sums.Tie as tie
 use Rattle.matvec.proofs.less_sums.Reads as reads
 use Rattle.matvec.proofs.less_sums.Lts as lts
-use Rattle.axpy.proofs.add_products.Reads as add-products-reads
-use Rattle.runs.proofs.clear.Reads as clear-reads
+use Rattle.axpy_products.proofs.add_products.Reads as add-products-reads
+use Rattle.run_copies.proofs.clear.Reads as clear-reads
 use Rattle.runs.proofs.less.Reads as less-reads
 
 -- src/lib.rt:25:5

@@ -7,8 +7,8 @@ use Rattle.matvec_t.proofs.less_some.Statement.{statement}
 use Rattle.matvec_t.proofs.less_some.Tie as tie
 use Rattle.matvec_t.proofs.less_some.Reads as reads
 use Rattle.matvec_t.proofs.less_some.Lts as lts
-use Rattle.matvec_t.proofs.less_four.Reads as less-four-reads
-use Rattle.matvec_t.proofs.less_one.Reads as less-one-reads
+use Rattle.four_sums.proofs.less_four.Reads as less-four-reads
+use Rattle.four_sums.proofs.less_one.Reads as less-one-reads
 
 -- src/lib.rt:103:9
 less-one-requires : tie.Need-less-one-requires

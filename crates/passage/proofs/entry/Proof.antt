@@ -5,7 +5,7 @@ use Rattle.passage.proofs.entry.Statement.{statement}
 use Rattle.passage.proofs.entry.Tie as tie
 use Rattle.passage.proofs.entry.Reads as reads
 use Rattle.passage.proofs.entry.Lts as lts
-use Rattle.field.proofs.is_finite.Reads as is-finite-reads
+use Rattle.word_class.proofs.is_finite.Reads as is-finite-reads
 use Rattle.passage.proofs.pass.Reads as pass-reads
 use Rattle.passage.proofs.reach.Reads as reach-reads
 use Rattle.passage.proofs.verdict.Reads as verdict-reads

@@ -8,8 +8,8 @@ use Rattle.pivot_lines.proofs.put_rows.Statement.{statement}
 use Rattle.pivot_lines.proofs.put_rows.Tie as tie
 use Rattle.pivot_lines.proofs.put_rows.Reads as reads
 use Rattle.pivot_lines.proofs.put_rows.Lts as lts
-use Rattle.print.proofs.put_pivot.Reads as put-pivot-reads
-use Rattle.views.proofs.read_pivot.Reads as read-pivot-reads
+use Rattle.print_lines.proofs.put_pivot.Reads as put-pivot-reads
+use Rattle.pivot_places.proofs.read_pivot.Reads as read-pivot-reads
 use Rattle.working_blocks.proofs.rows_of.Reads as rows-of-reads
 
 abbrev Inv-loop : tie.InvT-loop

@@ -2,7 +2,7 @@
 use mathlib.Core.Bool.{true, false}
 use native.Mathlib.Omega.{arith}
 use Rattle.layout.specs.Shapes.{loadedLength, sumAt}
-use Rattle.places.proofs.Sizes.{few-blocks, cells-small}
+use Rattle.block_sizes.proofs.Sizes.{few-blocks, cells-small}
 use borrow.Author.Needs.{needs}
 use Rattle.places.proofs.sum_at.Statement.{statement}
 use Rattle.places.proofs.sum_at.Tie as tie

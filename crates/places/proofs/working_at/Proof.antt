@@ -3,8 +3,8 @@ use mathlib.Core.Bool.{true, false}
 use native.Mathlib.Omega.{arith}
 use Rattle.layout.specs.Shapes.{loadedLength, workingAt, targets}
 use Rattle.layout.proofs.Places.{block-inside, in-targets}
-use Rattle.places.specs.Kind.{sizesOf}
-use Rattle.places.proofs.Sizes.{few-blocks, cells-small}
+use Rattle.block_sizes.specs.Kind.{sizesOf}
+use Rattle.block_sizes.proofs.Sizes.{few-blocks, cells-small}
 use borrow.Author.Needs.{needs}
 use Rattle.places.proofs.working_at.Statement.{statement}
 use Rattle.places.proofs.working_at.Tie as tie

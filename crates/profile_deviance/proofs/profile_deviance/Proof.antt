@@ -1,14 +1,14 @@
 -- `profile_deviance::profile_deviance`: only the value case goes on to the tail.
 use mathlib.Core.Path.{refl}
-use Rattle.profile_deviance.proofs.Ends.{no-value, value-ready, value-done}
+use Rattle.update_in_order.proofs.Ends.{no-value, value-ready, value-done}
 use borrow.Author.Needs.{needs}
 use Rattle.profile_deviance.proofs.profile_deviance.Statement.{statement}
 use Rattle.profile_deviance.proofs.profile_deviance.Tie as tie
 use Rattle.profile_deviance.proofs.profile_deviance.Reads as reads
 use Rattle.profile_deviance.proofs.profile_deviance.Lts as lts
-use Rattle.deviance.proofs.tail.Reads as tail-reads
+use Rattle.deviance_tail.proofs.tail.Reads as tail-reads
 use Rattle.heading.proofs.layout.Reads as layout-reads
-use Rattle.profile_deviance.proofs.update.Reads as update-reads
+use Rattle.update_in_order.proofs.update.Reads as update-reads
 use Rattle.profile_deviance.proofs.without_value.Reads as without-value-reads
 
 -- src/lib.rt:168:9

@@ -1,6 +1,6 @@
 -- `profile_deviance::without_value`: an arm for each case.
 use mathlib.Core.Path.{sym, ap}
-use Rattle.profile_deviance.specs.Updating.{withoutValue}
+use Rattle.update_in_order.specs.Updating.{withoutValue}
 use borrow.Author.Needs.{needs}
 use Rattle.profile_deviance.proofs.without_value.Statement.{statement}
 use Rattle.profile_deviance.proofs.without_value.Tie as tie

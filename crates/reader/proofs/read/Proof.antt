@@ -1,14 +1,14 @@
 -- `reader::read`: too long, or by its size line.
 use borrow.Author.Needs.{needs}
 use mathlib.Core.Path.{refl}
-use Rattle.reader.proofs.Sequence.{counts-small, too-long, no-size, out-of-range, in-range}
+use Rattle.sheet_lines.proofs.Sequence.{counts-small, too-long, no-size, out-of-range, in-range}
 use Rattle.reader.proofs.read.Statement.{statement}
 use Rattle.reader.proofs.read.Tie as tie
 use Rattle.reader.proofs.read.Reads as reads
 use Rattle.reader.proofs.read.Lts as lts
-use Rattle.count_line.proofs.size_line.Reads as size-line-reads
-use Rattle.reader.proofs.counts_within.Reads as counts-within-reads
-use Rattle.reader.proofs.lines.Reads as lines-reads
+use Rattle.size_line.proofs.size_line.Reads as size-line-reads
+use Rattle.size_ranges.proofs.counts_within.Reads as counts-within-reads
+use Rattle.sheet_lines.proofs.lines.Reads as lines-reads
 
 returns : tie.Need-returns
 returns c = search too-long

@@ -1,6 +1,6 @@
 -- `reader::sheet`: a sheet that is read ends with its yy line, or something stands behind.
 use borrow.Author.Needs.{needs}
-use Rattle.reader.proofs.Sequence.{ends-there, goes-on, stays-refused}
+use Rattle.sheet_lines.proofs.Sequence.{ends-there, goes-on, stays-refused}
 use Rattle.reader.proofs.sheet.Statement.{statement}
 use Rattle.reader.proofs.sheet.Tie as tie
 use Rattle.reader.proofs.sheet.Reads as reads

@@ -7,9 +7,9 @@ use Rattle.response.proofs.replace_headed.Tie as tie
 use Rattle.response.proofs.replace_headed.Reads as reads
 use Rattle.response.proofs.replace_headed.Lts as lts
 use Rattle.heading.proofs.layout.Reads as layout-reads
-use Rattle.response.proofs.first_of.Reads as first-of-reads
-use Rattle.response.proofs.length_fault.Reads as length-fault-reads
-use Rattle.response.proofs.word_fault.Reads as word-fault-reads
+use Rattle.response_faults.proofs.first_of.Reads as first-of-reads
+use Rattle.response_faults.proofs.length_fault.Reads as length-fault-reads
+use Rattle.response_faults.proofs.word_fault.Reads as word-fault-reads
 use Rattle.response.proofs.write.Reads as write-reads
 
 -- src/lib.rt:90:9

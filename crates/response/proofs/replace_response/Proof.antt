@@ -7,7 +7,7 @@ use Rattle.response.proofs.replace_response.Tie as tie
 use Rattle.response.proofs.replace_response.Reads as reads
 use Rattle.response.proofs.replace_response.Lts as lts
 use Rattle.headed.proofs.is_headed.Reads as is-headed-reads
-use Rattle.response.proofs.refused.Reads as refused-reads
+use Rattle.response_faults.proofs.refused.Reads as refused-reads
 use Rattle.response.proofs.replace_headed.Reads as replace-headed-reads
 
 -- src/lib.rt:106:8

@@ -1,7 +1,7 @@
 -- `response::write`: the rows, then the progress.
 use mathlib.Core.Path.{sym, ap, subst, _∙_}
 use Rattle.layout.proofs.Lawful.{is-lawful}
-use Rattle.heading.specs.Small.{SmallProgress}
+use Rattle.heading_writer.specs.Small.{SmallProgress}
 use Rattle.workspace.specs.Memory.{headingWith}
 use Rattle.response.proofs.Replaced.{idle-small}
 use borrow.Author.Needs.{needs}
@@ -9,7 +9,7 @@ use Rattle.response.proofs.write.Statement.{statement}
 use Rattle.response.proofs.write.Tie as tie
 use Rattle.response.proofs.write.Reads as reads
 use Rattle.response.proofs.write.Lts as lts
-use Rattle.heading.proofs.write_progress.Reads as write-progress-reads
+use Rattle.heading_writer.proofs.write_progress.Reads as write-progress-reads
 use Rattle.progress.proofs.idle.Reads as idle-reads
 use Rattle.response_rows.proofs.write_response.Reads as write-response-reads
 

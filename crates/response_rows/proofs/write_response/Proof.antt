@@ -6,7 +6,7 @@ use Rattle.response_rows.proofs.write_response.Statement.{statement}
 use Rattle.response_rows.proofs.write_response.Tie as tie
 use Rattle.response_rows.proofs.write_response.Reads as reads
 use Rattle.response_rows.proofs.write_response.Lts as lts
-use Rattle.block_map.proofs.map_of.Reads as map-of-reads
+use Rattle.row_map.proofs.map_of.Reads as map-of-reads
 use Rattle.response_rows.proofs.write_blocks.Reads as write-blocks-reads
 use Rattle.response_rows.proofs.write_last.Reads as write-last-reads
 

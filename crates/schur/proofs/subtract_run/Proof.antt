@@ -7,8 +7,8 @@ use Rattle.schur.proofs.subtract_run.Statement.{statement}
 use Rattle.schur.proofs.subtract_run.Tie as tie
 use Rattle.schur.proofs.subtract_run.Reads as reads
 use Rattle.schur.proofs.subtract_run.Lts as lts
-use Rattle.axpy.proofs.add_products.Reads as add-products-reads
-use Rattle.runs.proofs.clear.Reads as clear-reads
+use Rattle.axpy_products.proofs.add_products.Reads as add-products-reads
+use Rattle.run_copies.proofs.clear.Reads as clear-reads
 use Rattle.runs.proofs.less.Reads as less-reads
 
 -- src/lib.rt:28:5

@@ -5,7 +5,7 @@ use Rattle.solving.proofs.divide.Statement.{statement}
 use Rattle.solving.proofs.divide.Tie as tie
 use Rattle.solving.proofs.divide.Reads as reads
 use Rattle.solving.proofs.divide.Lts as lts
-use Rattle.cross_block.proofs.divide_columns.Reads as divide-columns-reads
+use Rattle.divide_columns.proofs.divide_columns.Reads as divide-columns-reads
 use Rattle.places.proofs.working_at.Reads as working-at-reads
 use Rattle.solving.proofs.height.Reads as height-reads
 use Rattle.working_blocks.proofs.rows_of.Reads as rows-of-reads

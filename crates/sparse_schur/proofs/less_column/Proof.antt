@@ -8,7 +8,7 @@ use Rattle.sparse_schur.proofs.less_column.Tie as tie
 use Rattle.sparse_schur.proofs.less_column.Reads as reads
 use Rattle.sparse_schur.proofs.less_column.Lts as lts
 use Rattle.runs.proofs.less_times.Reads as less-times-reads
-use Rattle.runs.proofs.read.Reads as read-reads
+use Rattle.run_copies.proofs.read.Reads as read-reads
 
 -- src/lib.rt:115:5
 read-requires : tie.Need-read-requires

@@ -7,7 +7,7 @@ use Rattle.started.proofs.start_beside.Tie as tie
 use Rattle.started.proofs.start_beside.Reads as reads
 use Rattle.started.proofs.start_beside.Lts as lts
 use Rattle.places.proofs.loaded_at.Reads as loaded-at-reads
-use Rattle.places.proofs.size_of.Reads as size-of-reads
+use Rattle.block_sizes.proofs.size_of.Reads as size-of-reads
 use Rattle.places.proofs.working_at.Reads as working-at-reads
 use Rattle.scaling.proofs.scale_once.Reads as scale-once-reads
 use Rattle.scaling.proofs.scale_twice.Reads as scale-twice-reads

@@ -3,7 +3,7 @@ use native.Mathlib.Omega.{arith}
 use lib.Ieee.{nan}
 use Rattle.rules.specs.Arithmetic.{ieee}
 use Rattle.blocks.proofs.Laws.{any-default}
-use Rattle.places.proofs.Sizes.{few-blocks}
+use Rattle.block_sizes.proofs.Sizes.{few-blocks}
 use Rattle.block_map.proofs.Rows.{order-below}
 use borrow.Author.Needs.{needs}
 use Rattle.started.proofs.theta_of.Statement.{statement}

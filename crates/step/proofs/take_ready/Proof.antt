@@ -1,7 +1,7 @@
 -- `step::take_ready`: the step, then its progress in the heading.
 use native.Mathlib.Omega.{arith}
 use Rattle.update.specs.Names.{stepOfName}
-use Rattle.step.proofs.Laws.{few, ready-left}
+use Rattle.taking.proofs.Laws.{few, ready-left}
 use Rattle.step.proofs.Moves.{handed-small}
 use Rattle.step.proofs.Turns.{read-named, read-left}
 use borrow.Author.Needs.{needs}
@@ -11,8 +11,8 @@ use Rattle.step.proofs.take_ready.Reads as reads
 use Rattle.step.proofs.take_ready.Lts as lts
 use Rattle.heading.proofs.layout.Reads as layout-reads
 use Rattle.heading.proofs.progress.Reads as progress-reads
-use Rattle.heading.proofs.write_progress.Reads as write-progress-reads
-use Rattle.step.proofs.take.Reads as take-reads
+use Rattle.heading_writer.proofs.write_progress.Reads as write-progress-reads
+use Rattle.take_step.proofs.take.Reads as take-reads
 
 layout-requires : tie.Need-layout-requires
 layout-requires c κs = search needs

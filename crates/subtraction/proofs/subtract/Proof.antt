@@ -5,7 +5,7 @@ use mathlib.Core.Logic.{inl, inr, ⊎-elim}
 use native.Mathlib.Omega.{arith}
 use lib.Dec.{eqb}
 use borrow.Author.Tests.{ne-eqb}
-use Rattle.places.proofs.Sizes.{below, not-both}
+use Rattle.block_sizes.proofs.Sizes.{below, not-both}
 use Rattle.working_blocks.proofs.Workspace.{fits-lawful, fits-room, fits-two, fits-numbers, fits-rows}
 use Rattle.subtraction.proofs.Rules.{made-last, made-triangle, made-dense, made-diagonal, made-entries, made-sparse}
 use borrow.Author.Needs.{needs}
@@ -13,12 +13,12 @@ use Rattle.subtraction.proofs.subtract.Statement.{statement}
 use Rattle.subtraction.proofs.subtract.Tie as tie
 use Rattle.subtraction.proofs.subtract.Reads as reads
 use Rattle.subtraction.proofs.subtract.Lts as lts
-use Rattle.subtraction.proofs.lessen_dense.Reads as lessen-dense-reads
-use Rattle.subtraction.proofs.lessen_diagonal.Reads as lessen-diagonal-reads
-use Rattle.subtraction.proofs.lessen_diagonal_sparse.Reads as lessen-diagonal-sparse-reads
-use Rattle.subtraction.proofs.lessen_last.Reads as lessen-last-reads
-use Rattle.subtraction.proofs.lessen_sparse.Reads as lessen-sparse-reads
-use Rattle.subtraction.proofs.lessen_triangle.Reads as lessen-triangle-reads
+use Rattle.lessening.proofs.lessen_dense.Reads as lessen-dense-reads
+use Rattle.lessening_diagonal.proofs.lessen_diagonal.Reads as lessen-diagonal-reads
+use Rattle.lessening_diagonal.proofs.lessen_diagonal_sparse.Reads as lessen-diagonal-sparse-reads
+use Rattle.lessening.proofs.lessen_last.Reads as lessen-last-reads
+use Rattle.lessening_diagonal.proofs.lessen_sparse.Reads as lessen-sparse-reads
+use Rattle.lessening_diagonal.proofs.lessen_triangle.Reads as lessen-triangle-reads
 
 -- src/lib.rt:105:9
 lessen-last-requires : tie.Need-lessen-last-requires

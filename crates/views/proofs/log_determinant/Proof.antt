@@ -4,7 +4,7 @@ use lib.ListN.{length}
 use mathlib.Core.Path.{sym, _∙_}
 use Rattle.layout.proofs.Fits.{fits}
 use Rattle.profile.specs.Deviance.{logDeterminant}
-use Rattle.deviance.proofs.Tails.{workspace}
+use Rattle.deviance_tail.proofs.Tails.{workspace}
 use Rattle.views.specs.declared.Look.the-variants.{Value}
 use Rattle.views.proofs.Looks.{not-headed, not-finished, finished, determinant}
 use borrow.Author.Needs.{needs}
@@ -12,7 +12,7 @@ use Rattle.views.proofs.log_determinant.Statement.{statement}
 use Rattle.views.proofs.log_determinant.Tie as tie
 use Rattle.views.proofs.log_determinant.Reads as reads
 use Rattle.views.proofs.log_determinant.Lts as lts
-use Rattle.deviance.proofs.log_determinant.Reads as log-determinant-reads
+use Rattle.deviance_tail.proofs.log_determinant.Reads as log-determinant-reads
 use Rattle.deviance.proofs.refused.Reads as refused-reads
 use Rattle.headed.proofs.is_headed.Reads as is-headed-reads
 use Rattle.heading.proofs.layout.Reads as layout-reads

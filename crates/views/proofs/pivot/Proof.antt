@@ -6,9 +6,9 @@ use Rattle.layout.proofs.Fits.{fits}
 use Rattle.layout.specs.Shapes.{pick, shape}
 use Rattle.layout.specs.Heading.{layoutOf, entryRow}
 use Rattle.workspace.specs.Memory.{cellOf, workingBlock}
-use Rattle.deviance.proofs.Tails.{workspace}
+use Rattle.deviance_tail.proofs.Tails.{workspace}
 use Rattle.views.specs.declared.Look.the-variants.{Value, Absent}
-use Rattle.views.specs.Pivots.{isPivot}
+use Rattle.pivot_places.specs.Pivots.{isPivot}
 use Rattle.views.proofs.Looks.{not-headed, not-finished, finished, pivot-same}
 use borrow.Author.Needs.{needs}
 use Rattle.views.proofs.pivot.Statement.{statement}

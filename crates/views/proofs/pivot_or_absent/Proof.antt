@@ -5,8 +5,8 @@ use Rattle.views.proofs.pivot_or_absent.Statement.{statement}
 use Rattle.views.proofs.pivot_or_absent.Tie as tie
 use Rattle.views.proofs.pivot_or_absent.Reads as reads
 use Rattle.views.proofs.pivot_or_absent.Lts as lts
-use Rattle.views.proofs.read_pivot.Reads as read-pivot-reads
-use Rattle.views.proofs.rows.Reads as rows-reads
+use Rattle.pivot_places.proofs.read_pivot.Reads as read-pivot-reads
+use Rattle.pivot_places.proofs.rows.Reads as rows-reads
 
 -- src/lib.rt:107:16
 rows-requires : tie.Need-rows-requires

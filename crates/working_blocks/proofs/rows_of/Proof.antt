@@ -1,7 +1,7 @@
 -- `working_blocks::rows_of`: block k, or one of the levels.
 use mathlib.Core.Path.{sym}
 use native.Mathlib.Omega.{arith}
-use Rattle.places.proofs.Sizes.{below, few-blocks, few-effects}
+use Rattle.block_sizes.proofs.Sizes.{below, few-blocks, few-effects}
 use Rattle.working_blocks.proofs.Shapes.{rows-last, rows-level}
 use Rattle.working_blocks.proofs.rows_of.Statement.{statement}
 use Rattle.working_blocks.proofs.rows_of.Tie as tie

@@ -1,0 +1,154 @@
+-- `axpy_products::take_products`: each sum has its first x products.
+use borrow.Author.Needs.{needs}
+use mathlib.Core.Path.{_≡_, refl, sym, ap, _∙_}
+use Prim.Native.Nat.{ℕ, _≤_, _-_, _+_}
+use native.Mathlib.Omega.{arith}
+use lib.ListN.{length}
+use Rattle.storage.specs.Runs.{start, dense}
+use Rattle.storage.proofs.Starts.{start-dense, start-le}
+use Rattle.axpy.specs.Axpy.{products, taking}
+use Rattle.axpy.proofs.Sums.{left-fits, next-start, none-taken, more-taken}
+use Rattle.axpy_products.proofs.take_products.Statement.{statement}
+use Rattle.axpy_products.proofs.take_products.Tie as tie
+use Rattle.axpy_products.proofs.take_products.Reads as reads
+use Rattle.axpy_products.proofs.take_products.Lts as lts
+use Rattle.axpy.proofs.add_some.Reads as add-some-reads
+
+abbrev Inv-loop : tie.InvT-loop
+Inv-loop acc₀ n w a rows v b step r inner less x₀ p₀ q₀ acc x p q =
+    (x ≤ inner) × (p ≡ a + start (dense rows) x) × (q ≡ b + start (dense step) x) × (length acc ≡ length acc₀) × (acc ≡ products (taking less) acc₀ n w a rows v b step r x)
+
+abbrev μ-loop : tie.MeasureT-loop
+μ-loop acc₀ n w a rows v b step r inner less x₀ p₀ q₀ acc x p q = inner - x
+
+-- src/lib.rt:96:5
+loop-holds : tie.Need-loop-holds Inv-loop μ-loop
+loop-holds c =
+    let a = c .before .before .before .args in (
+      omega arith,
+      omega (arith, start-dense (a .rows) 0),
+      omega (arith, start-dense (a .step) 0),
+      refl,
+      none-taken (taking (a .less)) (a .acc .now) (a .n) (a .w .now) (a .a) (a .rows) (a .v .now) (a .b) (a .step) (a .r) (omega arith) (omega arith) (omega arith),
+    )
+
+-- src/lib.rt:97:61
+sub-add-some : tie.Need-sub-add-some Inv-loop μ-loop
+sub-add-some c = search needs
+
+-- src/lib.rt:97:13
+add-some-requires : tie.Need-add-some-requires Inv-loop μ-loop
+add-some-requires c κs =
+    let a = c .before .before .before .before .before .before .args in
+    let l = c .before .before .loop in
+    omega (
+      arith,
+      left-fits (a .a) (a .rows) (l .x) (a .inner) (l .p) (length (a .w .now)) (omega arith) (omega arith) (omega arith),
+      left-fits (a .b) (a .step) (l .x) (a .inner) (l .q) (length (a .v .now)) (omega arith) (omega arith) (omega arith),
+    )
+
+-- src/lib.rt:98:14
+mul-p : tie.Need-mul-p Inv-loop μ-loop
+mul-p c =
+    let a = c .before .before .before .before .before .before .before .before .before .args in
+    let l = c .before .before .before .before .before .loop in
+    let k = c .before .before .add-some .result in
+    omega (
+      arith,
+      next-start (a .a) (a .rows) (l .x) k (a .inner) (l .p) (length (a .w .now)) (omega arith) (omega arith) (omega arith),
+      next-start (a .b) (a .step) (l .x) k (a .inner) (l .q) (length (a .v .now)) (omega arith) (omega arith) (omega arith),
+    )
+
+-- src/lib.rt:98:9
+add-p : tie.Need-add-p Inv-loop μ-loop
+add-p c =
+    let a = c .before .before .before .before .before .before .before .before .before .args in
+    let l = c .before .before .before .before .before .loop in
+    let k = c .before .before .add-some .result in
+    omega (
+      arith,
+      next-start (a .a) (a .rows) (l .x) k (a .inner) (l .p) (length (a .w .now)) (omega arith) (omega arith) (omega arith),
+      next-start (a .b) (a .step) (l .x) k (a .inner) (l .q) (length (a .v .now)) (omega arith) (omega arith) (omega arith),
+    )
+
+-- src/lib.rt:99:14
+mul-q : tie.Need-mul-q Inv-loop μ-loop
+mul-q c =
+    let a = c .before .before .before .before .before .before .before .before .before .args in
+    let l = c .before .before .before .before .before .loop in
+    let k = c .before .before .add-some .result in
+    omega (
+      arith,
+      next-start (a .a) (a .rows) (l .x) k (a .inner) (l .p) (length (a .w .now)) (omega arith) (omega arith) (omega arith),
+      next-start (a .b) (a .step) (l .x) k (a .inner) (l .q) (length (a .v .now)) (omega arith) (omega arith) (omega arith),
+    )
+
+-- src/lib.rt:99:9
+add-q : tie.Need-add-q Inv-loop μ-loop
+add-q c =
+    let a = c .before .before .before .before .before .before .before .before .before .args in
+    let l = c .before .before .before .before .before .loop in
+    let k = c .before .before .add-some .result in
+    omega (
+      arith,
+      next-start (a .a) (a .rows) (l .x) k (a .inner) (l .p) (length (a .w .now)) (omega arith) (omega arith) (omega arith),
+      next-start (a .b) (a .step) (l .x) k (a .inner) (l .q) (length (a .v .now)) (omega arith) (omega arith) (omega arith),
+    )
+
+-- src/lib.rt:100:9
+add-x : tie.Need-add-x Inv-loop μ-loop
+add-x c = search needs
+
+-- src/lib.rt:96:5
+loop-less : tie.Need-loop-less Inv-loop μ-loop
+loop-less c = search needs
+
+-- src/lib.rt:96:5
+loop-again : tie.Need-loop-again Inv-loop μ-loop
+loop-again c =
+    let a = c .before .before .before .before .before .before .before .before .before .args in
+    let l = c .before .before .before .before .before .loop in
+    let s = c .before .before .add-some in
+    let P = next-start (a .a) (a .rows) (l .x) (s .result) (a .inner) (l .p) (length (a .w .now)) (omega arith) (omega arith) (omega arith) in
+    let Q = next-start (a .b) (a .step) (l .x) (s .result) (a .inner) (l .q) (length (a .v .now)) (omega arith) (omega arith) (omega arith) in
+    let room : l .x + s .result ≤ a .inner = omega arith in (
+      room,
+      P .1,
+      Q .1,
+      omega arith,
+      more-taken (taking (a .less)) (a .acc .now) (a .n) (a .w .now) (a .a) (a .rows) (a .v .now) (a .b) (a .step) (a .r) (omega arith) (omega arith) (omega arith)
+          (l .x) (s .result) (l .p) (l .q) (l .acc) _ (l .inv .1) (l .inv .2)
+          (omega (arith, start-le (dense (a .rows)) (l .x + s .result) (a .inner) room))
+          (omega (arith, start-le (dense (a .step)) (l .x + s .result) (a .inner) room)) (l .inv .4) (s .ensures .2),
+    )
+
+-- src/lib.rt:78:1
+same-length : tie.Need-same-length Inv-loop μ-loop
+same-length c = search needs
+
+-- src/lib.rt:78:1
+returns : tie.Need-returns Inv-loop μ-loop
+returns c =
+    let a = c .before .before .before .before .before .args in
+    let l = c .before .loop in
+    let e : l .x ≡ a .inner = omega arith in
+    l .inv .4 ∙ ap (products (taking (a .less)) (a .acc .now) (a .n) (a .w .now) (a .a) (a .rows) (a .v .now) (a .b) (a .step) (a .r)) e
+
+pub take-products-spec : {M : Type 1} → statement M
+take-products-spec =
+    tie.close
+    (tie.spec
+    Inv-loop
+    μ-loop
+    loop-holds
+    sub-add-some
+    add-some-requires
+    mul-p
+    add-p
+    mul-q
+    add-q
+    add-x
+    loop-less
+    loop-again
+    same-length
+    returns)

@@ -1,0 +1,37 @@
+// What begin writes to the doubles and to progress (document 01, Records 4 and 5).
+ghost use mathlib.Core.Path.{_≡_};
+ghost use mathlib.Core.Bool.{true};
+ghost use Prim.Native.Nat.{_≤_};
+ghost use lib.ListN.{length};
+ghost use Rattle.layout.specs.Shapes.{doublesNeeded};
+ghost use Rattle.layout.specs.Heading.{lawful, underWay};
+ghost use Rattle.begin_writes.specs.Begun.{DoublesBegun};
+use layout::Layout;
+use layout::Progress;
+use layout::State;
+
+// An update just begun: no step is done, every one is left.
+pub fn under_way(k: u64) -> Progress
+    requires { ⌜ k ≤ 8 ⌝ }
+    ensures { λ r. ⌜ r ≡ underWay k ⌝ }
+{
+    let left = progress::step_count(k);
+    Progress {
+        state: State::UnderWay,
+        left,
+        stages: [0; 45],
+    }
+}
+
+// Theta, the working blocks and the sum.
+pub fn write_doubles(y: Layout, w: &mut [f64], theta: &[f64])
+    requires { ⌜ (lawful y ≡ true) × (length (now theta) ≡ y .k) × (doublesNeeded y ≤ length (now w)) ⌝ }
+    ensures { λ _. ⌜ DoublesBegun y (now (theta .entry)) (now (w .entry)) (now (w .exit)) ⌝ }
+{
+    let at = places::theta_at(y);
+    let sum = places::sum_at(y);
+    let k = theta.len();
+    run_copies::put(w, at, at + k, 0, k, theta);
+    starting::start_blocks(y, w, theta);
+    w[sum] = 0.0;
+}

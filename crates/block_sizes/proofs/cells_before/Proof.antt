@@ -1,0 +1,92 @@
+-- `block_sizes::cells_before`: the factors before it; or all factors, the pairs of the rows above and the blocks to its left.
+use Prim.Native.Nat.{ℕ}
+use mathlib.Core.Path.{_≡_, sym, subst, _∙_}
+use mathlib.Core.Logic.{⊎-elim}
+use native.Mathlib.Omega.{arith}
+use Rattle.layout.specs.Shapes.{targets, factors, cellsOf, before}
+use Rattle.block_sizes.specs.Kind.{sizesOf}
+use Rattle.block_sizes.proofs.Sizes.{few-blocks, factors-small, pairs-small, across-small}
+use Rattle.block_sizes.proofs.Before.{before-factor, before-row}
+use borrow.Author.Needs.{needs}
+use Rattle.block_sizes.proofs.cells_before.Statement.{statement}
+use Rattle.block_sizes.proofs.cells_before.Tie as tie
+
+-- src/lib.rt:125:13
+factor-cells-requires : tie.Need-factor-cells-requires
+factor-cells-requires c κs = search needs
+
+-- src/lib.rt:125:13
+returns : tie.Need-returns
+returns c =
+    let a = c .before .before .before .before .args in
+    let e : a .i ≡ a .j = c .before .before .before .if1 .taken in
+    c .factor-cells .ensures
+    ∙ sym
+    (subst (λ (x : ℕ). before (sizesOf (a .y) (a .loaded)) (targets (a .y .k)) x (a .j) ≡ cellsOf (sizesOf (a .y) (a .loaded)) (factors (a .j))) (sym e)
+    (before-factor (sizesOf (a .y) (a .loaded)) (a .y .k) (a .j) (omega arith)))
+
+-- src/lib.rt:128:5
+factor-cells-requires-2 : tie.Need-factor-cells-requires-2
+factor-cells-requires-2 c κs = search needs
+
+-- src/lib.rt:128:36
+pair-cells-requires : tie.Need-pair-cells-requires
+pair-cells-requires c κs = search needs
+
+-- src/lib.rt:128:5
+add-result : tie.Need-add-result
+add-result c =
+    let s = c .before .before .before in
+    omega (
+      arith,
+      few-blocks (s .args .y) (s .pre .0),
+      factors-small (s .args .y) (s .pre .0) (s .args .loaded) (s .args .y .k) (omega arith),
+      pairs-small (s .args .y) (s .pre .0) (s .args .loaded) (s .args .i) (omega arith),
+      c .before .factor-cells2 .ensures,
+      c .pair-cells .ensures,
+    )
+
+-- src/lib.rt:128:63
+row-cells-requires : tie.Need-row-cells-requires
+row-cells-requires c κs = search needs
+
+-- src/lib.rt:128:5
+add-result-2 : tie.Need-add-result-2
+add-result-2 c =
+    let s = c .before .before .before .before in
+    omega (
+      arith,
+      few-blocks (s .args .y) (s .pre .0),
+      factors-small (s .args .y) (s .pre .0) (s .args .loaded) (s .args .y .k) (omega arith),
+      pairs-small (s .args .y) (s .pre .0) (s .args .loaded) (s .args .i) (omega arith),
+      across-small (s .args .y) (s .pre .0) (s .args .loaded) (s .args .i) (s .args .j) (omega arith) (omega arith),
+      c .before .before .factor-cells2 .ensures,
+      c .before .pair-cells .ensures,
+      c .row-cells .ensures,
+    )
+
+-- src/lib.rt:119:1
+returns-2 : tie.Need-returns-2
+returns-2 c =
+    let s = c .before .before .before .before in
+    let a = s .args in
+    omega (
+      arith,
+      before-row (sizesOf (a .y) (a .loaded)) (a .y .k) (a .i) (a .j) (s .pre .1) (s .pre .2) (⊎-elim (λ t e l. omega arith) (λ t e l. absurd (t .left e)) (c .before .before .before .if1 .came)),
+      c .before .before .factor-cells2 .ensures,
+      c .before .pair-cells .ensures,
+      c .row-cells .ensures,
+    )
+
+pub cells-before-spec : {M : Type 1} → statement M
+cells-before-spec =
+    tie.close
+    (tie.spec
+    factor-cells-requires
+    returns
+    factor-cells-requires-2
+    pair-cells-requires
+    add-result
+    row-cells-requires
+    add-result-2
+    returns-2)

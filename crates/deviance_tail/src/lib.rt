@@ -1,0 +1,68 @@
+// The profiled deviance of a finished factor (document 01, Record 6).
+ghost use mathlib.Core.Path.{_≡_};
+ghost use mathlib.Core.Bool.{true};
+ghost use Prim.Native.Nat.{_≤_};
+ghost use lib.ListN.{length};
+ghost use Rattle.rules.specs.Arithmetic.{ieee};
+ghost use Rattle.rules.specs.Finish.{devianceOf};
+ghost use Rattle.layout.specs.Shapes.{doublesNeeded};
+ghost use Rattle.layout.specs.Heading.{lawful};
+ghost use Rattle.profile.specs.Deviance.{freedom};
+ghost use Rattle.deviance_tail.specs.Tail.{pivotOf, logDeterminantOf, devianceWith};
+use layout::Layout;
+use profile::Deviance;
+
+// Twice the logarithms' sum.
+pub fn log_determinant(y: Layout, w: &[f64]) -> f64
+    requires { ⌜ (lawful y ≡ true) × (doublesNeeded y ≤ length (now w)) ⌝ }
+    ensures { λ r. ⌜ r ≡ logDeterminantOf y (now (w .entry)) ⌝ }
+{
+    2.0 * w[places::sum_at(y)]
+}
+
+// n, or n - p: both are exact.
+fn freedom(y: Layout, reml: bool) -> f64
+    requires { ⌜ lawful y ≡ true ⌝ }
+    ensures { λ r. ⌜ r ≡ freedom y reml ⌝ }
+{
+    if reml {
+        return (y.n as f64) - (y.p as f64);
+    }
+    y.n as f64
+}
+
+// The last pivot of all.
+fn last_pivot(y: Layout, w: &[f64]) -> f64
+    requires { ⌜ (lawful y ≡ true) × (doublesNeeded y ≤ length (now w)) ⌝ }
+    ensures { λ r. ⌜ r ≡ pivotOf y (now (w .entry)) (y .p) ⌝ }
+{
+    let p = y.p as usize;
+    w[places::working_at(y, y.k, y.k) + re_lower::row_start(p) + p]
+}
+
+// The deviance with d and the scale s. REML adds twice the logarithms of the first p pivots of block k.
+fn value(y: Layout, w: &[f64], d: f64, s: f64, logdet: f64, reml: bool) -> f64
+    requires { ⌜ (lawful y ≡ true) × (doublesNeeded y ≤ length (now w)) ⌝ }
+    ensures { λ r. ⌜ r ≡ devianceOf ieee reml d s logdet (pivotOf y (now (w .entry))) (y .p) ⌝ }
+{
+    let ml = d * logarithm::ln(f64::from_bits(4618760256179416344) * s) + logdet + d;
+    if reml {
+        let at = places::working_at(y, y.k, y.k);
+        return ml + 2.0 * block_logs::log_pivots(w, at, y.p as usize, 0.0);
+    }
+    ml
+}
+
+// The deviance of the doubles, the log determinant being known: no scale where the square of the last pivot or d is at most 0.
+pub fn tail(y: Layout, w: &[f64], logdet: f64, reml: bool) -> Deviance
+    requires { ⌜ (lawful y ≡ true) × (doublesNeeded y ≤ length (now w)) ⌝ }
+    ensures { λ r. ⌜ r ≡ devianceWith y (now (w .entry)) logdet reml ⌝ }
+{
+    let pivot = last_pivot(y, w);
+    let r2 = pivot * pivot;
+    let d = freedom(y, reml);
+    if (r2 <= 0.0) | (d <= 0.0) {
+        return Deviance::NoScale;
+    }
+    Deviance::Value(value(y, w, d, r2 / d, logdet, reml))
+}

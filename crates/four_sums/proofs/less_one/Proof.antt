@@ -1,0 +1,118 @@
+-- `four_sums::less_one`: s is the sum of the first r products.
+use borrow.Author.Needs.{needs}
+use mathlib.Core.Path.{_≡_, refl}
+use Prim.Native.Nat.{_≤_, _-_}
+use native.Mathlib.Omega.{arith}
+use native.Mathlib.Numerals.{add-one}
+use lib.Ieee.{ofBits}
+use Rattle.storage.proofs.Starts.{start-dense}
+use Rattle.axpy.specs.Axpy.{along}
+use Rattle.axpy.proofs.Loops.{made-none}
+use Rattle.matvec.specs.Products.{columnSum, columnLess}
+use Rattle.matvec.proofs.Dense.{sum-more, column-less}
+use Rattle.four_sums.proofs.less_one.Statement.{statement}
+use Rattle.four_sums.proofs.less_one.Tie as tie
+use Rattle.four_sums.proofs.less_one.Reads as reads
+use Rattle.four_sums.proofs.less_one.Lts as lts
+
+abbrev Inv-loop : tie.InvT-loop
+Inv-loop v to w p rows z s₀ r₀ s r = (r ≤ rows) × (s ≡ columnSum w p v z r)
+
+abbrev μ-loop : tie.MeasureT-loop
+μ-loop v to w p rows z s₀ r₀ s r = rows - r
+
+-- src/lib.rt:55:5
+loop-holds : tie.Need-loop-holds Inv-loop μ-loop
+unfolding along ofBits
+loop-holds c = (omega arith, refl)
+
+-- src/lib.rt:56:19
+add-s : tie.Need-add-s Inv-loop μ-loop
+add-s c = search needs
+
+-- src/lib.rt:56:17
+mul-s : tie.Need-mul-s Inv-loop μ-loop
+mul-s c = search needs
+
+-- src/lib.rt:56:17
+shared-slice-read-s : tie.Need-shared-slice-read-s Inv-loop μ-loop
+shared-slice-read-s c = search needs
+
+-- src/lib.rt:56:30
+add-s-2 : tie.Need-add-s-2 Inv-loop μ-loop
+add-s-2 c = search needs
+
+-- src/lib.rt:56:28
+mul-s-2 : tie.Need-mul-s-2 Inv-loop μ-loop
+mul-s-2 c = search needs
+
+-- src/lib.rt:56:28
+slice-read-s : tie.Need-slice-read-s Inv-loop μ-loop
+slice-read-s c = search needs
+
+-- src/lib.rt:57:9
+add-r : tie.Need-add-r Inv-loop μ-loop
+add-r c = search needs
+
+-- src/lib.rt:55:5
+loop-less : tie.Need-loop-less Inv-loop μ-loop
+loop-less c = search needs
+
+-- src/lib.rt:55:5
+loop-again : tie.Need-loop-again Inv-loop μ-loop
+loop-again c =
+    let a = c .before .before .before .before .args in
+    let l = c .before .before .before .loop in
+    (omega arith, rw add-one (sum-more (a .w .now) (a .p) (a .v .now) (a .z) (l .r) (l .s) (l .inv .1)))
+
+-- src/lib.rt:59:13
+mul-v : tie.Need-mul-v Inv-loop μ-loop
+mul-v c = search needs
+
+-- src/lib.rt:59:13
+slice-read-v : tie.Need-slice-read-v Inv-loop μ-loop
+slice-read-v c = search needs
+
+-- src/lib.rt:59:5
+mul-v-2 : tie.Need-mul-v-2 Inv-loop μ-loop
+mul-v-2 c = search needs
+
+-- src/lib.rt:59:5
+slice-write-v : tie.Need-slice-write-v Inv-loop μ-loop
+slice-write-v c = search needs
+
+-- src/lib.rt:49:1
+same-length : tie.Need-same-length Inv-loop μ-loop
+same-length c = search needs
+
+-- src/lib.rt:49:1
+returns : tie.Need-returns Inv-loop μ-loop
+returns c =
+    let a = c .before .before .before .args in
+    let l = c .before .before .loop in
+    column-less (a .to) 1 (a .p) (a .rows) (a .z) (a .w .now) (a .v .now) (omega arith) 0 (a .v .now) (omega arith)
+    (made-none (a .to) 1 (columnLess (a .to) (a .p) (a .rows) (a .z) (a .w .now) (a .v .now)) (a .v .now) (omega arith))
+    (a .to) (a .p) (omega arith) (omega (arith, start-dense (a .rows) 0)) (l .s) (l .r) (omega arith) (l .inv .1)
+
+pub less-one-spec : {M : Type 1} → statement M
+less-one-spec =
+    tie.close
+    (tie.spec
+    Inv-loop
+    μ-loop
+    loop-holds
+    add-s
+    mul-s
+    shared-slice-read-s
+    add-s-2
+    mul-s-2
+    slice-read-s
+    add-r
+    loop-less
+    loop-again
+    mul-v
+    slice-read-v
+    mul-v-2
+    slice-write-v
+    same-length
+    returns)

@@ -1,0 +1,38 @@
+-- `heading_writer::write`: part by part.
+use borrow.Author.Needs.{needs}
+use Rattle.heading.proofs.Numbers.{all-stored}
+use Rattle.heading_writer.proofs.write.Statement.{statement}
+use Rattle.heading_writer.proofs.write.Tie as tie
+use Rattle.heading_writer.proofs.write.Reads as reads
+use Rattle.heading_writer.proofs.write.Lts as lts
+use Rattle.heading_writer.proofs.write_layout.Reads as write-layout-reads
+use Rattle.heading_writer.proofs.write_noughts.Reads as write-noughts-reads
+use Rattle.heading_writer.proofs.write_progress.Reads as write-progress-reads
+
+write-layout-requires : tie.Need-write-layout-requires
+write-layout-requires c κs = search needs
+
+write-progress-requires : tie.Need-write-progress-requires
+write-progress-requires c κs = search needs
+
+write-noughts-requires : tie.Need-write-noughts-requires
+write-noughts-requires c κs = search needs
+
+same-length : tie.Need-same-length
+same-length c = search needs
+
+returns : tie.Need-returns
+returns c =
+    let start = c .before .before .before .before .before .before .before .before .before .before .before .before .before in
+    let w = start .args .h .now in
+    all-stored w (start .args .y) (start .args .g) (c .before .before .write-noughts .ensures) (c .before .before .before .before .before .before .write-progress .ensures) (c .before .before .before .before .before .before .before .before .before .before .write-layout .ensures) (start .pre .0)
+
+pub write-spec : {M : Type 1} → statement M
+write-spec =
+    tie.close
+    (tie.spec
+    write-layout-requires
+    write-progress-requires
+    write-noughts-requires
+    same-length
+    returns)

@@ -1,0 +1,67 @@
+-- `pivot_logs::log_diagonal`: the invariant is that v is s and the first r logarithms.
+use borrow.Author.Needs.{needs}
+use mathlib.Core.Path.{_≡_, refl, ap}
+use Prim.Native.Nat.{_≤_, _-_, _+_}
+use native.Mathlib.Omega.{arith}
+use native.Mathlib.Numerals.{add-one}
+use Rattle.storage.specs.Runs.{start, single}
+use Rattle.storage.proofs.Starts.{start-single}
+use Rattle.rules.specs.Sums.{logsFrom}
+use Rattle.rules.specs.Cholesky.{at}
+use Rattle.rules.specs.Arithmetic.{ieee}
+use Rattle.re_lower.specs.Lower.{pivot, logsOfDiagonal}
+use Rattle.re_lower.proofs.Turns.{log-turn}
+use Rattle.pivot_logs.proofs.log_diagonal.Statement.{statement}
+use Rattle.pivot_logs.proofs.log_diagonal.Tie as tie
+use Rattle.pivot_logs.proofs.log_diagonal.Reads as reads
+use Rattle.pivot_logs.proofs.log_diagonal.Lts as lts
+use Rattle.logarithm.proofs.ln.Reads as ln-reads
+
+abbrev Inv-loop : tie.InvT-loop
+Inv-loop t n s v₀ r₀ v r = (r ≤ n) × (v ≡ logsOfDiagonal t r s)
+
+abbrev μ-loop : tie.MeasureT-loop
+μ-loop t n s v₀ r₀ v r = n - r
+
+loop-holds : tie.Need-loop-holds Inv-loop μ-loop
+unfolding logsFrom
+loop-holds c = (omega arith, refl)
+
+mul-ln : tie.Need-mul-ln Inv-loop μ-loop
+mul-ln c = omega arith
+
+shared-slice-read-ln : tie.Need-shared-slice-read-ln Inv-loop μ-loop
+shared-slice-read-ln c = omega arith
+
+ln-requires : tie.Need-ln-requires Inv-loop μ-loop
+ln-requires c κs = search needs
+
+add-r : tie.Need-add-r Inv-loop μ-loop
+add-r c = omega arith
+
+loop-less : tie.Need-loop-less Inv-loop μ-loop
+loop-less c = omega arith
+
+loop-again : tie.Need-loop-again Inv-loop μ-loop
+loop-again c = let a = c .before .before .before .before .before .args in
+    let l = c .before .before .before .loop in
+    let e : l .r ≡ start single (l .r) + 0 = omega (arith, start-single (l .r)) in
+    (omega arith, rw add-one (log-turn (a .s) (l .v) _ (a .t .now) _ (l .r) (pivot (a .t .now)) (omega arith) (ap (at ieee (a .t .now)) e) (l .inv .1) (c .ln .ensures)))
+
+returns : tie.Need-returns Inv-loop μ-loop
+returns c = let e : c .before .loop .r ≡ c .before .before .before .args .n = omega arith in cc
+
+pub log-diagonal-spec : {M : Type 1} → statement M
+log-diagonal-spec =
+    tie.close
+    (tie.spec
+    Inv-loop
+    μ-loop
+    loop-holds
+    mul-ln
+    shared-slice-read-ln
+    ln-requires
+    add-r
+    loop-less
+    loop-again
+    returns)

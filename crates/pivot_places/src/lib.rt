@@ -1,0 +1,43 @@
+// Where the pivots of a working factor lie (document 01, Record 4).
+ghost use mathlib.Core.Path.{_≡_};
+ghost use mathlib.Core.Bool.{true};
+ghost use Prim.Native.Nat.{_<_, _≤_};
+ghost use lib.ListN.{length};
+ghost use Rattle.layout.specs.Shapes.{doublesNeeded};
+ghost use Rattle.layout.specs.Heading.{lawful};
+ghost use Rattle.pivot_places.specs.Pivots.{rowsOf, pivotIn, pivotAt};
+use layout::Layout;
+
+// How many rows block j has.
+pub fn rows(y: Layout, j: u64) -> u64
+    requires { ⌜ (lawful y ≡ true) × (j ≤ y .k) ⌝ }
+    ensures { λ r. ⌜ r ≡ rowsOf y j ⌝ }
+{
+    if j == y.k {
+        return y.p + 1;
+    }
+    sorted_blocks::level(y, j)
+}
+
+// Where pivot r lies in its block: in a diagonal at r, in a triangle at the end of row r.
+fn pivot_place(y: Layout, j: u64, r: u64) -> usize
+    requires { ⌜ (lawful y ≡ true) × (j ≤ y .k) × (r < rowsOf y j) ⌝ }
+    ensures { λ v. ⌜ v ≡ pivotIn y j r ⌝ }
+{
+    let t = r as usize;
+    if j == y.k {
+        return re_lower::row_start(t) + t;
+    }
+    if (j == 0) | (y.diagonal & (j == 1)) {
+        return t;
+    }
+    re_lower::row_start(t) + t
+}
+
+// Pivot r of block j.
+pub fn read_pivot(y: Layout, w: &[f64], j: u64, r: u64) -> f64
+    requires { ⌜ (lawful y ≡ true) × (doublesNeeded y ≤ length (now w)) × (j ≤ y .k) × (r < rowsOf y j) ⌝ }
+    ensures { λ v. ⌜ v ≡ pivotAt y (now (w .entry)) j r ⌝ }
+{
+    w[places::working_at(y, j, j) + pivot_place(y, j, r)]
+}

@@ -1,0 +1,102 @@
+-- `row_map::block_of`: among the first j sorted blocks.
+use Prim.Native.Nat.{ℕ, _≤_, _+_, _-_}
+use mathlib.Core.Path.{_≡_, refl, sym, ap, ap₂, _∙_}
+use mathlib.Core.List.{List}
+use mathlib.Core.Bool.{Bool, cond, _&&_}
+use native.Mathlib.Omega.{arith}
+use borrow.Author.Needs.{needs}
+use lib.Dec.{ltb, leb}
+use lib.ListN.{getD}
+use Rattle.layout.specs.declared.Layout.{Layout}
+use Rattle.layout.specs.Shapes.{levels}
+use Rattle.layout.proofs.Lawful.{is-lawful}
+use Rattle.block_map.specs.Blocks.{blockOf, FirstRows}
+use Rattle.block_map.proofs.Rows.{start-small, block-none, block-more}
+use Rattle.row_map.proofs.block_of.Statement.{statement}
+use Rattle.row_map.proofs.block_of.Tie as tie
+
+abbrev Inv-loop : tie.InvT-loop
+Inv-loop counts first x k b₀ j₀ b j =
+    (k ≤ 8) × (j ≤ k) × ((y : Layout) → y .k ≡ k → counts ≡ y .m → FirstRows y first → b ≡ blockOf y j x)
+
+abbrev μ-loop : tie.MeasureT-loop
+μ-loop counts first x k b₀ j₀ b j = k - j
+
+-- src/lib.rt:134:5
+loop-holds : tie.Need-loop-holds Inv-loop μ-loop
+loop-holds c = (is-lawful (c .args .y) (c .pre .0) .blocks .1, omega arith, λ y e f g. sym e ∙ block-none y (c .args .x))
+
+-- src/lib.rt:135:27
+mul-within : tie.Need-mul-within Inv-loop μ-loop
+mul-within c = search needs
+
+-- src/lib.rt:135:27
+element-copy-out-within : tie.Need-element-copy-out-within Inv-loop μ-loop
+element-copy-out-within c = search needs
+
+-- src/lib.rt:135:39
+mul-within-2 : tie.Need-mul-within-2 Inv-loop μ-loop
+mul-within-2 c = search needs
+
+-- src/lib.rt:135:39
+element-copy-out-within-2 : tie.Need-element-copy-out-within-2 Inv-loop μ-loop
+element-copy-out-within-2 c = search needs
+
+-- src/lib.rt:135:20
+within-requires : tie.Need-within-requires Inv-loop μ-loop
+within-requires c κs =
+    let s = c .before .before .before .before in
+    let j = c .before .before .before .loop .j in (
+      omega (arith, s .pre .2 j (omega arith), start-small (s .args .y) (s .pre .0) j (omega arith)),
+      omega (arith, ap (λ (t : List ℕ). getD t j 0) (s .pre .1), is-lawful (s .args .y) (s .pre .0) .level j (omega arith) .1),
+    )
+
+-- src/lib.rt:135:9
+choose-requires : tie.Need-choose-requires Inv-loop μ-loop
+choose-requires c κs = search needs
+
+-- src/lib.rt:136:9
+add-j : tie.Need-add-j Inv-loop μ-loop
+add-j c = search needs
+
+-- src/lib.rt:134:5
+loop-less : tie.Need-loop-less Inv-loop μ-loop
+loop-less c = search needs
+
+-- src/lib.rt:134:5
+loop-again : tie.Need-loop-again Inv-loop μ-loop
+loop-again c =
+    let s = c .before .before .before .before .before .before in
+    let l = c .before .before .before .before .before .loop in
+    let x = s .args .x in (
+      l .inv .0,
+      omega arith,
+      λ y e f g.
+          block-more y (l .j) x (l .b) (c .choose .result) (l .inv .2 y e f g)
+          (c .choose .ensures ∙ ap (λ (t : Bool). cond t (l .j) (l .b)) (c .before .within .ensures ∙ ap₂ (λ (u v : ℕ). leb u x && ltb x (u + v)) (g (l .j) (omega (arith, e))) (ap (λ (t : List ℕ). getD t (l .j) 0) f))),
+    )
+
+-- src/lib.rt:127:1
+returns : tie.Need-returns Inv-loop μ-loop
+returns c =
+    let s = c .before .before in
+    let l = c .before .loop in
+    l .inv .2 (s .args .y) refl (s .pre .1) (s .pre .2) ∙ ap (λ (j : ℕ). blockOf (s .args .y) j (s .args .x)) (omega arith)
+
+pub block-of-spec : {M : Type 1} → statement M
+block-of-spec =
+    tie.close
+    (tie.spec
+    Inv-loop
+    μ-loop
+    loop-holds
+    mul-within
+    element-copy-out-within
+    mul-within-2
+    element-copy-out-within-2
+    within-requires
+    choose-requires
+    add-j
+    loop-less
+    loop-again
+    returns)

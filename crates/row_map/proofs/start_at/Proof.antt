@@ -1,0 +1,32 @@
+-- `row_map::start_at`: t is split at 9.
+use mathlib.Core.Path.{ap₂, _∙_}
+use native.Mathlib.Omega.{arith}
+use Rattle.layout.specs.Shapes.{loadedAt}
+use Rattle.layout.proofs.Lawful.{is-lawful}
+use Rattle.block_map.proofs.Rows.{split-nine}
+use borrow.Author.Needs.{needs}
+use Rattle.row_map.proofs.start_at.Statement.{statement}
+use Rattle.row_map.proofs.start_at.Tie as tie
+
+-- src/lib.rt:80:9
+returns : tie.Need-returns
+returns c = λ i j e h g. let s = c .before in absurd (omega (arith, split-nine (s .args .t) i j e (omega (arith, is-lawful (s .args .y) (s .pre) .blocks .1)), c .if1 .taken))
+
+-- src/lib.rt:83:9
+returns-2 : tie.Need-returns-2
+returns-2 c = λ i j e h g. let s = c .before .before .before in absurd (omega (arith, split-nine (s .args .t) i j e (omega (arith, is-lawful (s .args .y) (s .pre) .blocks .1)), c .if2 .taken))
+
+-- src/lib.rt:85:5
+loaded-at-requires : tie.Need-loaded-at-requires
+loaded-at-requires c κs = search needs
+
+-- src/lib.rt:73:1
+returns-3 : tie.Need-returns-3
+returns-3 c =
+    λ i j e h g.
+    let s = c .before .before .before .before in
+    let r = split-nine (s .args .t) i j e (omega (arith, is-lawful (s .args .y) (s .pre) .blocks .1)) in
+    c .loaded-at .ensures ∙ ap₂ (loadedAt (s .args .y)) (r .0) (r .1)
+
+pub start-at-spec : {M : Type 1} → statement M
+start-at-spec = tie.close (tie.spec returns returns-2 loaded-at-requires returns-3)

@@ -1,0 +1,57 @@
+-- `run_copies::put`: the block is lent.
+use mathlib.Core.Path.{_≡_, refl, ap}
+use Prim.Native.Nat.{_+_, _-_}
+use native.Mathlib.Omega.{arith}
+use lib.ListN.{take, drop}
+use lib.Ieee.{Float}
+use Rattle.rules.specs.Arithmetic.{ieee}
+use Rattle.axpy.specs.Axpy.{at}
+use Rattle.runs.proofs.Lent.{lent-run, lent-read}
+use borrow.Author.Needs.{needs}
+use Rattle.run_copies.proofs.put.Statement.{statement}
+use Rattle.run_copies.proofs.put.Tie as tie
+use Rattle.run_copies.proofs.put.Reads as reads
+use Rattle.run_copies.proofs.put.Lts as lts
+use Rattle.run_copies.proofs.put_part.Reads as put-part-reads
+
+-- src/lib.rt:80:14
+mul-put-part : tie.Need-mul-put-part
+mul-put-part c = search needs
+
+-- src/lib.rt:80:14
+sub-put-part : tie.Need-sub-put-part
+sub-put-part c = search needs
+
+-- src/lib.rt:80:14
+part-put-part-start : tie.Need-part-put-part-start
+part-put-part-start c = search needs
+
+-- src/lib.rt:80:14
+part-put-part-end : tie.Need-part-put-part-end
+part-put-part-end c = search needs
+
+-- src/lib.rt:80:5
+put-part-requires : tie.Need-put-part-requires
+put-part-requires c κs = search needs
+
+-- src/lib.rt:76:1
+same-length : tie.Need-same-length
+same-length c = search needs
+
+-- src/lib.rt:76:1
+returns : tie.Need-returns
+returns c =
+    let a = c .before .before .before .before .before .before .args in
+    lent-run (a .w .now) _ (a .off) (a .end) (a .to) (a .n) (at (a .acc .now)) (at (a .acc .now)) (omega arith) (omega arith) (λ i l. refl) (c .before .before .put-part .ensures)
+
+pub put-spec : {M : Type 1} → statement M
+put-spec =
+    tie.close
+    (tie.spec
+    mul-put-part
+    sub-put-part
+    part-put-part-start
+    part-put-part-end
+    put-part-requires
+    same-length
+    returns)

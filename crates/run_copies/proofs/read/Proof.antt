@@ -1,0 +1,91 @@
+-- `run_copies::read`: the first i doubles are read.
+use borrow.Author.Needs.{needs}
+use mathlib.Core.Path.{_≡_, refl}
+use Prim.Native.Nat.{ℕ, _≤_, _-_, _+_}
+use native.Mathlib.Omega.{arith}
+use native.Mathlib.Numerals.{add-one}
+use lib.ListN.{length, length-set}
+use Rattle.rules.specs.Arithmetic.{ieee}
+use Rattle.axpy.specs.Axpy.{at, run}
+use Rattle.axpy.proofs.Loops.{made-none, made-more, made-all}
+use Rattle.run_copies.proofs.read.Statement.{statement}
+use Rattle.run_copies.proofs.read.Tie as tie
+use Rattle.run_copies.proofs.read.Reads as reads
+use Rattle.run_copies.proofs.read.Lts as lts
+
+abbrev Inv-loop : tie.InvT-loop
+Inv-loop acc₀ n w from i₀ acc i = (i ≤ n) × (length acc ≡ length acc₀) × (acc ≡ run 0 i (λ x. at w (from + x)) acc₀)
+
+abbrev μ-loop : tie.MeasureT-loop
+μ-loop acc₀ n w from i₀ acc i = n - i
+
+-- src/lib.rt:26:5
+loop-holds : tie.Need-loop-holds Inv-loop μ-loop
+loop-holds c =
+    let a = c .args in
+    (omega arith, refl, made-none 0 (a .n) (λ x. at (a .w .now) (a .from + x)) (a .acc .now) (omega arith))
+
+-- src/lib.rt:27:20
+add-acc : tie.Need-add-acc Inv-loop μ-loop
+add-acc c = search needs
+
+-- src/lib.rt:27:18
+mul-acc : tie.Need-mul-acc Inv-loop μ-loop
+mul-acc c = search needs
+
+-- src/lib.rt:27:18
+shared-slice-read-acc : tie.Need-shared-slice-read-acc Inv-loop μ-loop
+shared-slice-read-acc c = search needs
+
+-- src/lib.rt:27:9
+mul-acc-2 : tie.Need-mul-acc-2 Inv-loop μ-loop
+mul-acc-2 c = search needs
+
+-- src/lib.rt:27:9
+slice-write-acc : tie.Need-slice-write-acc Inv-loop μ-loop
+slice-write-acc c = search needs
+
+-- src/lib.rt:28:9
+add-i : tie.Need-add-i Inv-loop μ-loop
+add-i c = search needs
+
+-- src/lib.rt:26:5
+loop-less : tie.Need-loop-less Inv-loop μ-loop
+loop-less c = search needs
+
+-- src/lib.rt:26:5
+loop-again : tie.Need-loop-again Inv-loop μ-loop
+loop-again c =
+    let a = c .before .before .before .args in
+    let l = c .before .before .loop in
+    let t = made-more 0 (a .n) (λ x. at (a .w .now) (a .from + x)) (a .acc .now) (omega arith) (l .i) (omega arith) (l .acc) (l .inv .2) (omega arith) (l .i) (omega arith) (at (a .w .now) (a .from + l .i)) refl in
+    (omega arith, simp length-set (omega arith), rw add-one t)
+
+-- src/lib.rt:21:1
+same-length : tie.Need-same-length Inv-loop μ-loop
+same-length c = search needs
+
+-- src/lib.rt:21:1
+returns : tie.Need-returns Inv-loop μ-loop
+returns c =
+    let a = c .before .before .args in
+    let l = c .before .loop in
+    made-all 0 (a .n) (λ x. at (a .w .now) (a .from + x)) (a .acc .now) (omega arith) (l .i) (omega arith) (l .acc) (l .inv .2) (omega arith)
+
+pub read-spec : {M : Type 1} → statement M
+read-spec =
+    tie.close
+    (tie.spec
+    Inv-loop
+    μ-loop
+    loop-holds
+    add-acc
+    mul-acc
+    shared-slice-read-acc
+    mul-acc-2
+    slice-write-acc
+    add-i
+    loop-less
+    loop-again
+    same-length
+    returns)

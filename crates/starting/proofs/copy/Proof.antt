@@ -1,0 +1,103 @@
+-- `starting::copy`: the first i doubles are copied.
+use borrow.Author.Needs.{needs}
+use Prim.Native.Nat.{_+_, _-_, _≤_}
+use mathlib.Core.Path.{_≡_, refl, ap, _∙_}
+use mathlib.Core.List.{List}
+use mathlib.Core.Logic.{inr}
+use native.Mathlib.Numerals.{add-one}
+use native.Mathlib.Omega.{arith}
+use lib.ListN.{length, length-set}
+use lib.Ieee.{Float}
+use Rattle.storage.specs.Part.{store}
+use Rattle.axpy.specs.Axpy.{at, run}
+use Rattle.axpy.proofs.Loops.{made-none, made-more, made-all}
+use Rattle.cross_block.proofs.Turns.{source-same}
+use Rattle.started.proofs.Blocks.{copied}
+use Rattle.starting.proofs.copy.Statement.{statement}
+use Rattle.starting.proofs.copy.Tie as tie
+use Rattle.starting.proofs.copy.Reads as reads
+use Rattle.starting.proofs.copy.Lts as lts
+
+abbrev Inv-loop : tie.InvT-loop
+Inv-loop w₀ off src n i₀ w i = (i ≤ n) × (length w ≡ length w₀) × (w ≡ run off i (λ x. at w₀ (src + x)) w₀)
+
+abbrev μ-loop : tie.MeasureT-loop
+μ-loop w₀ off src n i₀ w i = n - i
+
+-- src/lib.rt:44:5
+loop-holds : tie.Need-loop-holds Inv-loop μ-loop
+loop-holds c =
+    let a = c .args in
+    (omega arith, refl, made-none (a .off) (a .n) (λ x. at (a .w .now) (a .src + x)) (a .w .now) (omega arith))
+
+-- src/lib.rt:45:24
+add-w : tie.Need-add-w Inv-loop μ-loop
+add-w c = search needs
+
+-- src/lib.rt:45:22
+mul-w : tie.Need-mul-w Inv-loop μ-loop
+mul-w c = search needs
+
+-- src/lib.rt:45:22
+slice-read-w : tie.Need-slice-read-w Inv-loop μ-loop
+slice-read-w c = search needs
+
+-- src/lib.rt:45:11
+add-w-2 : tie.Need-add-w-2 Inv-loop μ-loop
+add-w-2 c = search needs
+
+-- src/lib.rt:45:9
+mul-w-2 : tie.Need-mul-w-2 Inv-loop μ-loop
+mul-w-2 c = search needs
+
+-- src/lib.rt:45:9
+slice-write-w : tie.Need-slice-write-w Inv-loop μ-loop
+slice-write-w c = search needs
+
+-- src/lib.rt:46:9
+add-i : tie.Need-add-i Inv-loop μ-loop
+add-i c = search needs
+
+-- src/lib.rt:44:5
+loop-less : tie.Need-loop-less Inv-loop μ-loop
+loop-less c = search needs
+
+-- src/lib.rt:44:5
+loop-again : tie.Need-loop-again Inv-loop μ-loop
+loop-again c =
+    let a = c .before .before .before .args in
+    let l = c .before .before .loop in
+    let u = source-same (a .off) (a .n) (a .src) (a .w .now) (λ (y : Float). y) (omega arith) (omega arith) (inr (c .before .before .before .pre .1)) (l .i) (omega arith) (l .w) (l .inv .2) in
+    let t = made-more (a .off) (a .n) (λ x. at (a .w .now) (a .src + x)) (a .w .now) (omega arith) (l .i) (omega arith) (l .w) (l .inv .2) (omega arith) (a .off + l .i) (omega arith) (at (l .w) (a .src + l .i)) u in
+    (omega arith, simp length-set (omega arith), rw add-one t)
+
+-- src/lib.rt:39:1
+same-length : tie.Need-same-length Inv-loop μ-loop
+same-length c = search needs
+
+-- src/lib.rt:39:1
+returns : tie.Need-returns Inv-loop μ-loop
+returns c =
+    let a = c .before .before .args in
+    let l = c .before .loop in
+    made-all (a .off) (a .n) (λ x. at (a .w .now) (a .src + x)) (a .w .now) (omega arith) (l .i) (omega arith) (l .w) (l .inv .2) (omega arith)
+    ∙ ap (λ (m : List Float). store (a .off) m (a .w .now)) (copied (a .src) (a .n) (a .w .now) (omega arith))
+
+pub copy-spec : {M : Type 1} → statement M
+copy-spec =
+    tie.close
+    (tie.spec
+    Inv-loop
+    μ-loop
+    loop-holds
+    add-w
+    mul-w
+    slice-read-w
+    add-w-2
+    mul-w-2
+    slice-write-w
+    add-i
+    loop-less
+    loop-again
+    same-length
+    returns)

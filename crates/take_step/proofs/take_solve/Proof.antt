@@ -1,0 +1,44 @@
+-- `take_step::take_solve`: the block, then the progress.
+use mathlib.Core.Path.{refl}
+use native.Mathlib.Omega.{arith}
+use Rattle.taking.proofs.Laws.{few, solve-taken}
+use borrow.Author.Needs.{needs}
+use Rattle.take_step.proofs.take_solve.Statement.{statement}
+use Rattle.take_step.proofs.take_solve.Tie as tie
+use Rattle.take_step.proofs.take_solve.Reads as reads
+use Rattle.take_step.proofs.take_solve.Lts as lts
+use Rattle.layout.proofs.Progress.mark.Reads as mark-reads
+use Rattle.names.proofs.target_place.Reads as target-place-reads
+use Rattle.solving.proofs.solve.Reads as solve-reads
+
+solve-requires : tie.Need-solve-requires
+solve-requires c κs = search needs
+
+target-place-requires : tie.Need-target-place-requires
+target-place-requires c κs =
+    let s = c .before .before .before .before .before .before in
+    let a = s .args in
+    let k = few (a .h .now) (a .w .now) (a .y) (a .g) (s .pre .0) (s .pre .1) in
+    let n = s .pre .2 .0 in
+    let m = s .pre .2 .1 in
+    (omega arith, omega arith)
+
+add-mark : tie.Need-add-mark
+add-mark c = search needs
+
+mark-requires : tie.Need-mark-requires
+mark-requires c κs = search needs
+
+same-length : tie.Need-same-length
+same-length c = search needs
+
+returns : tie.Need-returns
+returns c =
+    let s = c .before .before .before .before .before .before .before .before in
+    let a = s .args in
+    solve-taken (a .h .now) (a .w .now) (a .y) (a .g) (s .pre .0) (s .pre .1) _ (c .mark .ensures) (a .i) (a .j) (s .pre .2) (c .before .target-place .ensures .0) refl (c .before .before .before .before .solve .ensures)
+
+pub take-solve-spec : {M : Type 1} → statement M
+take-solve-spec =
+    tie.close
+    (tie.spec solve-requires target-place-requires add-mark mark-requires same-length returns)

@@ -1,0 +1,52 @@
+// A step that is ready, taken: layout and progress go in by value and the step hands the moved progress back (document 01, Records 4 and 5).
+ghost use mathlib.Core.Path.{_≡_};
+ghost use Prim.Native.Nat.{_≤_};
+ghost use lib.ListN.{length};
+ghost use Rattle.order.specs.Steps.{Named, S, C, T};
+ghost use Rattle.layout.specs.Heading.{layoutOf, progressOf};
+ghost use Rattle.update.specs.Names.{stepOfName};
+ghost use Rattle.layout.specs.Fits.{Fits};
+ghost use Rattle.taking.specs.Taken.{Taken};
+use layout::Layout;
+use layout::Progress;
+use refusal::Answer;
+use taking::Moved;
+use update::Name;
+
+// S(i, j, x): its own block, and one step more.
+fn take_subtract(y: Layout, g: Progress, h: &[u32], w: &mut [f64], i: u64, j: u64, x: u64) -> Moved
+    requires { ⌜ (y ≡ layoutOf (now h)) × Fits (now h) (length (now w)) × Named (y .k) (S i j x) × (1 ≤ g .left) ⌝ }
+    ensures { λ m. ⌜ Taken y g (now (h .entry)) (now (w .entry)) (now (w .exit)) (S i j x) m ⌝ }
+{
+    subtraction::subtract(y, h, w, i, j, x);
+    let place = names::target_place(i, j);
+    Moved {
+        answer: Answer::Accepted,
+        progress: g.mark(place, x + 1),
+    }
+}
+
+// T(i, j): as S.
+fn take_solve(y: Layout, g: Progress, h: &[u32], w: &mut [f64], i: u64, j: u64) -> Moved
+    requires { ⌜ (y ≡ layoutOf (now h)) × Fits (now h) (length (now w)) × Named (y .k) (T i j) × (1 ≤ g .left) ⌝ }
+    ensures { λ m. ⌜ Taken y g (now (h .entry)) (now (w .entry)) (now (w .exit)) (T i j) m ⌝ }
+{
+    solving::solve(y, h, w, i, j);
+    let place = names::target_place(i, j);
+    Moved {
+        answer: Answer::Accepted,
+        progress: g.mark(place, j + 1),
+    }
+}
+
+// A step that is ready: layout and progress go in by value, and it hands the moved progress back.
+pub fn take(y: Layout, g: Progress, h: &[u32], w: &mut [f64], name: Name) -> Moved
+    requires { ⌜ (y ≡ layoutOf (now h)) × (g ≡ progressOf (now h)) × Fits (now h) (length (now w)) × Named (y .k) (stepOfName name) × (1 ≤ g .left) ⌝ }
+    ensures { λ m. ⌜ Taken y g (now (h .entry)) (now (w .entry)) (now (w .exit)) (stepOfName name) m ⌝ }
+{
+    match name {
+        Name::S(i, j, x) => take_subtract(y, g, h, w, i, j, x),
+        Name::C(j) => taking::take_factor(y, g, h, w, j),
+        Name::T(i, j) => take_solve(y, g, h, w, i, j),
+    }
+}

@@ -1,0 +1,95 @@
+-- `taking::clear_working`: i of the working doubles are written.
+use Prim.Native.Nat.{_-_}
+use borrow.Author.Needs.{needs}
+use Rattle.rules.specs.Arithmetic.{ieee}
+use mathlib.Core.Path.{refl}
+use native.Mathlib.Omega.{arith}
+use Rattle.taking.proofs.Laws.{sum-small, theta-before, working-fit, all-cleared}
+use Rattle.gate.proofs.Filling.{Filling, filling-none, filling-length, filling-below, filling-more, filling-done}
+use Rattle.taking.proofs.clear_working.Statement.{statement}
+use Rattle.taking.proofs.clear_working.Tie as tie
+use Rattle.taking.proofs.clear_working.Reads as reads
+use Rattle.taking.proofs.clear_working.Lts as lts
+use Rattle.places.proofs.sum_at.Reads as sum-at-reads
+use Rattle.places.proofs.theta_at.Reads as theta-at-reads
+
+abbrev Inv-loop : tie.InvT-loop
+Inv-loop w₀ from n i₀ w i = Filling (λ x. ieee .zero) from n w₀ w i
+
+abbrev μ-loop : tie.MeasureT-loop
+μ-loop w₀ from n i₀ w i = n - i
+
+theta-at-requires : tie.Need-theta-at-requires Inv-loop μ-loop
+theta-at-requires c κs = search needs
+
+sum-at-requires : tie.Need-sum-at-requires Inv-loop μ-loop
+sum-at-requires c κs = search needs
+
+add-n : tie.Need-add-n Inv-loop μ-loop
+add-n c =
+    let s = c .before .before .before in
+    let a = s .args in
+    let b = sum-small (a .y) (s .pre .0) (a .w .now) (s .pre .1) (c .before .theta-at .ensures) (c .sum-at .ensures) in
+    omega arith
+
+sub-n : tie.Need-sub-n Inv-loop μ-loop
+sub-n c =
+    let s = c .before .before .before in
+    let a = s .args in
+    let b = theta-before (a .y) (s .pre .0) (a .w .now) (s .pre .1) (c .before .theta-at .ensures) (c .sum-at .ensures) in
+    omega arith
+
+loop-holds : tie.Need-loop-holds Inv-loop μ-loop
+loop-holds c =
+    let s = c .before .before .before in
+    let a = s .args in
+    let b = theta-before (a .y) (s .pre .0) (a .w .now) (s .pre .1) (c .before .theta-at .ensures) (c .sum-at .ensures) in
+    let r = working-fit (a .y) (s .pre .0) (a .w .now) (s .pre .1) (c .before .theta-at .ensures) (c .sum-at .ensures) in
+    filling-none (λ x. ieee .zero) _ _ (a .w .now) (omega arith)
+
+add-w : tie.Need-add-w Inv-loop μ-loop
+add-w c = let b = filling-below (c .before .loop .inv) (search needs) in search needs
+
+mul-w : tie.Need-mul-w Inv-loop μ-loop
+mul-w c = let b = filling-below (c .before .loop .inv) (search needs) in search needs
+
+slice-write-w : tie.Need-slice-write-w Inv-loop μ-loop
+slice-write-w c = filling-below (c .before .loop .inv) (search needs)
+
+add-i : tie.Need-add-i Inv-loop μ-loop
+add-i c = search needs
+
+loop-less : tie.Need-loop-less Inv-loop μ-loop
+loop-less c = search needs
+
+loop-again : tie.Need-loop-again Inv-loop μ-loop
+loop-again c = filling-more (c .before .loop .inv) (search needs) refl
+
+same-length : tie.Need-same-length Inv-loop μ-loop
+same-length c = filling-length (c .before .loop .inv)
+
+returns : tie.Need-returns Inv-loop μ-loop
+returns c =
+    let s = c .before .before .before .before .before in
+    let a = s .args in
+    all-cleared (a .y) (s .pre .0) (a .w .now) (s .pre .1) (c .before .before .before .theta-at .ensures) (c .before .before .sum-at .ensures) (filling-done (c .before .loop .inv) (search needs))
+
+pub clear-working-spec : {M : Type 1} → statement M
+clear-working-spec =
+    tie.close
+    (tie.spec
+    Inv-loop
+    μ-loop
+    theta-at-requires
+    sum-at-requires
+    add-n
+    sub-n
+    loop-holds
+    add-w
+    mul-w
+    slice-write-w
+    add-i
+    loop-less
+    loop-again
+    same-length
+    returns)

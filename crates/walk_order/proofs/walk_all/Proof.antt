@@ -1,0 +1,53 @@
+-- `walk_order::walk_all`: the columns from j on still end as the walk over all does.
+use borrow.Author.Needs.{needs}
+use Prim.Native.Nat.{suc, _-_, _*_, _≤_}
+use Rattle.order.specs.Steps.{each, columnSteps, rustOrder}
+use Rattle.stage_walk.specs.Walk.{walked, told}
+use Rattle.stage_walk.proofs.Walks.{Going, going-start, going-more, going-done}
+use Rattle.walk_order.proofs.walk_all.Statement.{statement}
+use Rattle.walk_order.proofs.walk_all.Tie as tie
+use Rattle.walk_order.proofs.walk_all.Reads as reads
+use Rattle.walk_order.proofs.walk_all.Lts as lts
+use Rattle.walk_order.proofs.column.Reads as column-reads
+
+abbrev Inv-loop : tie.InvT-loop
+Inv-loop h k v₀ j₀ v j = Going (told h) (walked (told h) v₀ (each (columnSteps k) 0 (suc k))) (columnSteps k) j (suc k) v × (v .left ≤ 90 * j)
+
+abbrev μ-loop : tie.MeasureT-loop
+μ-loop h k v₀ j₀ v j = suc k - j
+
+loop-holds : tie.Need-loop-holds Inv-loop μ-loop
+loop-holds c = (going-start (told _) _ (columnSteps (c .before .args .k)) 0 (suc (c .before .args .k)) (search needs) (search needs), search needs)
+
+add-loop : tie.Need-add-loop Inv-loop μ-loop
+add-loop c = search needs
+
+column-requires : tie.Need-column-requires Inv-loop μ-loop
+column-requires c κs = search needs
+
+add-j : tie.Need-add-j Inv-loop μ-loop
+add-j c = search needs
+
+loop-less : tie.Need-loop-less Inv-loop μ-loop
+loop-less c = search needs
+
+loop-again : tie.Need-loop-again Inv-loop μ-loop
+loop-again c = (going-more (c .before .before .loop .inv .0) (search needs) (c .column .ensures .0), search needs)
+
+returns : tie.Need-returns Inv-loop μ-loop
+unfolding rustOrder
+returns c = going-done (c .before .loop .inv .0) (search needs)
+
+pub walk-all-spec : {M : Type 1} → statement M
+walk-all-spec =
+    tie.close
+    (tie.spec
+    Inv-loop
+    μ-loop
+    loop-holds
+    add-loop
+    column-requires
+    add-j
+    loop-less
+    loop-again
+    returns)
