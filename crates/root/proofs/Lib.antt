@@ -1,5 +1,3 @@
-pub mod Whole
-pub mod Words
 pub mod Value
 pub mod Middle
 pub mod Doubles

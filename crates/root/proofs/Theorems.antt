@@ -18,9 +18,11 @@ use Rattle.double.specs.declared.Kind.the-variants.{Positive}
 use Rattle.double.proofs.Tests.{at-positive}
 use Rattle.double.proofs.Value.{InPlace, in-place, value, rescale}
 use Rattle.double.proofs.Bits.{same}
-use Rattle.root.specs.Root.{rootOf, sqrtAt, sqrtOf}
+use Rattle.root_parts.specs.Radicand.{rootOf}
+use Rattle.root_parts.proofs.Value.{rootOf-fits}
+use Rattle.root.specs.Root.{sqrtAt, sqrtOf}
 use Rattle.root.specs.Nearest.{IsRoot, Normal, Beside, Farther, NotNegative}
-use Rattle.root.proofs.Value.{rootOf-fits, parts-root, at-kind}
+use Rattle.root.proofs.Value.{parts-root, at-kind}
 use Rattle.root.proofs.Doubles.{beside}
 
 -- ---- of a double above 0

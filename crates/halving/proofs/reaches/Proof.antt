@@ -1,8 +1,8 @@
--- `root::reaches` meets its contract.
+-- `halving::reaches` meets its contract.
 use borrow.Author.Needs.{needs}
-use Rattle.root.proofs.Words.{equal-words, other-words}
-use Rattle.root.proofs.reaches.Statement.{statement}
-use Rattle.root.proofs.reaches.Tie as tie
+use Rattle.halving.proofs.Words.{equal-words, other-words}
+use Rattle.halving.proofs.reaches.Statement.{statement}
+use Rattle.halving.proofs.reaches.Tie as tie
 
 sub-high : tie.Need-sub-high
 sub-high c = search needs

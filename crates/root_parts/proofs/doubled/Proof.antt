@@ -1,8 +1,8 @@
--- `root::doubled` meets its contract.
+-- `root_parts::doubled` meets its contract.
 use borrow.Author.Needs.{needs}
-use Rattle.root.proofs.Words.{not-doubled, is-doubled}
-use Rattle.root.proofs.doubled.Statement.{statement}
-use Rattle.root.proofs.doubled.Tie as tie
+use Rattle.root_parts.proofs.Value.{not-doubled, is-doubled}
+use Rattle.root_parts.proofs.doubled.Statement.{statement}
+use Rattle.root_parts.proofs.doubled.Tie as tie
 
 mul-result : tie.Need-mul-result
 mul-result c = search needs

@@ -1,10 +1,10 @@
--- `root::inverse` meets its contract: its terms fit.
+-- `root_digits::inverse` meets its contract: its terms fit.
 use borrow.Author.Needs.{needs}
 use native.Mathlib.Omega.{arith}
 use Prim.Native.Nat.{_/_, _%_}
-use Rattle.root.proofs.Words.{terms}
-use Rattle.root.proofs.inverse.Statement.{statement}
-use Rattle.root.proofs.inverse.Tie as tie
+use Rattle.root_digits.proofs.Words.{terms}
+use Rattle.root_digits.proofs.inverse.Statement.{statement}
+use Rattle.root_digits.proofs.inverse.Tie as tie
 
 mul-i : tie.Need-mul-i
 mul-i c = search needs

@@ -1,10 +1,10 @@
--- `root::of_parts` meets its contract.
+-- `root_parts::of_parts` meets its contract.
 use borrow.Author.Needs.{needs}
 use native.Mathlib.Omega.{arith}
 use Rattle.double.proofs.Bits.{number-below}
-use Rattle.root.proofs.Value.{m-range, x-high, bits-are}
-use Rattle.root.proofs.of_parts.Statement.{statement}
-use Rattle.root.proofs.of_parts.Tie as tie
+use Rattle.root_parts.proofs.Value.{m-range, x-high, bits-are}
+use Rattle.root_parts.proofs.of_parts.Statement.{statement}
+use Rattle.root_parts.proofs.of_parts.Tie as tie
 
 doubled-requires : tie.Need-doubled-requires
 doubled-requires c κs = search needs

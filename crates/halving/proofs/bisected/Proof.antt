@@ -1,10 +1,10 @@
--- `root::bisected` meets its contract. The invariant: the root is lo or more, and below hi. The measure is their distance.
+-- `halving::bisected` meets its contract. The invariant: the root is lo or more, and below hi. The measure is their distance.
 use mathlib.Core.Path.{sym, _∙_, refl}
 use Prim.Native.Nat.{_-_}
 use native.Mathlib.Omega.{arith}
-use Rattle.root.proofs.Words.{Between, whole-range, raised, lowered, narrowed}
-use Rattle.root.proofs.bisected.Statement.{statement}
-use Rattle.root.proofs.bisected.Tie as tie
+use Rattle.halving.proofs.Words.{Between, whole-range, raised, lowered, narrowed}
+use Rattle.halving.proofs.bisected.Statement.{statement}
+use Rattle.halving.proofs.bisected.Tie as tie
 
 abbrev Inv-loop : tie.InvT-loop
 Inv-loop m lo₀ hi₀ lo hi = Between m lo hi

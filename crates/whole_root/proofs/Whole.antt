@@ -6,8 +6,7 @@ use Prim.Native.Nat.{ℕ, zero, suc, _+_, _-_, _*_, _/_, _^_, _≤_, _<_}
 use native.Mathlib.Nat.{mul-le-mul, eq-zero-or-pos, pow-suc}
 use native.Mathlib.Omega.{arith}
 use lib.Dec.{T, leb, ltb, leb→le, nleb→lt, ltb→lt, nltb→le}
-use Rattle.root.specs.Root.{wholeRoot, rounded}
-use Rattle.root.specs.Nearest.{Nearest}
+use Rattle.whole_root.specs.Whole.{wholeRoot, rounded}
 
 -- ---- the whole part of a root
 abbrev pub Floor : ℕ → ℕ → Type 0
@@ -62,15 +61,6 @@ near-only s t n a b = omega (arith, beyond s t n a b, beyond t s n b a)
 
 pub is-rounded : (s n : ℕ) → 0 < n → n < 2 ^ 106 → Near s n → s ≡ rounded n
 is-rounded s n p h a = near-only s (rounded n) n a (rounded-near n p h)
-
--- ---- by the odd squares
-pub near→nearest : (s n : ℕ) → 0 < s → Near s n → Nearest s n
-near→nearest s n p a = record { above = twice s n (s - 1) (omega arith) (a .0); below = omega (arith, a .1) }
-  where
-    twice : (s n w : ℕ) → s ≡ w + 1 → s * s < n + s → (2 * s - 1) * (2 * s - 1) < 4 * n
-    twice s n w e h =
-        let x : 2 * s - 1 ≡ 2 * w + 1 = omega arith in
-        subst (λ (y : ℕ). y * y < 4 * n) (sym x) (omega (arith, subst (λ (y : ℕ). y * y < n + y) e h))
 
 -- ---- its digits
 pub digits-low : (s n : ℕ) → 2 ^ 104 ≤ n → Near s n → 2 ^ 52 ≤ s

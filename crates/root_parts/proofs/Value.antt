@@ -1,0 +1,103 @@
+-- The root of a double above 0 with given parts, and its bits.
+use mathlib.Core.Path.{_≡_, refl, ap, ap₂, sym, _∙_, subst}
+use mathlib.Core.Bool.{Bool, false, not, cond}
+use Prim.Native.Nat.{ℕ, zero, suc, _+_, _-_, _*_, _/_, _%_, _^_, _≤_, _<_}
+use native.Mathlib.Nat.{mod-lt}
+use native.Mathlib.Omega.{arith}
+use borrow.Author.Tests.{le-ltb, ne-eqb, lt-leb}
+use lib.Dec.{T, leb, eqb, lit<}
+use lib.Ieee.{Float, nan, inf, binary64, fits, odd, ofFields, ofBits, nanBits}
+use lib.Ieee.Bits.{ofBits-fits, nanBits-above}
+use Rattle.double.specs.declared.Parts.{Parts}
+use Rattle.double.proofs.Value.{InPlace}
+use Rattle.whole_root.specs.Whole.{rounded}
+use Rattle.whole_root.proofs.Whole.{Near, rounded-near, digits-low, digits-high}
+use Rattle.root_parts.specs.Radicand.{radicand, half, rootOf}
+
+-- ---- doubled
+pub not-doubled : (q b : ℕ) → b ≡ 0 → q ≡ q * 2 ^ b
+not-doubled q b e = omega (arith, ap (λ (x : ℕ). q * 2 ^ x) e)
+
+pub is-doubled : (q b : ℕ) → b < 2 → (b ≡ 0 → ⊥) → 2 * q ≡ q * 2 ^ b
+is-doubled q b h f = let e : b ≡ 1 = one b h f in omega (arith, ap (λ (x : ℕ). q * 2 ^ x) e)
+  where
+    one : (b : ℕ) → b < 2 → (b ≡ 0 → ⊥) → b ≡ 1
+    one zero h f = absurd (f refl)
+    one (suc zero) h f = refl
+    one (suc (suc b)) h f = omega arith
+
+-- ---- q * 2 ^ b, for 53 digits q and a b of 0 or 1
+pub doubled-range : (q b : ℕ) → 2 ^ 52 ≤ q → q < 2 ^ 53 → b < 2 → (2 ^ 52 ≤ q * 2 ^ b) × (q * 2 ^ b ≤ 2 ^ 54 - 2)
+doubled-range q zero l h k = (omega arith, omega arith)
+doubled-range q (suc zero) l h k = (omega arith, omega arith)
+doubled-range q (suc (suc b)) l h k = omega arith
+
+-- ---- the bits of a normal double
+fields-at : (x t : ℕ) → suc x < 2047 → ofFields binary64 false (suc x) t ≡ odd 53 false (2 ^ 52 + t) x 1074
+unfolding ofFields
+fields-at x t h = ap (λ (b : Bool). cond b (cond (eqb t 0) (inf false) nan) (odd 53 false (2 ^ 52 + t) x 1074)) (ne-eqb (suc x) 2047 (λ (e : suc x ≡ 2047). omega arith))
+
+pub normal-bits : (k s : ℕ) → k < 2046 → 2 ^ 52 ≤ s → s < 2 ^ 53 → ofBits binary64 (k * 4503599627370496 + s) ≡ odd 53 false s k 1074
+unfolding ofBits
+normal-bits k s h l u =
+    let n = k * 4503599627370496 + s in
+    let a : leb (2 ^ 63) n ≡ false = lt-leb (2 ^ 63) n (omega arith) in
+    let b : n % 2 ^ 63 / 2 ^ 52 ≡ suc k = omega arith in
+    let c : n % 2 ^ 52 ≡ s - 2 ^ 52 = omega arith in
+    let d : 2 ^ 52 + (s - 2 ^ 52) ≡ s = omega arith in
+    ap (λ (x : Bool). ofFields binary64 x (n % 2 ^ 63 / 2 ^ 52) (n % 2 ^ 52)) a
+    ∙ ap₂ (λ (x y : ℕ). ofFields binary64 false x y) b c
+    ∙ fields-at k (s - 2 ^ 52) (omega arith)
+    ∙ ap (λ (x : ℕ). odd 53 false x k 1074) d
+
+module _ (p : Parts) (i : InPlace p) where
+  abbrev m : ℕ
+  m = p .significand * 2 ^ (p .exponent % 2)
+
+  pub m-range : (2 ^ 52 ≤ m) × (m ≤ 2 ^ 54 - 2)
+  m-range = doubled-range (p .significand) (p .exponent % 2) (i .low) (i .high) (mod-lt (p .exponent) (lit< tt))
+
+  pub low : 2 ^ 104 ≤ radicand p
+  unfolding radicand
+  low = omega (arith, m-range)
+
+  high : radicand p ≤ 2 ^ 106 - 2 ^ 53
+  unfolding radicand
+  high = omega (arith, m-range)
+
+  abbrev s : ℕ
+  s = rounded (radicand p)
+
+  pub near : Near s (radicand p)
+  near = rounded-near (radicand p) (omega (arith, low)) (omega (arith, high))
+
+  pub s-low : 2 ^ 52 ≤ s
+  s-low = digits-low s (radicand p) low near
+
+  pub s-high : s < 2 ^ 53
+  s-high = digits-high s (radicand p) high near
+
+  half-le : half p ≤ 1049
+  unfolding half
+  half-le = omega (arith, i .most)
+
+  -- ---- what the program makes of it
+  module _ (d x : ℕ) (f : d ≡ m) (e : x ≡ rounded (d * 2 ^ 52)) where
+    is : x ≡ s
+    unfolding radicand
+    is = e ∙ ap (λ (y : ℕ). rounded (y * 2 ^ 52)) f
+
+    pub x-high : x < 2 ^ 53
+    x-high = omega (arith, is, s-high)
+
+    pub bits-are : ofBits binary64 ((p .exponent / 2 + 485) * 4503599627370496 + x) ≡ rootOf p
+    unfolding rootOf half
+    bits-are =
+        normal-bits (p .exponent / 2 + 485) x (omega (arith, i .most)) (omega (arith, is, s-low)) x-high ∙ ap (λ (y : ℕ). odd 53 false y (p .exponent / 2 + 485) 1074) is
+
+  -- ---- the root is a double
+  pub rootOf-fits : T (fits binary64 (rootOf p))
+  unfolding rootOf
+  rootOf-fits =
+      subst (λ (y : Float). T (fits binary64 y)) (normal-bits (half p + 485) s (omega (arith, half-le)) s-low s-high)
+      (ofBits-fits binary64 ((half p + 485) * 4503599627370496 + s))
