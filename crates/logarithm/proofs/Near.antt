@@ -2,7 +2,6 @@
 use mathlib.Core.Path.{_≡_, refl, ap, sym, _∙_, subst}
 use Prim.Native.Nat.{ℕ, zero, suc, _+_, _-_, _*_, _^_, _≤_, _<_}
 use native.Mathlib.Omega.{arith}
-use native.Mathlib.Bridge.{le-by-compare, IsLe}
 use mathlib.Core.Bool.{Bool, true, false, cond}
 use lib.Dec.{T, ltb, lit<, lit≤}
 use lib.Ieee.{Float, nan, inf, fin, binary64, fits, toBits}
@@ -12,30 +11,13 @@ use Rattle.double.specs.Parts.{significand, exponent, partsOf}
 use Rattle.double.specs.Kind.{kindOf}
 use Rattle.double.proofs.Value.{significand-low, significand-high, exponent-le}
 use Rattle.double.proofs.Tests.{at-positive}
-use Rattle.exact_log.specs.Artanh.{power, under, den, num}
 use Rattle.exact_log.specs.Log.{apart, centre, rise, exactLn}
-use Rattle.exact_log.proofs.Bracket.{topNum, topDen}
 use Rattle.exact_log.proofs.Ends.{near-one}
-use Rattle.logarithm.specs.Ln.{chosen, lnSum, lnParts, lnAt, lnOf}
-use Rattle.logarithm.specs.Near.{Near, IsLn}
-use Rattle.logarithm.proofs.Law.{Serves, sum-finite, sum-near}
-
--- 480 units are left out by ten terms (13,256 by nine), and ln 2's series with 22 terms fixes its unit
-pub serves : Serves chosen (2 ^ 50) (2 ^ 52)
-unfolding num den under power IsLe
-serves = record {
-  rest = 480;
-  bracket = 22;
-  unit-low = lit≤ tt;
-  guard-low = lit< tt;
-  sum-high = lit≤ tt;
-  long-enough = lit≤ tt;
-  ln2-low = le-by-compare _ _ tt;
-  ln2-high = le-by-compare _ _ tt;
-  ln2-most = lit≤ tt;
-  absolute = lit≤ tt;
-  relative = lit≤ tt;
-}
+use Rattle.log_units.specs.Units.{chosen, lnSum, lnParts}
+use Rattle.log_units.specs.Near.{Near, IsLn}
+use Rattle.log_units.proofs.Law.{sum-finite, sum-near}
+use Rattle.log_units.proofs.Serves.{serves}
+use Rattle.logarithm.specs.Ln.{lnAt, lnOf}
 
 pub few : (m t : ℕ) → t ≤ 2098 → apart (rise m t) 1074 ≤ 1074
 few m t h = go (ltb m (3 * 2 ^ 51))

@@ -19,12 +19,14 @@ use Rattle.double.proofs.Bits.{same}
 use Rattle.double.proofs.Value.{significand-low, significand-high}
 use Rattle.exact_log.specs.Log.{apart, centre, rise}
 use Rattle.exact_log.proofs.Ends.{exact-parts}
-use Rattle.logarithm.specs.Ln.{Precision, chosen, artanhUnits, wholePart, seriesPart, gain, loss, lnSum, lnParts, lnAt, lnOf}
-use Rattle.logarithm.specs.Near.{IsLn}
-use Rattle.logarithm.proofs.Rounding.{Rounded, IsRounded}
-use Rattle.logarithm.proofs.Law.{sum-rounded, series-small, size-le}
-use Rattle.logarithm.proofs.Near.{serves, at-parts, centre-pos, near-centre, steps, steps-few, ln-near}
-use Rattle.logarithm.proofs.Joined.{units-some}
+use Rattle.log_units.specs.Units.{Precision, chosen, artanhUnits, wholePart, seriesPart, gain, loss, lnSum, lnParts}
+use Rattle.log_units.specs.Near.{IsLn}
+use Rattle.log_units.proofs.Rounding.{Rounded, IsRounded}
+use Rattle.log_units.proofs.Law.{sum-rounded, series-small, size-le}
+use Rattle.log_units.proofs.Serves.{serves}
+use Rattle.log_split.proofs.Joined.{units-some}
+use Rattle.logarithm.specs.Ln.{lnAt, lnOf}
+use Rattle.logarithm.proofs.Near.{at-parts, centre-pos, near-centre, steps, steps-few, ln-near}
 
 -- the logarithm of every double is a double
 sum-fits : (P : Precision) (m c u d : ℕ) → T (fits binary64 (lnSum P m c u d))

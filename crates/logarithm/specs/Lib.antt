@@ -1,3 +1,1 @@
 pub mod Ln
-pub mod Near
-pub mod Split

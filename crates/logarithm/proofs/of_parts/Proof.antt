@@ -1,5 +1,5 @@
 -- `logarithm::of_parts` meets its contract.
-use Rattle.logarithm.proofs.Joined.{split, parts-are}
+use Rattle.logarithm.proofs.Centre.{split, parts-are}
 use borrow.Author.Needs.{needs}
 use Rattle.logarithm.proofs.of_parts.Statement.{statement}
 use Rattle.logarithm.proofs.of_parts.Tie as tie

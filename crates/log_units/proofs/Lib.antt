@@ -1,0 +1,4 @@
+pub mod Horner
+pub mod Rounding
+pub mod Law
+pub mod Serves
