@@ -15,10 +15,10 @@ use Rattle.storage.specs.Part.{store}
 use Rattle.rules.specs.Arithmetic.{ieee}
 use Rattle.layout.specs.declared.Layout.{Layout}
 use Rattle.layout.specs.Shapes.{sumAt, doublesNeeded}
-use Rattle.layout.specs.Heading.{layoutOf, entryRow, lawful, underWay, headed}
+use Rattle.heading_rules.specs.Heading.{layoutOf, entryRow, lawful, underWay, headed}
 use Rattle.workspace.specs.Memory.{headingWith}
 use Rattle.workspace.specs.Answers.{space, accept, firstInfinite}
-use Rattle.layout.proofs.Fits.{fits}
+use Rattle.heading_rules.proofs.Fits.{fits}
 use Rattle.heading_writer.specs.Small.{SmallProgress}
 use Rattle.progress.proofs.Count.{triple-small, step-count}
 use Rattle.finite.specs.Found.{foundAt}

@@ -6,7 +6,7 @@ ghost use mathlib.Core.Bool.{true};
 ghost use Prim.Native.Nat.{_≤_};
 ghost use lib.ListN.{length};
 ghost use Rattle.layout.specs.Shapes.{doublesNeeded};
-ghost use Rattle.layout.specs.Heading.{lawful, underWay, headed};
+ghost use Rattle.heading_rules.specs.Heading.{lawful, underWay, headed};
 ghost use Rattle.refusal.specs.Numbers.{refusal};
 ghost use Rattle.workspace.specs.Memory.{headingWith};
 ghost use Rattle.workspace.specs.Answers.{space};

@@ -17,7 +17,7 @@ use Rattle.axpy.specs.Axpy.{run}
 use Rattle.axpy.specs.Axpy.{at as double}
 use Rattle.layout.specs.declared.Layout.{Layout}
 use Rattle.layout.specs.Shapes.{Target, target, factors, across, pairs, targets, sizes, loadedSizes, loadedLength, loadedAt, thetaAt, workingAt, sumAt, doublesNeeded}
-use Rattle.layout.specs.Heading.{layoutOf, entryRow}
+use Rattle.heading_rules.specs.Heading.{layoutOf, entryRow}
 use Rattle.layout.proofs.Places.{size-loaded, loaded-inside, working-behind}
 use Rattle.workspace.specs.Memory.{loadedBlock, loadedSome}
 use Rattle.update.specs.Working.{started}

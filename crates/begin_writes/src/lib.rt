@@ -4,11 +4,11 @@ ghost use mathlib.Core.Bool.{true};
 ghost use Prim.Native.Nat.{_≤_};
 ghost use lib.ListN.{length};
 ghost use Rattle.layout.specs.Shapes.{doublesNeeded};
-ghost use Rattle.layout.specs.Heading.{lawful, underWay};
+ghost use Rattle.heading_rules.specs.Heading.{lawful, underWay};
 ghost use Rattle.begin_writes.specs.Begun.{DoublesBegun};
+use heading_rules::Progress;
+use heading_rules::State;
 use layout::Layout;
-use layout::Progress;
-use layout::State;
 
 // An update just begun: no step is done, every one is left.
 pub fn under_way(k: u64) -> Progress

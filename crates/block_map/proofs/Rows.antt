@@ -14,9 +14,9 @@ use borrow.Author.Tests.{ltb-true, leb-true, eqb-true, lt-ltb, le-leb, eq-eqb, n
 use Rattle.layout.specs.declared.Layout.{Layout}
 use Rattle.layout.specs.Blocks.{insert, sorted, sum}
 use Rattle.layout.specs.Shapes.{levels}
-use Rattle.layout.specs.Heading.{same, sheetLevels, lawful}
-use Rattle.layout.proofs.Lawful.{is-lawful}
-use Rattle.layout.proofs.Sorted.{All, all-map, all-at, all-insert, length-sorted, below-sorted}
+use Rattle.heading_rules.specs.Heading.{same, sheetLevels, lawful}
+use Rattle.heading_rules.proofs.Lawful.{is-lawful}
+use Rattle.heading_rules.proofs.Sorted.{All, all-map, all-at, all-insert, length-sorted, below-sorted}
 use Rattle.workspace.specs.Loaded.{rowStart, inBlock}
 use Rattle.block_map.specs.Blocks.{blockOf}
 

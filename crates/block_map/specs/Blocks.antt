@@ -7,7 +7,7 @@ use lib.ListN.{getD}
 use Rattle.layout.specs.declared.Layout.{Layout}
 use Rattle.layout.specs.Shapes.{loadedAt}
 use Rattle.layout.specs.Blocks.{sum}
-use Rattle.layout.specs.Heading.{sheetLevels}
+use Rattle.heading_rules.specs.Heading.{sheetLevels}
 use Rattle.workspace.specs.Loaded.{rowStart, inBlock}
 use Rattle.block_map.specs.declared.Map.{Map}
 

@@ -3,7 +3,7 @@ ghost use mathlib.Core.Path.{_≡_};
 ghost use mathlib.Core.Bool.{true, cond, _&&_};
 ghost use lib.Dec.{ltb, leb};
 ghost use Prim.Native.Nat.{_+_, _≤_, _<_};
-ghost use Rattle.layout.specs.Heading.{lawful, sheetLevels};
+ghost use Rattle.heading_rules.specs.Heading.{lawful, sheetLevels};
 ghost use Rattle.workspace.specs.Loaded.{rowStart};
 use layout::Layout;
 

@@ -12,8 +12,8 @@ use lib.Dec.{eqb}
 use borrow.Author.Tests.{eqb-true}
 use Rattle.layout.specs.declared.Layout.{Layout}
 use Rattle.layout.specs.Shapes.{levels, sizes, target, factors, across, pairs, targets, cellsOf, loadedLength, doublesNeeded, sumAt}
-use Rattle.layout.specs.Heading.{lawful}
-use Rattle.layout.proofs.Lawful.{is-lawful}
+use Rattle.heading_rules.specs.Heading.{lawful}
+use Rattle.heading_rules.proofs.Lawful.{is-lawful}
 use Rattle.layout.proofs.Formula.{
   cells-append,
   cells-targets,

@@ -9,8 +9,8 @@ use lib.Ieee.{Float, inf}
 use Rattle.order.specs.Steps.{S, C, T}
 use Rattle.sheet.specs.Sheet.{Sheet}
 use Rattle.refusal.specs.Numbers.{refusal}
-use Rattle.layout.specs.declared.State.the-variants.{Finished}
-use Rattle.layout.specs.Heading.{progressOf}
+use Rattle.heading_rules.specs.declared.State.the-variants.{Finished}
+use Rattle.heading_rules.specs.Heading.{progressOf}
 use Rattle.workspace.specs.Memory.{Workspace}
 use Rattle.workspace.specs.Load.{loadSheet}
 use Rattle.workspace.specs.Response.{replaceOf}

@@ -7,7 +7,7 @@ use lib.Ieee.{Float}
 use Rattle.order.specs.Elimination.{Rules, value, final, total, refusedAt}
 use Rattle.rules.specs.Arithmetic.{ieee}
 use Rattle.sheet.specs.Sheet.{Sheet}
-use Rattle.layout.specs.Heading.{layoutOf, entryRow}
+use Rattle.heading_rules.specs.Heading.{layoutOf, entryRow}
 use Rattle.workspace.specs.Memory.{loadedBlock, loadedSome}
 use Rattle.update.specs.Working.{rulesOf, started}
 use Rattle.book.specs.Book.{fresh, last}

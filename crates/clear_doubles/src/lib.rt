@@ -7,7 +7,7 @@ ghost use Rattle.storage.specs.Runs.{tab};
 ghost use Rattle.storage.specs.Part.{store};
 ghost use Rattle.rules.specs.Arithmetic.{ieee};
 ghost use Rattle.layout.specs.Shapes.{doublesNeeded};
-ghost use Rattle.layout.specs.Heading.{lawful};
+ghost use Rattle.heading_rules.specs.Heading.{lawful};
 use layout::Layout;
 
 // Every double that the formula counts becomes +0.0.

@@ -16,7 +16,7 @@ use Rattle.sheet.specs.Run.{entryIn, keptFrom}
 use Rattle.sheet.specs.Sheet.{Sheet, accepted, readSheet}
 use Rattle.sheet.specs.Whole.{InRange}
 use Rattle.sheet.proofs.Whole.{read-whole}
-use Rattle.layout.specs.Heading.{bit}
+use Rattle.heading_rules.specs.Heading.{bit}
 use Rattle.columns.specs.Columns.{inRun, inPair, inTurn, entriesAt}
 
 -- ---- how many

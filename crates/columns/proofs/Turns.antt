@@ -10,8 +10,8 @@ use borrow.Author.Tests.{eqb-true, eqb-false, leb-true, ltb-true, eq-eqb, ne-eqb
 use lib.Dec.{ltb, leb, eqb}
 use Rattle.sheet.specs.Run.{Entry}
 use Rattle.sheet.specs.Whole.{Each, Earlier, Rising}
-use Rattle.layout.specs.Heading.{bit}
-use Rattle.layout.proofs.Lawful.{every-of, every-at}
+use Rattle.heading_rules.specs.Heading.{bit}
+use Rattle.heading_rules.proofs.Lawful.{every-of, every-at}
 use Rattle.workspace.specs.Loaded.{countOf}
 use Rattle.columns.specs.Columns.{inRun, inColumn, eachOne, inPair, inTurn}
 

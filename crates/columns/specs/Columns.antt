@@ -5,7 +5,7 @@ use mathlib.Core.List.{List, [], _∷_}
 use lib.Dec.{ltb, leb, eqb}
 use Rattle.sheet.specs.Line.{zzTag, pairLine}
 use Rattle.sheet.specs.Run.{Entry, entryIn, keptFrom}
-use Rattle.layout.specs.Heading.{every, bit}
+use Rattle.heading_rules.specs.Heading.{every, bit}
 use Rattle.workspace.specs.Loaded.{countOf}
 
 -- x is one of the n numbers from a on

@@ -11,7 +11,7 @@ ghost use lib.ListN.{length};
 ghost use Rattle.sheet.specs.Line.{zzTag, pairLine};
 ghost use Rattle.sheet.specs.Sheet.{Sheet, accepted, readSheet};
 ghost use Rattle.sheet.specs.Whole.{InRange};
-ghost use Rattle.layout.specs.Heading.{bit};
+ghost use Rattle.heading_rules.specs.Heading.{bit};
 ghost use Rattle.levels.specs.Held.{Holds};
 ghost use Rattle.columns.specs.Columns.{inRun, eachOne, inTurn, entriesAt};
 

@@ -13,8 +13,8 @@ use Rattle.order.specs.Steps.{Step, Named, row, col, index}
 use Rattle.order.specs.Progress.{stepsLeft, done}
 use Rattle.order.proofs.Left.{left-represents}
 use Rattle.sheet.specs.Sheet.{Sheet}
-use Rattle.layout.specs.declared.Progress.{Progress}
-use Rattle.layout.specs.Heading.{progressOf, stageOf, idle}
+use Rattle.heading_rules.specs.declared.Progress.{Progress}
+use Rattle.heading_rules.specs.Heading.{progressOf, stageOf, idle}
 use Rattle.workspace.specs.Memory.{Workspace}
 use Rattle.book.specs.Book.{Book, book, last, bookLeft, bookState, bookSet}
 use Rattle.book.specs.Demand.{Agrees}

@@ -20,9 +20,9 @@ use Rattle.rules.specs.Arithmetic.{ieee}
 use Rattle.sheet.specs.Sheet.{Sheet}
 use Rattle.layout.specs.declared.Layout.{Layout}
 use Rattle.layout.specs.declared.State as States
-use Rattle.layout.specs.declared.State.the-variants.{Idle, UnderWay, Finished}
+use Rattle.heading_rules.specs.declared.State.the-variants.{Idle, UnderWay, Finished}
 use Rattle.layout.specs.Shapes.{pick, shape}
-use Rattle.layout.specs.Heading.{layoutOf, entryRow, stageOf}
+use Rattle.heading_rules.specs.Heading.{layoutOf, entryRow, stageOf}
 use Rattle.workspace.specs.Memory.{Workspace, workingBlock, cellOf, logSum}
 use Rattle.workspace.specs.Load.{headingOf}
 use Rattle.update.specs.Working.{pivotCount}

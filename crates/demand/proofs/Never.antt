@@ -16,7 +16,7 @@ use Rattle.refusal.specs.declared.Answer.{Answer}
 use Rattle.refusal.specs.declared.Answer.the-variants.{Accepted, Refused}
 use Rattle.refusal.specs.Numbers as Numbers
 use Rattle.layout.specs.Shapes.{pick}
-use Rattle.layout.specs.Heading.{layoutOf, progressOf, stageOf, headed}
+use Rattle.heading_rules.specs.Heading.{layoutOf, progressOf, stageOf, headed}
 use Rattle.workspace.specs.Answers.{Outcome, untouched, firstInfinite, unlessAt}
 use Rattle.workspace.specs.Response.{replaceOf, responded}
 use Rattle.update.specs.Calls.{begun, beginOf, stepOf, onPivot, refusedBy, isUnderWay, runOf}

@@ -24,12 +24,12 @@ use Rattle.refusal.specs.declared.Answer.{Answer}
 use Rattle.refusal.specs.declared.Answer.the-variants.{Accepted, Refused}
 use Rattle.refusal.specs.Numbers.{refuse}
 use Rattle.layout.specs.declared.Layout.{Layout}
-use Rattle.layout.specs.declared.Progress.{Progress}
-use Rattle.layout.specs.declared.State.{State}
-use Rattle.layout.specs.declared.State.the-variants.{Idle, UnderWay, Finished}
+use Rattle.heading_rules.specs.declared.Progress.{Progress}
+use Rattle.heading_rules.specs.declared.State.{State}
+use Rattle.heading_rules.specs.declared.State.the-variants.{Idle, UnderWay, Finished}
 use Rattle.layout.specs.Shapes.{pick, shape, sizes, workingAt, sumAt, doublesNeeded}
-use Rattle.layout.specs.Heading.{layoutOf, progressOf, entryRow, written, progressNumbers}
-use Rattle.layout.proofs.Heading.{length-written, layout-back, progress-stored}
+use Rattle.heading_rules.specs.Heading.{layoutOf, progressOf, entryRow, written, progressNumbers}
+use Rattle.heading_rules.proofs.Heading.{length-written, layout-back, progress-stored}
 use Rattle.layout.proofs.Places.{size-working, working-inside}
 use Rattle.workspace.specs.Memory.{Workspace, workingBlock, logSum, headingWith}
 use Rattle.workspace.specs.Answers.{Outcome}

@@ -3,10 +3,10 @@
 ghost use mathlib.Core.Path.{_≡_};
 ghost use mathlib.Core.Bool.{true};
 ghost use lib.ListN.{length};
-ghost use Rattle.layout.specs.Heading.{headed};
+ghost use Rattle.heading_rules.specs.Heading.{headed};
 ghost use Rattle.refusal.specs.Numbers.{refusal};
 ghost use Rattle.profile.specs.Deviance.{isFinished, devianceFromFactor};
-use layout::State;
+use heading_rules::State;
 use profile::Deviance;
 use refusal::Refusal;
 

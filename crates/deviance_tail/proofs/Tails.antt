@@ -19,11 +19,11 @@ use Rattle.blocks.specs.Blocks.{block}
 use Rattle.blocks.proofs.Laws.{any-default, read-block, has-packed}
 use Rattle.layout.specs.declared.Layout.{Layout}
 use Rattle.layout.specs.Shapes.{pick, shape, sizes, workingAt, sumAt, doublesNeeded}
-use Rattle.layout.specs.Heading.{layoutOf, progressOf, entryRow, lawful, headed}
-use Rattle.layout.proofs.Lawful.{is-lawful}
+use Rattle.heading_rules.specs.Heading.{layoutOf, progressOf, entryRow, lawful, headed}
+use Rattle.heading_rules.proofs.Lawful.{is-lawful}
 use Rattle.layout.proofs.Places.{working-inside}
 use Rattle.block_sizes.proofs.Sizes.{doubles-small}
-use Rattle.layout.proofs.Fits.{fits}
+use Rattle.heading_rules.proofs.Fits.{fits}
 use Rattle.refusal.specs.declared.Refusal.{Refusal}
 use Rattle.refusal.specs.Numbers.{refusal}
 use Rattle.workspace.specs.Memory.{cellOf, workingBlock}

@@ -6,7 +6,7 @@ ghost use lib.ListN.{length};
 ghost use Rattle.rules.specs.Arithmetic.{ieee};
 ghost use Rattle.rules.specs.Finish.{devianceOf};
 ghost use Rattle.layout.specs.Shapes.{doublesNeeded};
-ghost use Rattle.layout.specs.Heading.{lawful};
+ghost use Rattle.heading_rules.specs.Heading.{lawful};
 ghost use Rattle.profile.specs.Deviance.{freedom};
 ghost use Rattle.deviance_tail.specs.Tail.{pivotOf, logDeterminantOf, devianceWith};
 use layout::Layout;

@@ -16,9 +16,9 @@ use Rattle.storage.proofs.Parts.{store-part}
 use Rattle.rules.specs.Arithmetic.{ieee}
 use Rattle.layout.specs.declared.Layout.{Layout}
 use Rattle.layout.specs.Shapes.{pick, levels, shape}
-use Rattle.layout.specs.Heading.{lawful}
-use Rattle.layout.proofs.Lawful.{is-lawful}
-use Rattle.layout.proofs.Sorted.{packed-rows}
+use Rattle.heading_rules.specs.Heading.{lawful}
+use Rattle.heading_rules.proofs.Lawful.{is-lawful}
+use Rattle.heading_rules.proofs.Sorted.{packed-rows}
 use Rattle.blocks.specs.Blocks.{block}
 use Rattle.re_lower.specs.declared.Pivots.{Pivots}
 use Rattle.re_lower.proofs.Laws.{any-default}

@@ -8,7 +8,7 @@ ghost use lib.ListN.{length, getD};
 ghost use Rattle.storage.specs.Shape.{sizeOf};
 ghost use Rattle.storage.specs.Part.{store};
 ghost use Rattle.layout.specs.Shapes.{shape, pick, sumAt};
-ghost use Rattle.layout.specs.Heading.{lawful};
+ghost use Rattle.heading_rules.specs.Heading.{lawful};
 ghost use Rattle.rules.specs.Arithmetic.{ieee};
 ghost use Rattle.blocks.specs.Blocks.{block};
 ghost use Rattle.factor_logs.specs.Factors.{factorShapeOf, logsOf};
@@ -16,8 +16,8 @@ use layout::Layout;
 
 // How the factor of a block lies: a diagonal or a packed triangle, and how many rows.
 pub struct Form {
-    diagonal: bool,
-    rows: usize,
+    pub diagonal: bool,
+    pub rows: usize,
 }
 
 // How factor j lies: the last triangle; block 0, and block 1 where the layout says so, diagonal; else packed.

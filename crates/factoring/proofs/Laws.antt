@@ -17,7 +17,7 @@ use Rattle.order.specs.Steps.{C}
 use Rattle.rules.specs.Arithmetic.{ieee}
 use Rattle.layout.specs.declared.Layout.{Layout}
 use Rattle.layout.specs.Shapes.{pick, shape, sizes, workingAt, sumAt, doublesNeeded}
-use Rattle.layout.specs.Heading.{layoutOf, entryRow, lawful}
+use Rattle.heading_rules.specs.Heading.{layoutOf, entryRow, lawful}
 use Rattle.layout.proofs.Places.{size-working, working-inside}
 use Rattle.workspace.specs.Memory.{cellOf, logSum}
 use Rattle.re_lower.specs.declared.Pivots.{Pivots}
@@ -26,7 +26,7 @@ use Rattle.re_lower.specs.Lower.{answerOf}
 use Rattle.re_lower.proofs.Blocks.{accepted-none, refused-some, triangle-room, diagonal-room}
 use Rattle.update.specs.Working.{refusedRow, factored, logged, pivotCount}
 use Rattle.update.specs.Calls.{madeBy, sumBy, refusedBy}
-use Rattle.layout.specs.Fits.{Fits}
+use Rattle.heading_rules.specs.Fits.{Fits}
 use Rattle.factor_logs.specs.Factors.{factorShapeOf, leftOf, logsOf, Factors}
 use Rattle.factor_logs.proofs.Forms.{Forms, BlockFactored, pivotsIn, Summed}
 

@@ -22,7 +22,7 @@ use Rattle.layout.specs.declared.Pair.{Pair}
 use Rattle.layout.specs.declared.Pair.the-variants.{Dense, Sparse, Refused}
 use Rattle.layout.specs.Gate.{thin, pairOf}
 use Rattle.layout.specs.Shapes.{Target, target, levels, across, pairs}
-use Rattle.layout.specs.Heading.{isSparse}
+use Rattle.heading_rules.specs.Heading.{isSparse}
 use Rattle.workspace.specs.Loaded.{countOf, ofPair, denied, oneEach, pairIn, firstDenied, sortedLayout, layoutOfSheet}
 use Rattle.workspace.proofs.Lawful.{one-each-count, sparse-is, diagonal-is}
 use Rattle.gate_search.specs.Search.{answerOf, numberOf, verdict, first}

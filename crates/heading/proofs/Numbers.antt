@@ -10,10 +10,10 @@ use Rattle.storage.specs.Part.{store}
 use Rattle.storage.proofs.Cells.{take-tab}
 use Rattle.storage.proofs.Parts.{store-nil, store-one, store-more}
 use Rattle.layout.specs.declared.Layout.{Layout}
-use Rattle.layout.specs.declared.Progress.{Progress}
-use Rattle.layout.specs.declared.State.the-variants.{Finished}
+use Rattle.heading_rules.specs.declared.Progress.{Progress}
+use Rattle.heading_rules.specs.declared.State.the-variants.{Finished}
 use Rattle.layout.specs.Blocks.{padded}
-use Rattle.layout.specs.Heading.{bit, stateNumber, stateOf, layoutNumbers, progressNumbers, written}
+use Rattle.heading_rules.specs.Heading.{bit, stateNumber, stateOf, layoutNumbers, progressNumbers, written}
 use Rattle.gate.proofs.Filling.{Filling, filling-done, array-done}
 use Rattle.gate.proofs.Sorting.{padded-at, length-padded}
 

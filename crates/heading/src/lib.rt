@@ -3,10 +3,10 @@
 ghost use mathlib.Core.Path.{_≡_};
 ghost use Prim.Native.Nat.{_+_, _<_, _≤_};
 ghost use lib.ListN.{length, getD, take, drop};
-ghost use Rattle.layout.specs.Heading.{stateOf, layoutOf, progressOf};
+ghost use Rattle.heading_rules.specs.Heading.{stateOf, layoutOf, progressOf};
+use heading_rules::Progress;
+use heading_rules::State;
 use layout::Layout;
-use layout::Progress;
-use layout::State;
 
 // A number of the heading as a count.
 fn wide(x: u32) -> u64

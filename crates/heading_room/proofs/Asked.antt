@@ -9,8 +9,8 @@ use lib.Dec.{ltb, leb}
 use lib.ListN.{length, getD}
 use Rattle.layout.specs.declared.Layout.{Layout}
 use Rattle.layout.specs.Shapes.{levels, numbersNeeded, doublesNeeded, sumAt}
-use Rattle.layout.specs.Heading.{every, entryRow, layoutOf, progressOf, lawful, progressLawful, headed}
-use Rattle.layout.proofs.Lawful.{is-lawful}
+use Rattle.heading_rules.specs.Heading.{every, entryRow, layoutOf, progressOf, lawful, progressLawful, headed}
+use Rattle.heading_rules.proofs.Lawful.{is-lawful}
 
 abbrev flags : List ℕ → Bool
 flags h = leb (getD h 20 0) 1 && leb (getD h 21 0) 1 && leb (getD h 22 0) 2

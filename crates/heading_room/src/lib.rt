@@ -5,7 +5,7 @@ ghost use Prim.Native.Nat.{_+_, _<_, _≤_};
 ghost use lib.Dec.{leb, ltb};
 ghost use lib.ListN.{length, getD};
 ghost use Rattle.layout.specs.Shapes.{levels, numbersNeeded, doublesNeeded};
-ghost use Rattle.layout.specs.Heading.{every, entryRow, lawful};
+ghost use Rattle.heading_rules.specs.Heading.{every, entryRow, lawful};
 use layout::Layout;
 use sorted_blocks::level;
 

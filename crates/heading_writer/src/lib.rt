@@ -5,11 +5,11 @@ ghost use Prim.Native.Nat.{ℕ, _+_, _<_, _≤_};
 ghost use lib.ListN.{length, getD, replicate};
 ghost use Rattle.storage.specs.Part.{store};
 ghost use Rattle.layout.specs.Blocks.{padded};
-ghost use Rattle.layout.specs.Heading.{bit, stateNumber, layoutNumbers, progressNumbers, written};
+ghost use Rattle.heading_rules.specs.Heading.{bit, stateNumber, layoutNumbers, progressNumbers, written};
 ghost use Rattle.heading_writer.specs.Small.{SmallLayout, SmallProgress};
+use heading_rules::Progress;
+use heading_rules::State;
 use layout::Layout;
-use layout::Progress;
-use layout::State;
 
 // A number of the heading.
 fn narrow(x: u64) -> u32

@@ -11,8 +11,8 @@ use Rattle.layout.specs.declared.Pair.the-variants.{Dense, Sparse, Refused}
 use Rattle.layout.specs.Blocks.{sorted, sum}
 use Rattle.layout.specs.Gate.{pairOf}
 use Rattle.layout.specs.Shapes.{levels}
-use Rattle.layout.specs.Heading.{every, within, same, sheetLevels, isDense, isSparse, pairLawful, lawful}
-use Rattle.layout.proofs.Lawful.{every-at}
+use Rattle.heading_rules.specs.Heading.{every, within, same, sheetLevels, isDense, isSparse, pairLawful, lawful}
+use Rattle.heading_rules.proofs.Lawful.{every-at}
 use Rattle.lawful.specs.Ranged.{Ranged}
 use Rattle.sorted_blocks.proofs.Sheets.{assoc}
 

@@ -4,7 +4,7 @@ ghost use mathlib.Core.Path.{_≡_};
 ghost use Prim.Native.Nat.{_<_, _≤_};
 ghost use Rattle.layout.specs.Blocks.{sum};
 ghost use Rattle.layout.specs.Shapes.{levels};
-ghost use Rattle.layout.specs.Heading.{within, every, pairLawful, lawful};
+ghost use Rattle.heading_rules.specs.Heading.{within, every, pairLawful, lawful};
 ghost use Rattle.lawful.specs.Ranged.{Ranged};
 use layout::Layout;
 use layout::Pair;

@@ -2,7 +2,7 @@
 ghost use mathlib.Core.Path.{_≡_};
 ghost use mathlib.Core.Bool.{_&&_};
 ghost use Prim.Native.Nat.{_<_};
-ghost use Rattle.layout.specs.Heading.{within};
+ghost use Rattle.heading_rules.specs.Heading.{within};
 use layout::Layout;
 
 // Whether a number is in a range.

@@ -4,8 +4,8 @@
 ghost use mathlib.Core.Path.{_≡_};
 ghost use Prim.Native.Nat.{_-_, _<_, _≤_};
 ghost use lib.ListN.{length};
-ghost use Rattle.layout.specs.Heading.{stateLawful, progressLawful, progressOf};
-use layout::State;
+ghost use Rattle.heading_rules.specs.Heading.{stateLawful, progressLawful, progressOf};
+use heading_rules::State;
 
 // Whether a state has this many steps left of all.
 fn state_lawful(s: State, left: u64, all: u64) -> bool

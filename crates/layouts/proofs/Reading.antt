@@ -15,8 +15,8 @@ use Rattle.sheet.proofs.Whole.{read-whole}
 use Rattle.layout.specs.declared.Layout.{Layout}
 use Rattle.layout.specs.Blocks.{sorted, sum, each, padded}
 use Rattle.layout.specs.Shapes.{levels}
-use Rattle.layout.specs.Heading.{sheetLevels}
-use Rattle.layout.proofs.Sorted.{All, all-map, all-at, length-sorted, below-sorted}
+use Rattle.heading_rules.specs.Heading.{sheetLevels}
+use Rattle.heading_rules.proofs.Sorted.{All, all-map, all-at, length-sorted, below-sorted}
 use Rattle.gate.proofs.Sorting.{padded-at}
 use Rattle.levels.specs.Held.{Holds, levelList}
 use Rattle.levels.proofs.Sums.{sum-small, levels-small}

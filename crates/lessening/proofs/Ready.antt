@@ -13,7 +13,7 @@ use Rattle.storage.specs.Shape.{packed, diagonal, columns, entries, sizeOf}
 use Rattle.storage.proofs.Starts.{start-single}
 use Rattle.layout.specs.declared.Layout.{Layout}
 use Rattle.layout.specs.Shapes.{shape, loadedShape, loadedAt, workingAt, doublesNeeded}
-use Rattle.layout.specs.Heading.{lawful}
+use Rattle.heading_rules.specs.Heading.{lawful}
 use Rattle.block_sizes.proofs.Sizes.{not-both}
 use Rattle.blocks.specs.Blocks.{RowsBelow}
 use Rattle.rank_diagonal.specs.Diagonal.{subtractedDiagonal}

@@ -4,7 +4,7 @@ ghost use mathlib.Core.Bool.{true, false};
 ghost use Prim.Native.Nat.{_≤_, _<_};
 ghost use lib.ListN.{length};
 ghost use Rattle.layout.specs.Shapes.{workingAt, doublesNeeded};
-ghost use Rattle.layout.specs.Heading.{lawful};
+ghost use Rattle.heading_rules.specs.Heading.{lawful};
 ghost use Rattle.schur.specs.Schur.{subtractedDense, subtractedLast};
 ghost use Rattle.working_blocks.specs.Rows.{rowsOf};
 use layout::Layout;

@@ -6,7 +6,7 @@ ghost use lib.Dec.{eqb};
 ghost use lib.ListN.{length};
 ghost use Rattle.storage.specs.Shape.{columns, entries};
 ghost use Rattle.layout.specs.Shapes.{loadedAt, workingAt, doublesNeeded};
-ghost use Rattle.layout.specs.Heading.{lawful};
+ghost use Rattle.heading_rules.specs.Heading.{lawful};
 ghost use Rattle.blocks.specs.Blocks.{rowFrom, RowsBelow};
 ghost use Rattle.rank_diagonal.specs.Diagonal.{subtractedDiagonal};
 ghost use Rattle.schur.specs.Schur.{subtractedRank};

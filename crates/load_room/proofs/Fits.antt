@@ -8,11 +8,11 @@ use Rattle.sheet.specs.declared.Starts.{Starts}
 use Rattle.sheet.specs.Sheet.{Sheet, accepted, readSheet}
 use Rattle.sheet.proofs.Whole.{read-whole}
 use Rattle.layout.specs.declared.Layout.{Layout}
-use Rattle.layout.specs.declared.Progress.{Progress}
+use Rattle.heading_rules.specs.declared.Progress.{Progress}
 use Rattle.layout.specs.Blocks.{sorted, each}
 use Rattle.layout.specs.Shapes.{levels}
-use Rattle.layout.specs.Heading.{idle}
-use Rattle.layout.proofs.Sorted.{all-at, below-sorted}
+use Rattle.heading_rules.specs.Heading.{idle}
+use Rattle.heading_rules.proofs.Sorted.{all-at, below-sorted}
 use Rattle.gate.proofs.Sorting.{padded-at, length-padded}
 use Rattle.heading_writer.specs.Small.{SmallLayout, SmallProgress}
 use Rattle.progress.proofs.Count.{triple-small, step-count}

@@ -23,11 +23,11 @@ use Rattle.sheet.specs.Fault.{refusalOf}
 use Rattle.sheet.specs.Answer.{Answers}
 use Rattle.sheet.proofs.Whole.{alone-read}
 use Rattle.layout.specs.declared.Layout.{Layout}
-use Rattle.layout.specs.declared.Progress.{Progress}
+use Rattle.heading_rules.specs.declared.Progress.{Progress}
 use Rattle.layout.specs.Shapes.{pick, levels, pairs, sumAt, numbersNeeded, doublesNeeded}
-use Rattle.layout.specs.Heading.{lawful, written, idle}
-use Rattle.layout.proofs.Lawful.{is-lawful}
-use Rattle.layout.proofs.Heading.{length-written}
+use Rattle.heading_rules.specs.Heading.{lawful, written, idle}
+use Rattle.heading_rules.proofs.Lawful.{is-lawful}
+use Rattle.heading_rules.proofs.Heading.{length-written}
 use Rattle.workspace.specs.Answers.{Outcome, space, untouched}
 use Rattle.workspace.specs.Loaded.{entryRowIn, firstDenied, layoutOfSheet}
 use Rattle.workspace.specs.Load.{headingOf, doublesOf, roomy, afterGate, loadSheet, loadParsed, loadOf, Loads}

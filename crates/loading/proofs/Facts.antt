@@ -22,8 +22,8 @@ use Rattle.layout.specs.declared.Pair.{Pair}
 use Rattle.layout.specs.declared.Pair.the-variants.{Dense, Sparse, Refused as Denied}
 use Rattle.layout.specs.Blocks.{sum}
 use Rattle.layout.specs.Shapes.{Target, target, levels, across, pairs}
-use Rattle.layout.specs.Heading.{sheetLevels, lawful}
-use Rattle.layout.proofs.Lawful.{both, every-at}
+use Rattle.heading_rules.specs.Heading.{sheetLevels, lawful}
+use Rattle.heading_rules.proofs.Lawful.{both, every-at}
 use Rattle.workspace.specs.Loaded.{rowStart, sheetRow, inBlock, countOf, rowOf, ofColumn, oneEach, denied, firstDenied, pairIn, sheetM, sortedLayout, layoutOfSheet, entryRowIn}
 use Rattle.workspace.proofs.Lawful.{no-refusal, sheet-levels, order-test, total, level-range, pair-lawful, sparse-is, diagonal-is, lawful-of, sparse-columns}
 use Rattle.block_map.proofs.Rows.{in-block}

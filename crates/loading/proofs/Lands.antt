@@ -12,7 +12,7 @@ use Rattle.storage.proofs.Places.{place-below, place-one-to-one, place-columns,
 use Rattle.sheet.specs.Field.{nowhere}
 use Rattle.layout.specs.declared.Layout.{Layout}
 use Rattle.layout.specs.Shapes.{levels, shape, loadedShape, loadedSizes, loadedAt}
-use Rattle.layout.specs.Heading.{lawful}
+use Rattle.heading_rules.specs.Heading.{lawful}
 use Rattle.layout.proofs.Places.{size-loaded, loaded-apart}
 use Rattle.workspace.specs.Loaded.{rowStart, sheetRow, inBlock}
 use Rattle.block_map.specs.Blocks.{blockOf}

@@ -19,7 +19,7 @@ use Rattle.sheet.specs.Whole.{Each, EntryInRange, Finite, Whole}
 use Rattle.sheet.proofs.Whole.{read-whole}
 use Rattle.layout.specs.declared.Layout.{Layout}
 use Rattle.layout.specs.Shapes.{doublesNeeded}
-use Rattle.layout.specs.Heading.{lawful}
+use Rattle.heading_rules.specs.Heading.{lawful}
 use Rattle.workspace.specs.Load.{doublesOf}
 use Rattle.word_places.specs.declared.Run.the-variants.{Zz, Zx, Zy, Xx, Xy, Yy}
 use Rattle.word_places.specs.Spread.{lineOf, EachLine, FiniteWord}

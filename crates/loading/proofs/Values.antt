@@ -22,7 +22,7 @@ use Rattle.sheet.specs.Sheet.{Sheet}
 use Rattle.sheet.specs.Whole.{Each, Whole}
 use Rattle.layout.specs.declared.Layout.{Layout}
 use Rattle.layout.specs.Shapes.{levels, loadedSizes, loadedAt, loadedLength}
-use Rattle.layout.proofs.Lawful.{is-lawful}
+use Rattle.heading_rules.proofs.Lawful.{is-lawful}
 use Rattle.layout.proofs.Places.{size-loaded, loaded-inside}
 use Rattle.workspace.specs.Loaded.{sheetRow, wordOf, entryRowIn, double}
 use Rattle.word_places.proofs.Places.{loaded-low}

@@ -16,7 +16,7 @@ use Rattle.storage.proofs.Blocks.{length-fill}
 use Rattle.rules.specs.Arithmetic.{ieee}
 use Rattle.layout.specs.declared.Layout.{Layout}
 use Rattle.layout.specs.Shapes.{Target, target, pick, levels, targets, shape, loadedShape, sizes, loadedSizes, loadedLength, loadedAt, thetaAt, workingAt, sumAt, doublesNeeded}
-use Rattle.layout.specs.Heading.{layoutOf, entryRow}
+use Rattle.heading_rules.specs.Heading.{layoutOf, entryRow}
 use Rattle.layout.proofs.Places.{block-inside, blocks-apart, in-targets, size-working, size-loaded}
 use Rattle.workspace.specs.Memory.{loadedBlock, loadedSome}
 use Rattle.update.specs.Working.{started}

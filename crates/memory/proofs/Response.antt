@@ -16,7 +16,7 @@ use Rattle.storage.proofs.Parts.{part-left}
 use Rattle.storage.proofs.Blocks.{length-fill}
 use Rattle.layout.specs.declared.Layout.{Layout}
 use Rattle.layout.specs.Shapes.{Target, target, across, shape, loadedShape, loadedSizes, loadedLength, loadedAt}
-use Rattle.layout.specs.Heading.{layoutOf, entryRow}
+use Rattle.heading_rules.specs.Heading.{layoutOf, entryRow}
 use Rattle.layout.proofs.Places.{loaded-inside, size-loaded}
 use Rattle.workspace.specs.Memory.{cellOf}
 use Rattle.workspace.specs.Response.{responseCell, respondedBlock, storeResponse, responded}

@@ -10,14 +10,14 @@ use lib.ListN.{length, getD}
 use Rattle.storage.specs.Part.{part}
 use Rattle.storage.proofs.Parts.{length-store, part-in, part-else, store-else, store-in}
 use Rattle.layout.specs.declared.Layout.{Layout}
-use Rattle.layout.specs.declared.Progress.{Progress}
-use Rattle.layout.specs.declared.State.{State}
-use Rattle.layout.specs.declared.State.the-variants.{Idle, UnderWay, Finished}
+use Rattle.heading_rules.specs.declared.Progress.{Progress}
+use Rattle.heading_rules.specs.declared.State.{State}
+use Rattle.heading_rules.specs.declared.State.the-variants.{Idle, UnderWay, Finished}
 use Rattle.layout.specs.Blocks.{padded}
 use Rattle.layout.specs.Shapes.{levels, numbersNeeded, doublesNeeded}
-use Rattle.layout.specs.Heading.{stateNumber, stateOf, layoutNumbers, progressNumbers, written, layoutOf, progressOf, entryRow, every, lawful, progressLawful, headed}
-use Rattle.layout.proofs.Fits.{fits}
-use Rattle.layout.proofs.Heading.{progress-back}
+use Rattle.heading_rules.specs.Heading.{stateNumber, stateOf, layoutNumbers, progressNumbers, written, layoutOf, progressOf, entryRow, every, lawful, progressLawful, headed}
+use Rattle.heading_rules.proofs.Fits.{fits}
+use Rattle.heading_rules.proofs.Heading.{progress-back}
 use Rattle.workspace.specs.Memory.{headingWith}
 
 -- a progress is 47 numbers: the state, the steps left, 45 stages

@@ -21,13 +21,13 @@ use Rattle.order.proofs.Sets.{ready-after, represents-same}
 use Rattle.order.proofs.Listing.{rust-named, rust-has}
 use Rattle.order.proofs.Left.{left-moved, left-represents}
 use Rattle.layout.specs.declared.Layout.{Layout}
-use Rattle.layout.specs.declared.Progress.{Progress}
-use Rattle.layout.specs.declared.State.{State}
-use Rattle.layout.specs.declared.State.the-variants.{UnderWay, Finished}
+use Rattle.heading_rules.specs.declared.Progress.{Progress}
+use Rattle.heading_rules.specs.declared.State.{State}
+use Rattle.heading_rules.specs.declared.State.the-variants.{UnderWay, Finished}
 use Rattle.layout.specs.Shapes.{levels, numbersNeeded, doublesNeeded}
-use Rattle.layout.specs.Heading.{stageOf, written, every, forerun, stateLawful, lawful, progressLawful, headed}
-use Rattle.layout.proofs.Lawful.{both, unless, every-of, every-at}
-use Rattle.layout.proofs.Heading.{never-20}
+use Rattle.heading_rules.specs.Heading.{stageOf, written, every, forerun, stateLawful, lawful, progressLawful, headed}
+use Rattle.heading_rules.proofs.Lawful.{both, unless, every-of, every-at}
+use Rattle.heading_rules.proofs.Heading.{never-20}
 use Rattle.update.specs.Calls.{advanced}
 
 -- ---- no step is done without its forerunners, as a fact

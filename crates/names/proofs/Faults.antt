@@ -6,10 +6,10 @@ use native.Mathlib.Omega.{arith}
 use Rattle.order.specs.Steps.{Step, S, C, T, Named, named, after}
 use Rattle.order.specs.Progress.{all, done}
 use Rattle.order.proofs.Sets.{named-iff}
-use Rattle.layout.specs.declared.Progress.{Progress}
-use Rattle.layout.specs.declared.State.{State}
-use Rattle.layout.specs.declared.State.the-variants.{UnderWay}
-use Rattle.layout.specs.Heading.{stageOf}
+use Rattle.heading_rules.specs.declared.Progress.{Progress}
+use Rattle.heading_rules.specs.declared.State.{State}
+use Rattle.heading_rules.specs.declared.State.the-variants.{UnderWay}
+use Rattle.heading_rules.specs.Heading.{stageOf}
 use Rattle.names.specs.Faults.{nameFault, faultOf}
 
 module _ (k : ℕ) (g : Progress) (s : Step) where

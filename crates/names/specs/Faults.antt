@@ -3,9 +3,9 @@ use Prim.Native.Nat.{ℕ}
 use mathlib.Core.Bool.{Bool}
 use Rattle.order.specs.Steps.{Step, named, after}
 use Rattle.order.specs.Progress.{all, done}
-use Rattle.layout.specs.declared.Progress.{Progress}
+use Rattle.heading_rules.specs.declared.Progress.{Progress}
 use Rattle.layout.specs.Shapes.{pick}
-use Rattle.layout.specs.Heading.{stageOf}
+use Rattle.heading_rules.specs.Heading.{stageOf}
 use Rattle.update.specs.Calls.{isUnderWay}
 
 -- 21, 23, 24: whether there is such a step, it is done, its forerunners are

@@ -1,15 +1,15 @@
 // A step's name against the progress of an update (document 01, Records 4 and 5; refusals 22, 21, 23 and 24): whether there is such a step, whether
 // it is
 // done, whether its forerunners are, and which refusal comes first. Any numbers may be asked for.
-use layout::Progress;
-use layout::State;
+use heading_rules::Progress;
+use heading_rules::State;
 use update::Name;
 ghost use mathlib.Core.Path.{_≡_};
 ghost use Prim.Native.Nat.{_+_, _≤_, _<_};
 ghost use Rattle.storage.specs.Runs.{start, triangle};
 ghost use Rattle.order.specs.Steps.{Named, named, after};
 ghost use Rattle.order.specs.Progress.{all, done};
-ghost use Rattle.layout.specs.Heading.{stageOf};
+ghost use Rattle.heading_rules.specs.Heading.{stageOf};
 ghost use Rattle.update.specs.Names.{stepOfName};
 ghost use Rattle.names.specs.Faults.{nameFault, faultOf};
 

@@ -17,9 +17,9 @@ use Rattle.storage.proofs.Parts.{length-store, store-nil}
 use Rattle.layout.specs.declared.Layout.{Layout}
 use Rattle.layout.specs.Blocks.{sum}
 use Rattle.layout.specs.Shapes.{levels, shape, workingAt, doublesNeeded}
-use Rattle.layout.specs.Heading.{lawful, layoutOf, entryRow, headed}
-use Rattle.layout.proofs.Lawful.{is-lawful, lawful-doubles}
-use Rattle.layout.proofs.Fits.{fits}
+use Rattle.heading_rules.specs.Heading.{lawful, layoutOf, entryRow, headed}
+use Rattle.heading_rules.proofs.Lawful.{is-lawful, lawful-doubles}
+use Rattle.heading_rules.proofs.Fits.{fits}
 use Rattle.workspace.specs.Memory.{Workspace, cellOf, workingBlock}
 use Rattle.workspace.specs.Answers.{space}
 use Rattle.update.specs.Working.{pivotCount}

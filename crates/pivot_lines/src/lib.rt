@@ -6,7 +6,7 @@ ghost use mathlib.Core.Bool.{true};
 ghost use Prim.Native.Nat.{suc, _+_, _*_, _≤_};
 ghost use lib.ListN.{length};
 ghost use Rattle.layout.specs.Shapes.{doublesNeeded};
-ghost use Rattle.layout.specs.Heading.{lawful, layoutOf, headed};
+ghost use Rattle.heading_rules.specs.Heading.{lawful, layoutOf, headed};
 ghost use Rattle.workspace.specs.Answers.{space};
 ghost use Rattle.worked.specs.Program.{pivotLines};
 ghost use Rattle.print.proofs.Written.{Put};

@@ -18,9 +18,9 @@ use Rattle.blocks.specs.Blocks.{block}
 use Rattle.blocks.proofs.Laws.{read-block, has-packed, has-diagonal}
 use Rattle.layout.specs.declared.Layout.{Layout}
 use Rattle.layout.specs.Shapes.{pick, levels, shape, sizes, factorShape, workingAt, doublesNeeded}
-use Rattle.layout.specs.Heading.{lawful}
-use Rattle.layout.proofs.Lawful.{is-lawful}
-use Rattle.layout.proofs.Sorted.{packed-rows}
+use Rattle.heading_rules.specs.Heading.{lawful}
+use Rattle.heading_rules.proofs.Lawful.{is-lawful}
+use Rattle.heading_rules.proofs.Sorted.{packed-rows}
 use Rattle.layout.proofs.Places.{working-inside}
 use Rattle.block_sizes.proofs.Sizes.{below, doubles-small}
 use Rattle.pivot_places.specs.Pivots.{rowsOf, pivotShape, pivotIn, pivotAt}

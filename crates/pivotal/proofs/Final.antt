@@ -24,8 +24,8 @@ use Rattle.re_lower.proofs.Pivotal.{chain-fits}
 use Rattle.sheet.specs.Sheet.{Sheet}
 use Rattle.layout.specs.declared.Layout.{Layout}
 use Rattle.layout.specs.Shapes.{pick, levels, shape, loadedShape}
-use Rattle.layout.specs.Heading.{layoutOf, entryRow, lawful}
-use Rattle.layout.proofs.Lawful.{both, is-lawful}
+use Rattle.heading_rules.specs.Heading.{layoutOf, entryRow, lawful}
+use Rattle.heading_rules.proofs.Lawful.{both, is-lawful}
 use Rattle.workspace.specs.Memory.{cellOf, loadedBlock, loadedSome, noughts}
 use Rattle.workspace.specs.Load.{headingOf}
 use Rattle.update.specs.Working.{factored, refusedRow, pivotCount, isDiagonal, subtracted, started, rulesOf}

@@ -5,7 +5,7 @@ ghost use mathlib.Core.Path.{_≡_};
 ghost use mathlib.Core.Bool.{true, false};
 ghost use Prim.Native.Nat.{_≤_};
 ghost use Rattle.layout.specs.Shapes.{loadedAt, thetaAt, workingAt, sumAt};
-ghost use Rattle.layout.specs.Heading.{lawful};
+ghost use Rattle.heading_rules.specs.Heading.{lawful};
 use layout::Layout;
 
 // Where loaded block (i, j) starts.

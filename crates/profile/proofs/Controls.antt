@@ -8,9 +8,9 @@ use lib.Ieee as Ieee
 use lib.Ieee.{Float, nan, binary64}
 use Rattle.refusal.specs.Numbers.{refusal}
 use Rattle.layout.specs.declared.Layout.{Layout}
-use Rattle.layout.specs.declared.Progress.{Progress}
-use Rattle.layout.specs.declared.State.the-variants.{UnderWay, Finished}
-use Rattle.layout.specs.Heading.{written}
+use Rattle.heading_rules.specs.declared.Progress.{Progress}
+use Rattle.heading_rules.specs.declared.State.the-variants.{UnderWay, Finished}
+use Rattle.heading_rules.specs.Heading.{written}
 use Rattle.workspace.specs.Compute.{word, words}
 use Rattle.update.specs.Compute.{steps}
 use Rattle.profile.specs.declared.Deviance.{Deviance}

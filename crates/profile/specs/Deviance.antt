@@ -10,13 +10,13 @@ use Rattle.order.specs.Steps.{rustOrder}
 use Rattle.rules.specs.Arithmetic.{ieee}
 use Rattle.rules.specs.Finish.{devianceOf}
 use Rattle.layout.specs.declared.Layout.{Layout}
-use Rattle.layout.specs.declared.State.{State}
-use Rattle.layout.specs.declared.State.the-variants.{Idle, UnderWay, Finished}
+use Rattle.heading_rules.specs.declared.State.{State}
+use Rattle.heading_rules.specs.declared.State.the-variants.{Idle, UnderWay, Finished}
 use Rattle.refusal.specs.declared.Refusal.{Refusal}
 use Rattle.refusal.specs.declared.Answer.{Answer}
 use Rattle.refusal.specs.declared.Answer.the-variants.{Accepted, Refused as Denied}
 use Rattle.layout.specs.Shapes.{pick}
-use Rattle.layout.specs.Heading.{layoutOf, progressOf, headed}
+use Rattle.heading_rules.specs.Heading.{layoutOf, progressOf, headed}
 use Rattle.workspace.specs.Memory.{Workspace, cellOf, workingBlock, logSum}
 use Rattle.refusal.specs.Numbers.{refusal, noRefusal}
 use Rattle.workspace.specs.Answers.{Outcome}

@@ -8,8 +8,8 @@ use lib.Dec.{eqb}
 use lib.ListN.{length}
 use borrow.Author.Tests.{eqb-true}
 use Rattle.order.specs.Steps.{rustOrder}
-use Rattle.layout.specs.Heading.{every}
-use Rattle.layout.proofs.Lawful.{every-at}
+use Rattle.heading_rules.specs.Heading.{every}
+use Rattle.heading_rules.proofs.Lawful.{every-at}
 
 -- the factors of the formula are small
 pub pair-small : (k : ℕ) → k ≤ 8 → (k + 1) * (k + 2) ≤ 9 * 10

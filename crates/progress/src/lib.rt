@@ -1,11 +1,11 @@
 // Progress none (document 01, Record 5): what load and a new response leave, and what the steps of an update begin from.
-use layout::Progress;
-use layout::State;
+use heading_rules::Progress;
+use heading_rules::State;
 ghost use mathlib.Core.Path.{_≡_};
 ghost use Prim.Native.Nat.{_≤_};
 ghost use lib.ListN.{length};
 ghost use Rattle.order.specs.Steps.{rustOrder};
-ghost use Rattle.layout.specs.Heading.{idle};
+ghost use Rattle.heading_rules.specs.Heading.{idle};
 
 // How many steps an update of k blocks has (Record 4).
 pub fn step_count(k: u64) -> u64

@@ -19,14 +19,14 @@ use Rattle.order.proofs.Next.{rust-order}
 use Rattle.refusal.specs.declared.Answer.{Answer}
 use Rattle.refusal.specs.declared.Answer.the-variants.{Accepted, Refused}
 use Rattle.layout.specs.declared.Layout.{Layout}
-use Rattle.layout.specs.declared.Progress.{Progress}
-use Rattle.layout.specs.declared.State.{State}
-use Rattle.layout.specs.declared.State.the-variants.{Idle, UnderWay, Finished}
-use Rattle.layout.specs.Heading.{layoutOf, progressOf, stageOf, every, forerun, stateLawful, progressLawful, underWay, headed}
-use Rattle.layout.proofs.Lawful.{is-lawful}
-use Rattle.layout.proofs.Heading.{under-way-lawful}
-use Rattle.layout.specs.Fits.{Fits}
-use Rattle.layout.proofs.Fits.{fits}
+use Rattle.heading_rules.specs.declared.Progress.{Progress}
+use Rattle.heading_rules.specs.declared.State.{State}
+use Rattle.heading_rules.specs.declared.State.the-variants.{Idle, UnderWay, Finished}
+use Rattle.heading_rules.specs.Heading.{layoutOf, progressOf, stageOf, every, forerun, stateLawful, progressLawful, underWay, headed}
+use Rattle.heading_rules.proofs.Lawful.{is-lawful}
+use Rattle.heading_rules.proofs.Heading.{under-way-lawful}
+use Rattle.heading_rules.specs.Fits.{Fits}
+use Rattle.heading_rules.proofs.Fits.{fits}
 use Rattle.workspace.specs.Memory.{Workspace, headingWith}
 use Rattle.workspace.specs.Answers.{Outcome}
 use Rattle.update.specs.Calls.{advanced, isUnderWay, refusedBy, stepped, onPivot, stepOf}

@@ -8,8 +8,8 @@ use Rattle.order.specs.Steps.{Step}
 use Rattle.order.specs.Progress.{Order, Represents}
 use Rattle.refusal.specs.declared.Answer.{Answer}
 use Rattle.refusal.specs.declared.Answer.the-variants.{Accepted, Refused}
-use Rattle.layout.specs.declared.State.the-variants.{Idle}
-use Rattle.layout.specs.Heading.{layoutOf, progressOf, stageOf, headed}
+use Rattle.heading_rules.specs.declared.State.the-variants.{Idle}
+use Rattle.heading_rules.specs.Heading.{layoutOf, progressOf, stageOf, headed}
 use Rattle.workspace.specs.Memory.{Workspace}
 use Rattle.workspace.specs.Answers.{Outcome}
 use Rattle.update.specs.Calls.{runOf}

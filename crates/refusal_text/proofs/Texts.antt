@@ -28,11 +28,11 @@ use Rattle.sheet.specs.Fault.{refusalOf}
 use Rattle.sheet.specs.Answer.{Answers}
 use Rattle.sheet.proofs.Whole.{read-whole}
 use Rattle.layout.specs.declared.Layout.{Layout}
-use Rattle.layout.specs.declared.Progress.{Progress}
+use Rattle.heading_rules.specs.declared.Progress.{Progress}
 use Rattle.layout.specs.Shapes.{pick}
-use Rattle.layout.specs.Heading.{layoutOf, progressOf, stageOf, headed, underWay, idle}
-use Rattle.layout.proofs.Fits.{fits}
-use Rattle.layout.proofs.Lawful.{is-lawful}
+use Rattle.heading_rules.specs.Heading.{layoutOf, progressOf, stageOf, headed, underWay, idle}
+use Rattle.heading_rules.proofs.Fits.{fits}
+use Rattle.heading_rules.proofs.Lawful.{is-lawful}
 use Rattle.workspace.specs.Memory.{Workspace, headingWith}
 use Rattle.workspace.specs.Answers.{Outcome, space, untouched, firstInfinite, unlessAt}
 use Rattle.workspace.specs.Load.{loadSheet}

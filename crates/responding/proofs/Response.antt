@@ -13,9 +13,9 @@ use Rattle.sheet.specs.Sheet.{Sheet}
 use Rattle.refusal.specs.declared.Answer.the-variants.{Accepted}
 use Rattle.layout.specs.declared.Layout.{Layout}
 use Rattle.layout.specs.Shapes.{pick, loadedLength, doublesNeeded}
-use Rattle.layout.specs.Heading.{layoutOf, headed, idle}
-use Rattle.layout.proofs.Lawful.{is-lawful}
-use Rattle.layout.proofs.Heading.{progress-stored, idle-lawful}
+use Rattle.heading_rules.specs.Heading.{layoutOf, headed, idle}
+use Rattle.heading_rules.proofs.Lawful.{is-lawful}
+use Rattle.heading_rules.proofs.Heading.{progress-stored, idle-lawful}
 use Rattle.workspace.specs.Memory.{Workspace, headingWith}
 use Rattle.workspace.specs.Answers.{Outcome, untouched, firstInfinite, unlessAt}
 use Rattle.workspace.specs.Load.{headingOf}

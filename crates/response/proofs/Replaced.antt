@@ -14,11 +14,11 @@ use Rattle.refusal.specs.Numbers.{refusal}
 use Rattle.rules.specs.Arithmetic.{ieee}
 use Rattle.layout.specs.declared.Layout.{Layout}
 use Rattle.layout.specs.Shapes.{levels, loadedLength, sumAt, numbersNeeded, doublesNeeded}
-use Rattle.layout.specs.Heading.{layoutOf, progressOf, entryRow, every, lawful, progressLawful, idle, headed}
+use Rattle.heading_rules.specs.Heading.{layoutOf, progressOf, entryRow, every, lawful, progressLawful, idle, headed}
 use Rattle.workspace.specs.Memory.{headingWith}
 use Rattle.workspace.specs.Answers.{space, accept, firstInfinite}
 use Rattle.workspace.specs.Response.{responded, replaceOf}
-use Rattle.layout.proofs.Fits.{fits}
+use Rattle.heading_rules.proofs.Fits.{fits}
 use Rattle.heading_writer.specs.Small.{SmallProgress}
 use Rattle.progress.proofs.Count.{triple-small, step-count}
 use Rattle.response_rows.specs.Strided.{responseRows}

@@ -5,7 +5,7 @@ ghost use mathlib.Core.Bool.{true};
 ghost use Prim.Native.Nat.{_≤_};
 ghost use lib.ListN.{length};
 ghost use Rattle.layout.specs.Shapes.{loadedLength};
-ghost use Rattle.layout.specs.Heading.{lawful, idle, headed};
+ghost use Rattle.heading_rules.specs.Heading.{lawful, idle, headed};
 ghost use Rattle.workspace.specs.Memory.{headingWith};
 ghost use Rattle.workspace.specs.Answers.{space};
 ghost use Rattle.workspace.specs.Response.{replaceOf};

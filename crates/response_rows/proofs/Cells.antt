@@ -12,8 +12,8 @@ use Rattle.storage.specs.Runs.{start, triangle}
 use Rattle.storage.proofs.Starts.{start-triangle}
 use Rattle.layout.specs.declared.Layout.{Layout}
 use Rattle.layout.specs.Shapes.{levels, loadedAt, loadedLength, loadedSizes}
-use Rattle.layout.specs.Heading.{lawful}
-use Rattle.layout.proofs.Lawful.{is-lawful}
+use Rattle.heading_rules.specs.Heading.{lawful}
+use Rattle.heading_rules.proofs.Lawful.{is-lawful}
 use Rattle.layout.proofs.Places.{loaded-inside}
 use Rattle.layout.proofs.Formula.{fixed-size, last-size, loaded-other, loaded-last}
 use Rattle.workspace.specs.Loaded.{rowStart}

@@ -11,9 +11,9 @@ use borrow.Author.Tests.{eqb-true}
 use Rattle.layout.specs.declared.Layout.{Layout}
 use Rattle.layout.specs.Blocks.{insert, sorted, sum}
 use Rattle.layout.specs.Shapes.{levels}
-use Rattle.layout.specs.Heading.{same, sheetLevels, lawful}
-use Rattle.layout.proofs.Lawful.{is-lawful}
-use Rattle.layout.proofs.Sorted.{length-sorted}
+use Rattle.heading_rules.specs.Heading.{same, sheetLevels, lawful}
+use Rattle.heading_rules.proofs.Lawful.{is-lawful}
+use Rattle.heading_rules.proofs.Sorted.{length-sorted}
 use Rattle.workspace.specs.Loaded.{rowStart}
 use Rattle.block_map.proofs.Rows.{own-levels, rows-end}
 

@@ -22,7 +22,7 @@ use Rattle.storage.proofs.Blocks.{length-fill, is-fill, cell-part}
 use Rattle.rules.specs.Arithmetic.{ieee}
 use Rattle.layout.specs.declared.Layout.{Layout}
 use Rattle.layout.specs.Shapes.{Target, target, levels, across, shape, loadedShape, loadedSizes, loadedLength, loadedAt}
-use Rattle.layout.specs.Heading.{layoutOf, entryRow, lawful}
+use Rattle.heading_rules.specs.Heading.{layoutOf, entryRow, lawful}
 use Rattle.layout.proofs.Places.{size-loaded, loaded-inside, loaded-apart}
 use Rattle.workspace.specs.Memory.{cellOf, loadedBlock}
 use Rattle.workspace.specs.Loaded.{rowStart, sheetRow}

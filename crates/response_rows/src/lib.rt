@@ -6,7 +6,7 @@ ghost use mathlib.Core.Bool.{true};
 ghost use Prim.Native.Nat.{ℕ, _+_, _*_, _≤_, _<_};
 ghost use lib.ListN.{length};
 ghost use Rattle.layout.specs.Shapes.{levels, loadedAt, loadedLength};
-ghost use Rattle.layout.specs.Heading.{lawful};
+ghost use Rattle.heading_rules.specs.Heading.{lawful};
 ghost use Rattle.workspace.specs.Loaded.{rowStart};
 ghost use Rattle.block_map.specs.Blocks.{Maps};
 ghost use Rattle.response_rows.specs.Strided.{strided, from, fixedRow, fixedRows, lastRow, responseRows};

@@ -15,9 +15,9 @@ use Rattle.order.proofs.Sets.{named-iff}
 use Rattle.order.proofs.Left.{none-left, left-represents, all-finished}
 use Rattle.order.proofs.Refusal.{none-refused}
 use Rattle.sheet.specs.Sheet.{Sheet}
-use Rattle.layout.specs.declared.State.the-variants.{UnderWay, Finished}
+use Rattle.heading_rules.specs.declared.State.the-variants.{UnderWay, Finished}
 use Rattle.layout.specs.Shapes.{pick}
-use Rattle.layout.specs.Heading.{stageOf}
+use Rattle.heading_rules.specs.Heading.{stageOf}
 use Rattle.workspace.specs.Memory.{Workspace, workingBlock, logSum}
 use Rattle.book.specs.Book.{book, last}
 use Rattle.book.specs.Values.{rulesHere, startHere, finalValue, logsAfter, refusedPivot}

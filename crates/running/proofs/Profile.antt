@@ -23,7 +23,7 @@ use Rattle.refusal.specs.declared.Answer.the-variants.{Accepted}
 use Rattle.refusal.specs.Numbers.{refusal, refuse}
 use Rattle.layout.specs.declared.Layout.{Layout}
 use Rattle.layout.specs.Shapes.{pick}
-use Rattle.layout.specs.Heading.{layoutOf}
+use Rattle.heading_rules.specs.Heading.{layoutOf}
 use Rattle.workspace.specs.Memory.{Workspace, cellOf, workingBlock, logSum, noughts}
 use Rattle.workspace.specs.Answers.{Outcome, firstInfinite, unlessAt}
 use Rattle.workspace.specs.Load.{headingOf}

@@ -14,10 +14,10 @@ use Rattle.sheet.specs.Sheet.{Sheet}
 use Rattle.refusal.specs.declared.Answer.{Answer}
 use Rattle.refusal.specs.Numbers.{refuse}
 use Rattle.layout.specs.declared.Layout.{Layout}
-use Rattle.layout.specs.declared.Progress.{Progress}
-use Rattle.layout.specs.declared.State.the-variants.{UnderWay, Finished}
+use Rattle.heading_rules.specs.declared.Progress.{Progress}
+use Rattle.heading_rules.specs.declared.State.the-variants.{UnderWay, Finished}
 use Rattle.layout.specs.Shapes.{pick}
-use Rattle.layout.specs.Heading.{layoutOf, progressOf, stageOf, headed}
+use Rattle.heading_rules.specs.Heading.{layoutOf, progressOf, stageOf, headed}
 use Rattle.workspace.specs.Memory.{Workspace}
 use Rattle.workspace.specs.Answers.{Outcome, untouched}
 use Rattle.update.specs.Calls.{isUnderWay, onPivot, refusedBy, stepOf}

@@ -15,9 +15,9 @@ use Rattle.order.specs.Progress.{State, made, summed, refusedNow}
 use Rattle.rules.specs.Arithmetic.{ieee}
 use Rattle.sheet.specs.Sheet.{Sheet}
 use Rattle.layout.specs.declared.Layout.{Layout}
-use Rattle.layout.specs.declared.Progress.{Progress}
+use Rattle.heading_rules.specs.declared.Progress.{Progress}
 use Rattle.layout.specs.Shapes.{levels, shape, loadedShape, sizes, loadedSizes, loadedLength, loadedAt}
-use Rattle.layout.specs.Heading.{layoutOf, stageOf, entryRow}
+use Rattle.heading_rules.specs.Heading.{layoutOf, stageOf, entryRow}
 use Rattle.layout.proofs.Places.{size-working, size-loaded, loaded-inside}
 use Rattle.workspace.specs.Memory.{Workspace, loadedBlock, loadedSome, workingBlock, logSum, noughts}
 use Rattle.workspace.specs.Load.{headingOf}

@@ -8,7 +8,7 @@ ghost use mathlib.Core.Bool.{true};
 ghost use Prim.Native.Nat.{_+_, _≤_};
 ghost use lib.ListN.{set};
 ghost use Rattle.sheet.specs.Field.{isFinite};
-ghost use Rattle.layout.specs.Heading.{lawful};
+ghost use Rattle.heading_rules.specs.Heading.{lawful};
 ghost use Rattle.workspace.specs.Loaded.{double};
 ghost use Rattle.block_map.specs.Blocks.{Maps};
 ghost use Rattle.word_places.specs.Spread.{lineOf, EachLine, FiniteWord, spread, putWord};

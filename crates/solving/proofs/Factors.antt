@@ -12,7 +12,7 @@ use borrow.Author.Tests.{eqb-true, eq-eqb, ne-eqb}
 use Rattle.storage.specs.Shape.{packed, diagonal, columns, entries, sizeOf}
 use Rattle.layout.specs.declared.Layout.{Layout}
 use Rattle.layout.specs.Shapes.{shape, workingAt, doublesNeeded}
-use Rattle.layout.specs.Heading.{lawful}
+use Rattle.heading_rules.specs.Heading.{lawful}
 use Rattle.block_sizes.proofs.Sizes.{not-both}
 use Rattle.cross_block.specs.Blocks.{dividedColumns, solvedRows}
 use Rattle.working_blocks.specs.Rows.{rowsOf}

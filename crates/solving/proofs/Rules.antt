@@ -12,8 +12,8 @@ use Rattle.storage.specs.Part.{part, store}
 use Rattle.order.specs.Steps.{T}
 use Rattle.layout.specs.declared.Layout.{Layout}
 use Rattle.layout.specs.Shapes.{shape, workingAt}
-use Rattle.layout.specs.Heading.{layoutOf, entryRow}
-use Rattle.layout.specs.Fits.{Fits}
+use Rattle.heading_rules.specs.Heading.{layoutOf, entryRow}
+use Rattle.heading_rules.specs.Fits.{Fits}
 use Rattle.cross_block.specs.Blocks.{dividedColumns, solvedRows}
 use Rattle.cross_block.proofs.Turns.{divided-entries}
 use Rattle.update.specs.Working.{solved}

@@ -4,8 +4,8 @@ use mathlib.Core.Path.{_≡_, refl, sym, _∙_}
 use mathlib.Core.Bool.{Bool, true, false}
 use native.Mathlib.Omega.{arith}
 use native.Mathlib.Numerals.{add-one}
-use Rattle.layout.specs.Heading.{every}
-use Rattle.layout.proofs.Lawful.{both, every-at}
+use Rattle.heading_rules.specs.Heading.{every}
+use Rattle.heading_rules.proofs.Lawful.{both, every-at}
 
 pub record Passing (f : ℕ → Bool) (n j : ℕ) : Type 0 where
   pub within : j ≤ n

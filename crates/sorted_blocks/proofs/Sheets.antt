@@ -14,8 +14,8 @@ use lib.Seq.{getD-set-same, getD-set-other, getD-take, ext-getD}
 use Rattle.layout.specs.declared.Layout.{Layout}
 use Rattle.layout.specs.Blocks.{insert, sorted, sum, padded}
 use Rattle.layout.specs.Shapes.{levels}
-use Rattle.layout.specs.Heading.{every, same, sheetLevels}
-use Rattle.layout.proofs.Sorted.{All, all-map, length-sorted, below-sorted}
+use Rattle.heading_rules.specs.Heading.{every, same, sheetLevels}
+use Rattle.heading_rules.proofs.Sorted.{All, all-map, length-sorted, below-sorted}
 use Rattle.gate.proofs.Sorting.{padded-at, length-padded}
 
 -- ---- the first s sorted blocks stand by sheet index

@@ -5,7 +5,7 @@ ghost use lib.Dec.{eqb};
 ghost use lib.ListN.{getD, set, take};
 ghost use Rattle.layout.specs.Blocks.{sorted};
 ghost use Rattle.layout.specs.Shapes.{levels};
-ghost use Rattle.layout.specs.Heading.{every, same, sheetLevels};
+ghost use Rattle.heading_rules.specs.Heading.{every, same, sheetLevels};
 use layout::Layout;
 
 // The levels of a sorted block.

@@ -8,7 +8,7 @@ use Rattle.sheet.specs.declared.Line.{Line}
 use Rattle.sheet.specs.Field.{nowhere}
 use Rattle.layout.specs.declared.Layout.{Layout}
 use Rattle.layout.specs.Blocks.{sum}
-use Rattle.layout.specs.Heading.{sheetLevels}
+use Rattle.heading_rules.specs.Heading.{sheetLevels}
 use Rattle.workspace.specs.Loaded.{rowStart}
 use Rattle.block_map.specs.Blocks.{blockOf}
 

@@ -13,7 +13,7 @@ ghost use Rattle.storage.specs.Part.{store};
 ghost use Rattle.sheet.specs.Line.{zzTag, pairLine};
 ghost use Rattle.sheet.specs.Sheet.{Sheet, accepted, readSheet};
 ghost use Rattle.layout.specs.Shapes.{pick, levels, numbersNeeded};
-ghost use Rattle.layout.specs.Heading.{lawful};
+ghost use Rattle.heading_rules.specs.Heading.{lawful};
 ghost use Rattle.workspace.specs.Loaded.{entryRowIn};
 ghost use Rattle.block_map.specs.Blocks.{FirstRows, Maps};
 ghost use Rattle.word_places.specs.Spread.{spread};

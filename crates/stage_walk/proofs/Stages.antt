@@ -12,11 +12,11 @@ use lib.Seq.{getD-take, getD-drop}
 use Rattle.storage.specs.Runs.{start, triangle}
 use Rattle.storage.proofs.Starts.{start-triangle}
 use Rattle.order.specs.Steps.{rustOrder}
-use Rattle.layout.specs.declared.Progress.{Progress}
-use Rattle.layout.specs.declared.State.{State}
-use Rattle.layout.specs.declared.State.the-variants.{Idle, UnderWay, Finished}
-use Rattle.layout.specs.Heading.{every, stateLawful, progressLawful, progressOf}
-use Rattle.layout.proofs.Lawful.{every-at}
+use Rattle.heading_rules.specs.declared.Progress.{Progress}
+use Rattle.heading_rules.specs.declared.State.{State}
+use Rattle.heading_rules.specs.declared.State.the-variants.{Idle, UnderWay, Finished}
+use Rattle.heading_rules.specs.Heading.{every, stateLawful, progressLawful, progressOf}
+use Rattle.heading_rules.proofs.Lawful.{every-at}
 use Rattle.stage_walk.specs.declared.Walk.{Walk}
 use Rattle.stage_walk.specs.Walk.{walked, told}
 use Rattle.stage_walk.proofs.Walks.{walked-is}

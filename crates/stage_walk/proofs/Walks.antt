@@ -10,7 +10,7 @@ use borrow.Author.Tests.{ltb-true, lt-ltb}
 use lib.Dec.{ltb}
 use Rattle.order.specs.Steps.{Step, S, C, T, after, each}
 use Rattle.order.specs.Progress.{all, done, outside}
-use Rattle.layout.specs.Heading.{forerun}
+use Rattle.heading_rules.specs.Heading.{forerun}
 use Rattle.sorted_blocks.proofs.Sheets.{assoc}
 use Rattle.stage_walk.specs.declared.Walk.{Walk}
 use Rattle.stage_walk.specs.Walk.{stepWith, stepped, walked}

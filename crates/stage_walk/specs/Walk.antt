@@ -4,7 +4,7 @@ use mathlib.Core.Bool.{Bool, not, _&&_, _||_, cond}
 use mathlib.Core.List.{List, [], _∷_}
 use Rattle.order.specs.Steps.{Step, after}
 use Rattle.order.specs.Progress.{all, done}
-use Rattle.layout.specs.Heading.{stageOf, progressOf}
+use Rattle.heading_rules.specs.Heading.{stageOf, progressOf}
 use Rattle.stage_walk.specs.declared.Walk.{Walk}
 
 -- a step more, that is done or not, and that may be done or not

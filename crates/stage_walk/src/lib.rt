@@ -6,7 +6,7 @@ ghost use lib.Dec.{leb};
 ghost use lib.ListN.{length};
 ghost use Rattle.storage.specs.Runs.{start, triangle};
 ghost use Rattle.order.specs.Steps.{S};
-ghost use Rattle.layout.specs.Heading.{every};
+ghost use Rattle.heading_rules.specs.Heading.{every};
 ghost use Rattle.stage_walk.specs.Walk.{stepWith, stepped, told};
 
 // What a walk over steps has found: how many are left, and whether each that is done comes after its forerunners.

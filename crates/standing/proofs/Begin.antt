@@ -21,11 +21,11 @@ use Rattle.sheet.specs.Sheet.{Sheet}
 use Rattle.refusal.specs.declared.Answer.the-variants.{Accepted}
 use Rattle.refusal.specs.Numbers.{refuse}
 use Rattle.layout.specs.declared.Layout.{Layout}
-use Rattle.layout.specs.declared.State.the-variants.{UnderWay, Finished}
+use Rattle.heading_rules.specs.declared.State.the-variants.{UnderWay, Finished}
 use Rattle.layout.specs.Shapes.{pick, loadedLength, thetaAt, sumAt, doublesNeeded}
-use Rattle.layout.specs.Heading.{layoutOf, stageOf, written, underWay}
-use Rattle.layout.proofs.Lawful.{is-lawful}
-use Rattle.layout.proofs.Heading.{layout-back, progress-stored, under-way-lawful}
+use Rattle.heading_rules.specs.Heading.{layoutOf, stageOf, written, underWay}
+use Rattle.heading_rules.proofs.Lawful.{is-lawful}
+use Rattle.heading_rules.proofs.Heading.{layout-back, progress-stored, under-way-lawful}
 use Rattle.workspace.specs.Memory.{Workspace, workingBlock, logSum, headingWith}
 use Rattle.workspace.specs.Answers.{Outcome, untouched, firstInfinite, unlessAt}
 use Rattle.update.specs.Calls.{begun, beginOf}

@@ -27,9 +27,9 @@ use Rattle.refusal.specs.declared.Answer.the-variants.{Accepted}
 use Rattle.layout.specs.declared.Layout.{Layout}
 use Rattle.layout.specs.Blocks.{sorted, each}
 use Rattle.layout.specs.Shapes.{pick, levels, pairs, loadedLength, numbersNeeded, doublesNeeded}
-use Rattle.layout.specs.Heading.{entryRow, written, idle}
-use Rattle.layout.proofs.Lawful.{is-lawful}
-use Rattle.layout.proofs.Heading.{length-written, rows-back, idle-lawful}
+use Rattle.heading_rules.specs.Heading.{entryRow, written, idle}
+use Rattle.heading_rules.proofs.Lawful.{is-lawful}
+use Rattle.heading_rules.proofs.Heading.{length-written, rows-back, idle-lawful}
 use Rattle.workspace.specs.Memory.{noughts}
 use Rattle.workspace.specs.Answers.{Outcome, space, accept, untouched}
 use Rattle.workspace.specs.Loaded.{firstDenied, sheetM, sortedLayout, layoutOfSheet, entryRowIn, loadedNumbers}

@@ -13,12 +13,12 @@ use Rattle.storage.specs.Part.{store}
 use Rattle.storage.proofs.Parts.{length-store, store-in}
 use Rattle.sheet.specs.Sheet.{Sheet}
 use Rattle.layout.specs.declared.Layout.{Layout}
-use Rattle.layout.specs.declared.Progress.{Progress}
+use Rattle.heading_rules.specs.declared.Progress.{Progress}
 use Rattle.layout.specs.Blocks.{padded}
 use Rattle.layout.specs.Shapes.{pick, levels, loadedLength, sumAt, numbersNeeded, doublesNeeded}
-use Rattle.layout.specs.Heading.{layoutNumbers, progressNumbers, written, layoutOf, progressOf, entryRow, headed, idle}
-use Rattle.layout.proofs.Lawful.{is-lawful}
-use Rattle.layout.proofs.Heading.{length-written, rows-back, layout-back, progress-back}
+use Rattle.heading_rules.specs.Heading.{layoutNumbers, progressNumbers, written, layoutOf, progressOf, entryRow, headed, idle}
+use Rattle.heading_rules.proofs.Lawful.{is-lawful}
+use Rattle.heading_rules.proofs.Heading.{length-written, rows-back, layout-back, progress-back}
 use Rattle.workspace.specs.Memory.{Workspace}
 use Rattle.workspace.specs.Loaded.{entryRowIn}
 use Rattle.workspace.specs.Load.{headingOf}

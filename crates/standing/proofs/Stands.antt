@@ -11,9 +11,9 @@ use Rattle.order.specs.Steps.{Step}
 use Rattle.order.specs.Progress.{Represents}
 use Rattle.order.proofs.Invariant.{Held}
 use Rattle.sheet.specs.Sheet.{Sheet}
-use Rattle.layout.specs.declared.Progress.{Progress}
+use Rattle.heading_rules.specs.declared.Progress.{Progress}
 use Rattle.layout.specs.Shapes.{levels, loadedLength, thetaAt, numbersNeeded, doublesNeeded}
-use Rattle.layout.specs.Heading.{stageOf, entryRow, written, lawful, progressLawful, idle}
+use Rattle.heading_rules.specs.Heading.{stageOf, entryRow, written, lawful, progressLawful, idle}
 use Rattle.workspace.specs.Memory.{Workspace}
 use Rattle.workspace.specs.Answers.{firstInfinite}
 use Rattle.workspace.specs.Load.{headingOf}

@@ -25,13 +25,13 @@ use Rattle.sheet.specs.Sheet.{Sheet}
 use Rattle.refusal.specs.declared.Answer.the-variants.{Accepted}
 use Rattle.refusal.specs.Numbers.{refuse}
 use Rattle.layout.specs.declared.Layout.{Layout}
-use Rattle.layout.specs.declared.Progress.{Progress}
-use Rattle.layout.specs.declared.State.the-variants.{UnderWay, Finished}
+use Rattle.heading_rules.specs.declared.Progress.{Progress}
+use Rattle.heading_rules.specs.declared.State.the-variants.{UnderWay, Finished}
 use Rattle.layout.specs.Shapes.{pick, shape, sizes, loadedLength, thetaAt, workingAt, sumAt, doublesNeeded}
-use Rattle.layout.specs.Heading.{layoutOf, progressOf, stageOf, entryRow, written, idle}
+use Rattle.heading_rules.specs.Heading.{layoutOf, progressOf, stageOf, entryRow, written, idle}
 use Rattle.layout.proofs.Places.{size-working, working-inside}
-use Rattle.layout.proofs.Lawful.{is-lawful}
-use Rattle.layout.proofs.Heading.{layout-back, progress-stored, idle-lawful}
+use Rattle.heading_rules.proofs.Lawful.{is-lawful}
+use Rattle.heading_rules.proofs.Heading.{layout-back, progress-stored, idle-lawful}
 use Rattle.workspace.specs.Memory.{Workspace, workingBlock, logSum, headingWith, cleared}
 use Rattle.workspace.specs.Answers.{Outcome}
 use Rattle.update.specs.Calls.{advanced, madeBy, sumBy, refusedBy, stepped, dropped, isUnderWay, stepOf, onPivot}

@@ -6,7 +6,7 @@ use Rattle.sheet.specs.Text.{reading}
 use Rattle.sheet.specs.Sheet.{readSheet, sheetOf}
 use Rattle.sheet.specs.Answer.{Answers}
 use Rattle.logarithm.specs.Ln.{lnOf}
-use Rattle.layout.specs.Heading.{progressOf}
+use Rattle.heading_rules.specs.Heading.{progressOf}
 use Rattle.workspace.specs.Load.{loadOf}
 use Rattle.workspace.specs.Compute.{words}
 use Rattle.worked.specs.Compute.{readingHere, printed}

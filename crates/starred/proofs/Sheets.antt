@@ -21,7 +21,7 @@ use Rattle.starred.specs.Sheets.{
   threeOutput,
   threeSolution,
 }
-use Rattle.layout.specs.Heading.{layoutOf}
+use Rattle.heading_rules.specs.Heading.{layoutOf}
 use Rattle.starred.specs.Evaluate.{solutionBits, sparseBits}
 
 dense-text : printed (ended denseInput) ≡ ended denseOutput

@@ -7,7 +7,7 @@ use lib.Ieee.{binary64}
 use Rattle.logarithm.specs.Ln.{lnOf}
 use Rattle.workspace.specs.Compute.{words}
 use Rattle.workspace.specs.Load.{Loads}
-use Rattle.layout.specs.Heading.{progressOf}
+use Rattle.heading_rules.specs.Heading.{progressOf}
 use Rattle.profile.specs.declared.Deviance.the-variants.{NoScale}
 use Rattle.worked.specs.Program.{Prints}
 use Rattle.starred.specs.Table.{oneWord, twoWord, halfWord, thirdWord, zeroWord, twoLn2Word, solutionWords, countCases, gateCases, stepCases}

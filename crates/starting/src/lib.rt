@@ -6,7 +6,7 @@ ghost use lib.Dec.{eqb};
 ghost use lib.ListN.{length};
 ghost use Rattle.storage.specs.Part.{part, store};
 ghost use Rattle.layout.specs.Shapes.{levels, factors, across, pairs, targets, doublesNeeded};
-ghost use Rattle.layout.specs.Heading.{lawful};
+ghost use Rattle.heading_rules.specs.Heading.{lawful};
 ghost use Rattle.started.specs.Started.{sortedTheta, BlockStarted, BlocksStarted};
 use layout::Layout;
 

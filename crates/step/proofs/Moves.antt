@@ -9,8 +9,8 @@ use lib.Seq.{getD-drop}
 use lib.Ieee.{Float}
 use Rattle.order.specs.Steps.{Step, S, C, T, index, Named}
 use Rattle.layout.specs.declared.Layout.{Layout}
-use Rattle.layout.specs.declared.Progress.{Progress}
-use Rattle.layout.specs.Heading.{progressOf}
+use Rattle.heading_rules.specs.declared.Progress.{Progress}
+use Rattle.heading_rules.specs.Heading.{progressOf}
 use Rattle.update.specs.Calls.{refusedBy}
 use Rattle.heading_writer.specs.Small.{SmallProgress}
 use Rattle.response.proofs.Replaced.{idle-small}

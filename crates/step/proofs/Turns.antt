@@ -14,16 +14,16 @@ use Rattle.order.specs.Steps.{Step, Named, named, after, rustOrder}
 use Rattle.order.specs.Progress.{all, done, stepsLeft}
 use Rattle.order.proofs.Sets.{named-iff}
 use Rattle.layout.specs.declared.Layout.{Layout}
-use Rattle.layout.specs.declared.Progress.{Progress}
-use Rattle.layout.specs.declared.State.{State}
-use Rattle.layout.specs.declared.State.the-variants.{Idle, UnderWay, Finished}
+use Rattle.heading_rules.specs.declared.Progress.{Progress}
+use Rattle.heading_rules.specs.declared.State.{State}
+use Rattle.heading_rules.specs.declared.State.the-variants.{Idle, UnderWay, Finished}
 use Rattle.layout.specs.Shapes.{pick}
-use Rattle.layout.specs.Heading.{layoutOf, progressOf, stageOf, headed, every, forerun, stateLawful, progressLawful}
-use Rattle.layout.proofs.Lawful.{is-lawful}
+use Rattle.heading_rules.specs.Heading.{layoutOf, progressOf, stageOf, headed, every, forerun, stateLawful, progressLawful}
+use Rattle.heading_rules.proofs.Lawful.{is-lawful}
 use Rattle.workspace.specs.Answers.{Outcome, space, untouched}
 use Rattle.update.specs.Calls.{isUnderWay, refusedBy, onPivot, stepOf}
-use Rattle.layout.specs.Fits.{Fits}
-use Rattle.layout.proofs.Fits.{fits}
+use Rattle.heading_rules.specs.Fits.{Fits}
+use Rattle.heading_rules.proofs.Fits.{fits}
 use Rattle.names.specs.Faults.{nameFault, faultOf}
 
 -- the tests in turn, by the first number

@@ -5,7 +5,7 @@ ghost use Prim.Native.Nat.{_≤_};
 ghost use lib.ListN.{length};
 ghost use Rattle.order.specs.Steps.{rustOrder};
 ghost use Rattle.refusal.specs.declared.Answer.the-variants.{Accepted};
-ghost use Rattle.layout.specs.Heading.{layoutOf, headed};
+ghost use Rattle.heading_rules.specs.Heading.{layoutOf, headed};
 ghost use Rattle.workspace.specs.Answers.{space};
 ghost use Rattle.ready_step.specs.Underway.{Underway};
 ghost use Rattle.worked.specs.Program.{printSteps, afterBegin, factorWith};

@@ -17,10 +17,10 @@ use Rattle.rules.specs.Arithmetic.{ieee}
 use Rattle.rules.specs.Steps.{subtractDense, subtractDiagonal, subtractLast, subtractSparse}
 use Rattle.layout.specs.declared.Layout.{Layout}
 use Rattle.layout.specs.Shapes.{pick, levels, shape, loadedShape, loadedAt, workingAt}
-use Rattle.layout.specs.Heading.{layoutOf, entryRow}
-use Rattle.layout.proofs.Lawful.{both}
+use Rattle.heading_rules.specs.Heading.{layoutOf, entryRow}
+use Rattle.heading_rules.proofs.Lawful.{both}
 use Rattle.block_sizes.proofs.Sizes.{below, not-both}
-use Rattle.layout.specs.Fits.{Fits}
+use Rattle.heading_rules.specs.Fits.{Fits}
 use Rattle.blocks.specs.Blocks.{block, entry, rowFrom}
 use Rattle.rank_diagonal.specs.Diagonal.{loaded, subtractedDiagonal}
 use Rattle.schur.specs.Schur.{subtractedDense, subtractedRank, subtractedLast}

@@ -4,8 +4,8 @@ ghost use lib.ListN.{length};
 ghost use Rattle.storage.specs.Part.{store};
 ghost use Rattle.order.specs.Steps.{S, Named};
 ghost use Rattle.layout.specs.Shapes.{workingAt};
-ghost use Rattle.layout.specs.Heading.{layoutOf};
-ghost use Rattle.layout.specs.Fits.{Fits};
+ghost use Rattle.heading_rules.specs.Heading.{layoutOf};
+ghost use Rattle.heading_rules.specs.Fits.{Fits};
 ghost use Rattle.update.specs.Calls.{madeBy};
 use layout::Layout;
 

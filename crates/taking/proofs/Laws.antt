@@ -20,11 +20,11 @@ use Rattle.storage.proofs.Blocks.{length-fill}
 use Rattle.order.specs.Steps.{Step, S, C, T, row, col, index, Named}
 use Rattle.rules.specs.Arithmetic.{ieee}
 use Rattle.layout.specs.declared.Layout.{Layout}
-use Rattle.layout.specs.declared.Progress.{Progress}
+use Rattle.heading_rules.specs.declared.Progress.{Progress}
 use Rattle.layout.specs.Shapes.{shape, sizes, thetaAt, workingAt, sumAt, doublesNeeded}
-use Rattle.layout.specs.Heading.{layoutOf, progressOf, entryRow, lawful, idle}
-use Rattle.layout.specs.Marked.{marked}
-use Rattle.layout.proofs.Lawful.{is-lawful}
+use Rattle.heading_rules.specs.Heading.{layoutOf, progressOf, entryRow, lawful, idle}
+use Rattle.heading_rules.specs.Marked.{marked}
+use Rattle.heading_rules.proofs.Lawful.{is-lawful}
 use Rattle.layout.proofs.Places.{size-working, working-behind, working-inside}
 use Rattle.workspace.specs.Memory.{workingBlock, headingWith, noughts, cleared}
 use Rattle.workspace.specs.Answers.{Outcome, space}
@@ -36,7 +36,7 @@ use Rattle.update.specs.Names.{stepOfName}
 use Rattle.update.specs.Working.{subtracted, solved}
 use Rattle.update.specs.Calls.{advanced, madeBy, sumBy, refusedBy, stepped, onPivot}
 use Rattle.block_sizes.proofs.Sizes.{doubles-small}
-use Rattle.layout.specs.Fits.{Fits}
+use Rattle.heading_rules.specs.Fits.{Fits}
 use Rattle.factor_logs.specs.Factors.{OwnBlock, Factors}
 use Rattle.factor_logs.proofs.Forms.{kept}
 use Rattle.taking.specs.declared.Moved.{Moved}

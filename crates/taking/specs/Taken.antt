@@ -8,8 +8,8 @@ use Rattle.refusal.specs.declared.Answer.the-variants.{Accepted}
 use Rattle.refusal.specs.Numbers.{refuse}
 use Rattle.order.specs.Steps.{Step, col}
 use Rattle.layout.specs.declared.Layout.{Layout}
-use Rattle.layout.specs.declared.Progress.{Progress}
-use Rattle.layout.specs.Heading.{idle}
+use Rattle.heading_rules.specs.declared.Progress.{Progress}
+use Rattle.heading_rules.specs.Heading.{idle}
 use Rattle.workspace.specs.Memory.{cleared}
 use Rattle.update.specs.Calls.{advanced, refusedBy, stepped}
 use Rattle.taking.specs.declared.Moved.{Moved}

@@ -9,9 +9,9 @@ use lib.Ieee.{Float, nan}
 use Rattle.order.specs.Steps.{Step, C, T, rustOrder, S}
 use Rattle.layout.specs.declared.Layout.{Layout}
 use Rattle.refusal.specs.declared.Answer.the-variants.{Accepted}
-use Rattle.layout.specs.declared.State.the-variants.{Idle}
+use Rattle.heading_rules.specs.declared.State.the-variants.{Idle}
 use Rattle.layout.specs.Shapes as Shapes
-use Rattle.layout.specs.Heading.{written, progressOf, progressNumbers, idle}
+use Rattle.heading_rules.specs.Heading.{written, progressOf, progressNumbers, idle}
 use Rattle.workspace.specs.Compute.{leaves, word, words}
 use Rattle.workspace.specs.Memory.{Workspace, workingBlock}
 use Rattle.refusal.specs.Numbers.{refusalOf}

@@ -11,15 +11,15 @@ use Rattle.storage.specs.Part.{store}
 use Rattle.order.specs.Steps.{Step, S, C, T, row, col, index, named, after, rustOrder}
 use Rattle.order.specs.Progress.{all, done}
 use Rattle.rules.specs.Arithmetic.{ieee}
-use Rattle.layout.specs.declared.Progress.{Progress}
-use Rattle.layout.specs.declared.State.{State}
-use Rattle.layout.specs.declared.State.the-variants.{Idle, UnderWay, Finished}
+use Rattle.heading_rules.specs.declared.Progress.{Progress}
+use Rattle.heading_rules.specs.declared.State.{State}
+use Rattle.heading_rules.specs.declared.State.the-variants.{Idle, UnderWay, Finished}
 use Rattle.refusal.specs.declared.Answer.{Answer}
 use Rattle.refusal.specs.declared.Answer.the-variants.{Accepted, Refused}
 use Rattle.refusal.specs.Numbers.{refuse}
-use Rattle.layout.specs.Marked.{marked}
+use Rattle.heading_rules.specs.Marked.{marked}
 use Rattle.layout.specs.Shapes.{Target, pick, targets, thetaAt, workingAt, sumAt}
-use Rattle.layout.specs.Heading.{layoutOf, progressOf, stageOf, entryRow, headed, idle, underWay}
+use Rattle.heading_rules.specs.Heading.{layoutOf, progressOf, stageOf, entryRow, headed, idle, underWay}
 use Rattle.workspace.specs.Memory.{Workspace, loadedBlock, workingBlock, loadedSome, logSum, headingWith, cleared}
 use Rattle.workspace.specs.Answers.{Outcome, space, untouched, firstInfinite, unlessAt}
 use Rattle.update.specs.Working.{rulesOf, started}

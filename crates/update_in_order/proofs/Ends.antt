@@ -14,9 +14,9 @@ use Rattle.refusal.specs.declared.Answer.{Answer}
 use Rattle.refusal.specs.declared.Answer.the-variants.{Accepted, Refused as Denied}
 use Rattle.layout.specs.declared.Layout.{Layout}
 use Rattle.layout.specs.Shapes.{doublesNeeded}
-use Rattle.layout.specs.Heading.{layoutOf, lawful, headed}
-use Rattle.layout.proofs.Lawful.{is-lawful}
-use Rattle.layout.proofs.Fits.{fits}
+use Rattle.heading_rules.specs.Heading.{layoutOf, lawful, headed}
+use Rattle.heading_rules.proofs.Lawful.{is-lawful}
+use Rattle.heading_rules.proofs.Fits.{fits}
 use Rattle.workspace.specs.Memory.{Workspace}
 use Rattle.workspace.specs.Answers.{Outcome, space}
 use Rattle.update.specs.Calls.{beginOf, runOf}

@@ -13,10 +13,10 @@ use Rattle.order.specs.Progress.{all, done}
 use Rattle.refusal.specs.declared.Answer.{Answer}
 use Rattle.refusal.specs.declared.Answer.the-variants.{Accepted, Refused}
 use Rattle.layout.specs.declared.Layout.{Layout}
-use Rattle.layout.specs.declared.Progress.{Progress}
+use Rattle.heading_rules.specs.declared.Progress.{Progress}
 use Rattle.layout.specs.Shapes.{pick}
-use Rattle.layout.specs.Heading.{progressNumbers, layoutOf, progressOf, stageOf, underWay, headed}
-use Rattle.layout.proofs.Fits.{fits}
+use Rattle.heading_rules.specs.Heading.{progressNumbers, layoutOf, progressOf, stageOf, underWay, headed}
+use Rattle.heading_rules.proofs.Fits.{fits}
 use Rattle.moves.proofs.Kept.{layout-kept}
 use Rattle.workspace.specs.Memory.{Workspace, headingWith}
 use Rattle.workspace.specs.Answers.{Outcome, untouched, unlessAt, firstInfinite}

@@ -6,7 +6,7 @@ use lib.Ieee.{Float}
 use Rattle.order.specs.Steps.{rustOrder}
 use Rattle.refusal.specs.declared.Answer.{Answer}
 use Rattle.refusal.specs.declared.Answer.the-variants.{Accepted, Refused as Denied}
-use Rattle.layout.specs.Heading.{layoutOf}
+use Rattle.heading_rules.specs.Heading.{layoutOf}
 use Rattle.workspace.specs.Memory.{Workspace}
 use Rattle.workspace.specs.Answers.{Outcome}
 use Rattle.update.specs.Calls.{beginOf, runOf}

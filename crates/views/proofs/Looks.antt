@@ -13,9 +13,9 @@ use Rattle.storage.specs.Part.{part}
 use Rattle.refusal.specs.declared.Refusal.{Refusal}
 use Rattle.refusal.specs.Numbers.{refusal}
 use Rattle.layout.specs.declared.Layout.{Layout}
-use Rattle.layout.specs.declared.Progress.{Progress}
+use Rattle.heading_rules.specs.declared.Progress.{Progress}
 use Rattle.layout.specs.Shapes.{pick, levels, shape, workingAt, numbersNeeded, doublesNeeded}
-use Rattle.layout.specs.Heading.{layoutOf, progressOf, entryRow, every, lawful, progressLawful, headed}
+use Rattle.heading_rules.specs.Heading.{layoutOf, progressOf, entryRow, every, lawful, progressLawful, headed}
 use Rattle.workspace.specs.Memory.{cellOf, workingBlock}
 use Rattle.profile.specs.Deviance.{isFinished, logDeterminant}
 use Rattle.block_sizes.proofs.Sizes.{doubles-small}

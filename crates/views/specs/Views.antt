@@ -8,7 +8,7 @@ use Rattle.refusal.specs.declared.Refusal.{Refusal}
 use Rattle.refusal.specs.Numbers.{refusal, noRefusal}
 use Rattle.layout.specs.declared.Layout.{Layout}
 use Rattle.layout.specs.Shapes.{pick, shape, doublesNeeded}
-use Rattle.layout.specs.Heading.{layoutOf, progressOf, entryRow, headed}
+use Rattle.heading_rules.specs.Heading.{layoutOf, progressOf, entryRow, headed}
 use Rattle.workspace.specs.Memory.{cellOf, workingBlock}
 use Rattle.profile.specs.Deviance.{isFinished, logDeterminant}
 use Rattle.views.specs.declared.Left.{Left}

@@ -5,7 +5,7 @@ ghost use mathlib.Core.Bool.{true};
 ghost use Prim.Native.Nat.{_<_, _≤_};
 ghost use lib.ListN.{length};
 ghost use Rattle.layout.specs.Shapes.{doublesNeeded};
-ghost use Rattle.layout.specs.Heading.{progressOf, lawful};
+ghost use Rattle.heading_rules.specs.Heading.{progressOf, lawful};
 ghost use Rattle.profile.specs.Deviance.{isFinished};
 ghost use Rattle.views.specs.Views.{stepsLeftOf, determinantOf, pivotOf, pivotLook};
 use deviance::is_finished;

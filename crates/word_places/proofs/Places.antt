@@ -13,7 +13,7 @@ use Rattle.sheet.specs.declared.Line.{Line}
 use Rattle.sheet.specs.Field.{nowhere, isFinite}
 use Rattle.layout.specs.declared.Layout.{Layout}
 use Rattle.layout.specs.Shapes.{levels, loadedAt, loadedLength, sumAt}
-use Rattle.layout.specs.Heading.{lawful}
+use Rattle.heading_rules.specs.Heading.{lawful}
 use Rattle.layout.proofs.Places.{loaded-inside}
 use Rattle.workspace.specs.Loaded.{rowStart, inBlock}
 use Rattle.block_sizes.proofs.Sizes.{doubles-small}

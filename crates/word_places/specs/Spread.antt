@@ -12,7 +12,7 @@ use Rattle.sheet.specs.Line.{zzTag, zxTag, zyTag, xxTag, xyTag, yyTag, pairLine
 use Rattle.layout.specs.declared.Layout.{Layout}
 use Rattle.layout.specs.Shapes.{levels, loadedAt}
 use Rattle.layout.specs.Blocks.{sum}
-use Rattle.layout.specs.Heading.{sheetLevels}
+use Rattle.heading_rules.specs.Heading.{sheetLevels}
 use Rattle.workspace.specs.Loaded.{rowStart, double}
 use Rattle.block_map.specs.Blocks.{blockOf}
 use Rattle.word_places.specs.declared.Run.{Run}

@@ -7,7 +7,7 @@ ghost use mathlib.Core.Path.{_≡_};
 ghost use mathlib.Core.Bool.{true, cond};
 ghost use Prim.Native.Nat.{_+_, _-_, _*_, _≤_, _<_};
 ghost use Rattle.layout.specs.Shapes.{levels, loadedAt};
-ghost use Rattle.layout.specs.Heading.{lawful};
+ghost use Rattle.heading_rules.specs.Heading.{lawful};
 ghost use Rattle.workspace.specs.Loaded.{rowStart, inBlock};
 ghost use Rattle.block_map.specs.Blocks.{FirstRows, BlockStarts};
 ghost use Rattle.word_places.specs.Spread.{entryPlace, fixedPlace, placeOf};

@@ -22,7 +22,7 @@ use Rattle.refusal.specs.declared.Refusal.{Refusal}
 use Rattle.refusal.specs.declared.Answer.{Answer}
 use Rattle.refusal.specs.declared.Answer.the-variants.{Accepted, Refused}
 use Rattle.layout.specs.Shapes.{shape}
-use Rattle.layout.specs.Heading.{layoutOf, entryRow}
+use Rattle.heading_rules.specs.Heading.{layoutOf, entryRow}
 use Rattle.workspace.specs.Memory.{Workspace, cellOf, workingBlock}
 use Rattle.workspace.specs.Answers.{Outcome}
 use Rattle.workspace.specs.Loaded.{double}

@@ -14,9 +14,9 @@ use Rattle.layout.specs.declared.Pair.{Pair}
 use Rattle.layout.specs.declared.Pair.the-variants.{Dense, Sparse, Refused}
 use Rattle.layout.specs.Gate.{thin, pairOf}
 use Rattle.layout.specs.Shapes.{levels, shape, loadedShape, sizes, loadedSizes, loadedAt, workingAt, doublesNeeded}
-use Rattle.layout.specs.Heading.{isDense, isSparse, lawful}
-use Rattle.layout.proofs.Lawful.{is-lawful}
-use Rattle.layout.proofs.Sorted.{levels-fall, packed-rows}
+use Rattle.heading_rules.specs.Heading.{isDense, isSparse, lawful}
+use Rattle.heading_rules.proofs.Lawful.{is-lawful}
+use Rattle.heading_rules.proofs.Sorted.{levels-fall, packed-rows}
 use Rattle.layout.proofs.Places.{size-working, size-loaded, working-inside, working-behind, working-apart, loaded-inside}
 use Rattle.working_blocks.specs.Rows.{rowsOf}
 

@@ -8,8 +8,8 @@ use lib.ListN.{length}
 use lib.Ieee.{Float}
 use Rattle.layout.specs.declared.Layout.{Layout}
 use Rattle.layout.specs.Shapes.{levels, numbersNeeded, doublesNeeded}
-use Rattle.layout.specs.Heading.{lawful, layoutOf, entryRow}
-use Rattle.layout.specs.Fits.{Fits}
+use Rattle.heading_rules.specs.Heading.{lawful, layoutOf, entryRow}
+use Rattle.heading_rules.specs.Fits.{Fits}
 use Rattle.working_blocks.specs.Rows.{rowsOf}
 use Rattle.working_blocks.proofs.Shapes.{sparse-two, rows-level}
 

@@ -3,7 +3,7 @@ use layout::Layout;
 ghost use mathlib.Core.Path.{_≡_};
 ghost use mathlib.Core.Bool.{true};
 ghost use Prim.Native.Nat.{_≤_};
-ghost use Rattle.layout.specs.Heading.{lawful};
+ghost use Rattle.heading_rules.specs.Heading.{lawful};
 ghost use Rattle.working_blocks.specs.Rows.{rowsOf};
 
 // The rows of block i.

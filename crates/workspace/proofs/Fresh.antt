@@ -21,7 +21,7 @@ use Rattle.sheet.specs.Sheet as Sheets
 use Rattle.sheet.specs.Answer.{Answers}
 use Rattle.layout.specs.declared.Layout.{Layout}
 use Rattle.layout.specs.Shapes.{pick, pairs, numbersNeeded, doublesNeeded}
-use Rattle.layout.specs.Heading.{headed}
+use Rattle.heading_rules.specs.Heading.{headed}
 use Rattle.workspace.specs.Answers.{Outcome, accept, untouched}
 use Rattle.workspace.specs.Loaded.{firstDenied, layoutOfSheet}
 use Rattle.workspace.specs.Load.{Loads, headingOf, doublesOf, roomy, afterGate, loadSheet, loadParsed, loadOf}

@@ -18,9 +18,9 @@ use Rattle.sheet.specs.Fault.{refusalOf}
 use Rattle.layout.specs.declared.Layout.{Layout}
 use Rattle.layout.specs.Blocks.{sorted, each}
 use Rattle.layout.specs.Shapes.{pick, levels, pairs, doublesNeeded}
-use Rattle.layout.specs.Heading.{written, idle, lawful, headed}
-use Rattle.layout.proofs.Lawful.{is-lawful, every-at}
-use Rattle.layout.proofs.Heading.{never-20, idle-lawful}
+use Rattle.heading_rules.specs.Heading.{written, idle, lawful, headed}
+use Rattle.heading_rules.proofs.Lawful.{is-lawful, every-at}
+use Rattle.heading_rules.proofs.Heading.{never-20, idle-lawful}
 use Rattle.workspace.specs.Loaded.{rowStart, inBlock, countOf, rowOf, ofColumn, oneEach, firstDenied, sheetM, sortedLayout, layoutOfSheet, entryRowIn}
 use Rattle.workspace.specs.Load.{headingOf}
 use Rattle.workspace.proofs.Lawful.{length-padded, sparse-columns, sheet-lawful}

@@ -22,9 +22,9 @@ use Rattle.layout.specs.declared.Pair.the-variants.{Dense, Sparse, Refused as D
 use Rattle.layout.specs.Blocks.{insert, sorted, sum, each, padded}
 use Rattle.layout.specs.Gate.{thin, pairOf}
 use Rattle.layout.specs.Shapes.{Target, target, levels, across, pairs}
-use Rattle.layout.specs.Heading.{every, bit, within, same, sheetLevels, isDense, isSparse, pairLawful, lawful}
-use Rattle.layout.proofs.Sorted.{All, all-map, all-at, length-sorted, below-sorted}
-use Rattle.layout.proofs.Lawful.{both, unless, every-of, every-at}
+use Rattle.heading_rules.specs.Heading.{every, bit, within, same, sheetLevels, isDense, isSparse, pairLawful, lawful}
+use Rattle.heading_rules.proofs.Sorted.{All, all-map, all-at, length-sorted, below-sorted}
+use Rattle.heading_rules.proofs.Lawful.{both, unless, every-of, every-at}
 use Rattle.workspace.specs.Loaded.{
   rowStart,
   countOf,

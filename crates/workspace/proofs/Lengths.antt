@@ -14,9 +14,9 @@ use Rattle.rules.specs.Arithmetic.{ieee}
 use Rattle.sheet.specs.Sheet.{Sheet}
 use Rattle.layout.specs.declared.Layout.{Layout}
 use Rattle.layout.specs.Shapes.{Target, pick, levels, cellsOf, loadedShape, loadedSizes, loadedLength, thetaAt, sumAt, targets, numbersNeeded, doublesNeeded}
-use Rattle.layout.specs.Heading.{written, idle}
+use Rattle.heading_rules.specs.Heading.{written, idle}
 use Rattle.layout.proofs.Places.{size-loaded}
-use Rattle.layout.proofs.Heading.{length-written}
+use Rattle.heading_rules.proofs.Heading.{length-written}
 use Rattle.workspace.specs.Memory.{noughts}
 use Rattle.workspace.specs.Loaded.{entryRowIn, loadedWord, double, loadedFrom, loadedNumbers}
 use Rattle.workspace.specs.Load.{headingOf, doublesOf}

@@ -13,7 +13,7 @@ use Rattle.rules.specs.Sums.{sumFrom, lessFrom, logsFrom}
 use Rattle.rules.specs.Cholesky.{forward, rows, firstBad}
 use Rattle.rules.specs.Solves.{backward}
 use Rattle.layout.specs.Shapes.{loadedAt, workingAt, sumAt}
-use Rattle.layout.specs.Heading.{written}
+use Rattle.heading_rules.specs.Heading.{written}
 
 -- the definitions that do not open by themselves
 unfoldable pub leaves : ℕ

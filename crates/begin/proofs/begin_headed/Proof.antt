@@ -1,5 +1,5 @@
 -- `begin::begin_headed`: 13, 14, or all is written.
-use Rattle.layout.proofs.Fits.{fits}
+use Rattle.heading_rules.proofs.Fits.{fits}
 use Rattle.begin.proofs.Outcome.{wrong-length, not-finite, ready, accepted}
 use borrow.Author.Needs.{needs}
 use Rattle.begin.proofs.begin_headed.Statement.{statement}

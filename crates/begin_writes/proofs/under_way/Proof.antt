@@ -2,7 +2,7 @@
 use Prim.Native.Nat.{ℕ}
 use mathlib.Core.Path.{ap}
 use lib.ListN.{replicate}
-use Rattle.layout.specs.declared.State.the-variants.{UnderWay}
+use Rattle.heading_rules.specs.declared.State.the-variants.{UnderWay}
 use borrow.Author.Needs.{needs}
 use Rattle.begin_writes.proofs.under_way.Statement.{statement}
 use Rattle.begin_writes.proofs.under_way.Tie as tie

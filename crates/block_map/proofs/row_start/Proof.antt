@@ -4,8 +4,8 @@ use mathlib.Core.Path.{_≡_, refl, ap, _∙_}
 use native.Mathlib.Omega.{arith}
 use lib.ListN.{getD}
 use Rattle.layout.specs.Blocks as Blocks
-use Rattle.layout.specs.Heading.{sheetLevels}
-use Rattle.layout.proofs.Lawful.{is-lawful}
+use Rattle.heading_rules.specs.Heading.{sheetLevels}
+use Rattle.heading_rules.proofs.Lawful.{is-lawful}
 use Rattle.block_map.proofs.Rows.{order-below, levels-small, rows-small, sum-none, sum-more}
 use Rattle.block_map.proofs.row_start.Statement.{statement}
 use Rattle.block_map.proofs.row_start.Tie as tie

@@ -3,8 +3,8 @@ use Prim.Native.Nat.{ℕ, _≤_, _-_}
 use mathlib.Core.Path.{_≡_, refl, ap, _∙_}
 use native.Mathlib.Omega.{arith}
 use borrow.Author.Needs.{needs}
-use Rattle.layout.specs.Heading.{sheetLevels}
-use Rattle.layout.proofs.Lawful.{is-lawful}
+use Rattle.heading_rules.specs.Heading.{sheetLevels}
+use Rattle.heading_rules.proofs.Lawful.{is-lawful}
 use Rattle.block_map.proofs.Rows.{sheet-none, sheet-more}
 use Rattle.block_map.proofs.sheet_levels.Statement.{statement}
 use Rattle.block_map.proofs.sheet_levels.Tie as tie

@@ -1,8 +1,8 @@
 -- `deviance::of_workspace`: the tail, or 25.
 use mathlib.Core.Path.{ap, _∙_}
-use Rattle.layout.specs.declared.Progress.{Progress}
+use Rattle.heading_rules.specs.declared.Progress.{Progress}
 use Rattle.profile.specs.Deviance.{isFinished}
-use Rattle.layout.proofs.Fits.{fits}
+use Rattle.heading_rules.proofs.Fits.{fits}
 use Rattle.deviance_tail.proofs.Tails.{not-finished, finished, workspace}
 use borrow.Author.Needs.{needs}
 use Rattle.deviance.proofs.of_workspace.Statement.{statement}

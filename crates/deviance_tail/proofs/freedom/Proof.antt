@@ -2,7 +2,7 @@
 use mathlib.Core.Path.{refl}
 use native.Mathlib.Omega.{arith}
 use Rattle.pair_gate.proofs.Answers.{whole}
-use Rattle.layout.proofs.Lawful.{is-lawful}
+use Rattle.heading_rules.proofs.Lawful.{is-lawful}
 use Rattle.deviance_tail.proofs.freedom.Statement.{statement}
 use Rattle.deviance_tail.proofs.freedom.Tie as tie
 use Rattle.deviance_tail.proofs.freedom.Reads as reads

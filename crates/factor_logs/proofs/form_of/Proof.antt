@@ -1,6 +1,6 @@
 -- `factor_logs::form_of`: by the last block, block 0, a diagonal block 1, and the others.
 use native.Mathlib.Omega.{arith}
-use Rattle.layout.proofs.Lawful.{is-lawful}
+use Rattle.heading_rules.proofs.Lawful.{is-lawful}
 use Rattle.factor_logs.proofs.Forms.{last-form, inner, inner-form}
 use Rattle.factor_logs.proofs.form_of.Statement.{statement}
 use Rattle.factor_logs.proofs.form_of.Tie as tie

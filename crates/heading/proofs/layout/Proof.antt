@@ -1,6 +1,6 @@
 -- `heading::layout`: number by number, as defined.
 use borrow.Author.Needs.{needs}
-use Rattle.layout.specs.Heading.{layoutOf}
+use Rattle.heading_rules.specs.Heading.{layoutOf}
 use Rattle.heading.proofs.layout.Statement.{statement}
 use Rattle.heading.proofs.layout.Tie as tie
 use Rattle.heading.proofs.layout.Reads as reads

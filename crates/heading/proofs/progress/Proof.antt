@@ -1,6 +1,6 @@
 -- `heading::progress`: number by number, as defined.
 use borrow.Author.Needs.{needs}
-use Rattle.layout.specs.Heading.{progressOf}
+use Rattle.heading_rules.specs.Heading.{progressOf}
 use Rattle.heading.proofs.progress.Statement.{statement}
 use Rattle.heading.proofs.progress.Tie as tie
 use Rattle.heading.proofs.progress.Reads as reads

@@ -2,7 +2,7 @@
 use borrow.Author.Needs.{needs}
 use Prim.Native.Nat.{_-_}
 use lib.Dec.{ltb}
-use Rattle.layout.specs.Heading.{entryRow}
+use Rattle.heading_rules.specs.Heading.{entryRow}
 use Rattle.sorted_blocks.proofs.Every.{Passing, passing-none, passing-more, passing-fails, passing-all}
 use Rattle.heading_room.proofs.rows_below.Statement.{statement}
 use Rattle.heading_room.proofs.rows_below.Tie as tie

@@ -3,7 +3,7 @@ use mathlib.Core.Path.{_≡_, ap, _∙_}
 use Prim.Native.Nat.{_-_}
 use borrow.Author.Needs.{needs}
 use Rattle.layout.specs.Shapes.{levels}
-use Rattle.layout.specs.Heading.{within}
+use Rattle.heading_rules.specs.Heading.{within}
 use Rattle.sorted_blocks.proofs.Every.{Passing, passing-none, passing-more, passing-fails, passing-all}
 use Rattle.lawful.proofs.has_levels.Statement.{statement}
 use Rattle.lawful.proofs.has_levels.Tie as tie

@@ -1,7 +1,7 @@
 -- `lawful::pairs_pass`: those before i pass.
 use Prim.Native.Nat.{_-_}
 use borrow.Author.Needs.{needs}
-use Rattle.layout.specs.Heading.{every, pairLawful}
+use Rattle.heading_rules.specs.Heading.{every, pairLawful}
 use Rattle.sorted_blocks.proofs.Every.{Passing, passing-none, passing-more, passing-fails, passing-all}
 use Rattle.lawful.proofs.pairs_pass.Statement.{statement}
 use Rattle.lawful.proofs.pairs_pass.Tie as tie

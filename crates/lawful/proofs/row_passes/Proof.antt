@@ -1,7 +1,7 @@
 -- `lawful::row_passes`: those before j pass.
 use Prim.Native.Nat.{_-_}
 use borrow.Author.Needs.{needs}
-use Rattle.layout.specs.Heading.{pairLawful}
+use Rattle.heading_rules.specs.Heading.{pairLawful}
 use Rattle.sorted_blocks.proofs.Every.{Passing, passing-none, passing-more, passing-fails, passing-all}
 use Rattle.lawful.proofs.row_passes.Statement.{statement}
 use Rattle.lawful.proofs.row_passes.Tie as tie

@@ -2,7 +2,7 @@
 use mathlib.Core.Path.{ap, _∙_}
 use borrow.Author.Needs.{needs}
 use native.Mathlib.Omega.{arith}
-use Rattle.layout.specs.Heading.{isSparse}
+use Rattle.heading_rules.specs.Heading.{isSparse}
 use Rattle.layouts.proofs.Reading.{not-sparse, is-two}
 use Rattle.layouts.proofs.one_sparse.Statement.{statement}
 use Rattle.layouts.proofs.one_sparse.Tie as tie

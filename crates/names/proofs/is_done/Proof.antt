@@ -1,5 +1,5 @@
 -- `names::is_done`: the target's stage is past the step.
-use Rattle.layout.specs.Heading.{stageOf}
+use Rattle.heading_rules.specs.Heading.{stageOf}
 use Rattle.names.proofs.Laws.{subtract-named, subtract-done, factor-named, factor-done, solve-named, solve-done}
 use borrow.Author.Needs.{needs}
 use Rattle.names.proofs.is_done.Statement.{statement}

@@ -1,5 +1,5 @@
 -- `names::is_forerun`: the stages of the blocks that the step comes after.
-use Rattle.layout.specs.Heading.{stageOf}
+use Rattle.heading_rules.specs.Heading.{stageOf}
 use Rattle.names.proofs.Laws.{subtract-named, subtract-forerun, factor-named, factor-forerun, solve-named, solve-forerun}
 use borrow.Author.Needs.{needs}
 use Rattle.names.proofs.is_forerun.Statement.{statement}

@@ -2,7 +2,7 @@
 use Prim.Native.Nat.{_+_, _-_}
 use denote.Ref.{now}
 use native.Mathlib.Omega.{arith}
-use Rattle.layout.proofs.Lawful.{is-lawful}
+use Rattle.heading_rules.proofs.Lawful.{is-lawful}
 use Rattle.pivot_lines.proofs.Lines.{BlocksPut, blocks-none, blocks-room, blocks-next, blocks-all}
 use borrow.Author.Needs.{needs}
 use Rattle.pivot_lines.proofs.put_blocks.Statement.{statement}

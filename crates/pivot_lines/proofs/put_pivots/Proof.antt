@@ -1,7 +1,7 @@
 -- `pivot_lines::put_pivots`: by the heading's own layout.
 use denote.Ref.{now}
 use lib.ListN.{length}
-use Rattle.layout.proofs.Fits.{fits}
+use Rattle.heading_rules.proofs.Fits.{fits}
 use Rattle.working_blocks.proofs.Workspace.{fits-lawful, fits-room}
 use Rattle.pivot_lines.proofs.Lines.{lines-put}
 use borrow.Author.Needs.{needs}

@@ -1,7 +1,7 @@
 -- `pivot_places::rows`: of the last block, or the levels.
 use mathlib.Core.Path.{sym, _∙_}
 use native.Mathlib.Omega.{arith}
-use Rattle.layout.proofs.Lawful.{is-lawful}
+use Rattle.heading_rules.proofs.Lawful.{is-lawful}
 use Rattle.block_sizes.proofs.Sizes.{below}
 use Rattle.pivot_places.proofs.Places.{last-rows, other-rows}
 use Rattle.pivot_places.proofs.rows.Statement.{statement}

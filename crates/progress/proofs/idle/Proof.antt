@@ -2,7 +2,7 @@
 use Prim.Native.Nat.{ℕ}
 use mathlib.Core.Path.{ap}
 use lib.ListN.{replicate}
-use Rattle.layout.specs.declared.State.the-variants.{Idle}
+use Rattle.heading_rules.specs.declared.State.the-variants.{Idle}
 use borrow.Author.Needs.{needs}
 use Rattle.progress.proofs.idle.Statement.{statement}
 use Rattle.progress.proofs.idle.Tie as tie

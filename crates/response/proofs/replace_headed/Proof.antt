@@ -1,6 +1,6 @@
 -- `response::replace_headed`: what is wrong with the lists, or the response.
 use Rattle.response.proofs.Replaced.{list-refused, ready, replaced}
-use Rattle.layout.proofs.Fits.{fits}
+use Rattle.heading_rules.proofs.Fits.{fits}
 use borrow.Author.Needs.{needs}
 use Rattle.response.proofs.replace_headed.Statement.{statement}
 use Rattle.response.proofs.replace_headed.Tie as tie

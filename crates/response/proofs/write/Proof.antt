@@ -1,6 +1,6 @@
 -- `response::write`: the rows, then the progress.
 use mathlib.Core.Path.{sym, ap, subst, _∙_}
-use Rattle.layout.proofs.Lawful.{is-lawful}
+use Rattle.heading_rules.proofs.Lawful.{is-lawful}
 use Rattle.heading_writer.specs.Small.{SmallProgress}
 use Rattle.workspace.specs.Memory.{headingWith}
 use Rattle.response.proofs.Replaced.{idle-small}

@@ -1,7 +1,7 @@
 -- `response_rows::write_block`: one strided copy.
 use native.Mathlib.Omega.{arith}
 use Rattle.response_rows.proofs.Cells.{few-blocks, first-within, block-fits, block-written}
-use Rattle.layout.proofs.Lawful.{is-lawful}
+use Rattle.heading_rules.proofs.Lawful.{is-lawful}
 use borrow.Author.Needs.{needs}
 use Rattle.response_rows.proofs.write_block.Statement.{statement}
 use Rattle.response_rows.proofs.write_block.Tie as tie

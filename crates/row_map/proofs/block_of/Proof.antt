@@ -9,7 +9,7 @@ use lib.Dec.{ltb, leb}
 use lib.ListN.{getD}
 use Rattle.layout.specs.declared.Layout.{Layout}
 use Rattle.layout.specs.Shapes.{levels}
-use Rattle.layout.proofs.Lawful.{is-lawful}
+use Rattle.heading_rules.proofs.Lawful.{is-lawful}
 use Rattle.block_map.specs.Blocks.{blockOf, FirstRows}
 use Rattle.block_map.proofs.Rows.{start-small, block-none, block-more}
 use Rattle.row_map.proofs.block_of.Statement.{statement}

@@ -5,7 +5,7 @@ use native.Mathlib.Omega.{arith}
 use borrow.Author.Needs.{needs}
 use lib.ListN.{length, getD, length-set}
 use Rattle.layout.specs.Shapes.{loadedAt}
-use Rattle.layout.proofs.Lawful.{is-lawful}
+use Rattle.heading_rules.proofs.Lawful.{is-lawful}
 use Rattle.block_map.proofs.Rows.{filled-more}
 use Rattle.row_map.proofs.fill_at.Statement.{statement}
 use Rattle.row_map.proofs.fill_at.Tie as tie

@@ -4,7 +4,7 @@ use mathlib.Core.Path.{_≡_, refl}
 use native.Mathlib.Omega.{arith}
 use borrow.Author.Needs.{needs}
 use lib.ListN.{length, getD, length-set}
-use Rattle.layout.proofs.Lawful.{is-lawful}
+use Rattle.heading_rules.proofs.Lawful.{is-lawful}
 use Rattle.workspace.specs.Loaded.{rowStart}
 use Rattle.block_map.proofs.Rows.{filled-more}
 use Rattle.row_map.proofs.fill_first.Statement.{statement}

@@ -2,7 +2,7 @@
 use mathlib.Core.Path.{ap₂, _∙_}
 use native.Mathlib.Omega.{arith}
 use Rattle.layout.specs.Shapes.{loadedAt}
-use Rattle.layout.proofs.Lawful.{is-lawful}
+use Rattle.heading_rules.proofs.Lawful.{is-lawful}
 use Rattle.block_map.proofs.Rows.{split-nine}
 use borrow.Author.Needs.{needs}
 use Rattle.row_map.proofs.start_at.Statement.{statement}

@@ -3,7 +3,7 @@ use Prim.Native.Nat.{_-_}
 use mathlib.Core.Path.{sym, _∙_}
 use native.Mathlib.Omega.{arith}
 use denote.Ref.{now}
-use Rattle.layout.proofs.Lawful.{is-lawful}
+use Rattle.heading_rules.proofs.Lawful.{is-lawful}
 use Rattle.workspace.specs.Loaded.{rowStart}
 use Rattle.word_places.proofs.Places.{found}
 use Rattle.sparse_rows.proofs.Made.{put-none, put-one}

@@ -2,7 +2,7 @@
 use borrow.Author.Needs.{needs}
 use Prim.Native.Nat.{suc, _-_}
 use lib.Dec.{leb}
-use Rattle.layout.specs.Heading.{every}
+use Rattle.heading_rules.specs.Heading.{every}
 use Rattle.sorted_blocks.proofs.Every.{Passing, passing-none, passing-more, passing-fails, passing-all}
 use Rattle.stage_walk.specs.Walk.{told}
 use Rattle.stage_walk.proofs.is_bounded.Statement.{statement}

@@ -2,7 +2,7 @@
 use Prim.Native.Nat.{_≤_}
 use mathlib.Core.Path.{sym, subst}
 use Rattle.layout.specs.declared.Layout.{Layout}
-use Rattle.layout.proofs.Fits.{fits}
+use Rattle.heading_rules.proofs.Fits.{fits}
 use Rattle.update.specs.Names.{stepOfName}
 use Rattle.step.proofs.Turns.{few-blocks, fault-now, is-ready, taken, name-refused}
 use borrow.Author.Needs.{needs}

@@ -1,7 +1,7 @@
 -- `steps_text::put_steps`: by the answer.
 use denote.Ref.{now}
 use Rattle.refusal.specs.declared.Answer.{Answer}
-use Rattle.layout.specs.Heading.{layoutOf}
+use Rattle.heading_rules.specs.Heading.{layoutOf}
 use Rattle.workspace.specs.Answers.{space}
 use Rattle.worked.specs.Program.{printSteps}
 use Rattle.refusal_text.proofs.Texts.{put-text, answered}

@@ -7,7 +7,7 @@ use Rattle.take_step.proofs.take_solve.Statement.{statement}
 use Rattle.take_step.proofs.take_solve.Tie as tie
 use Rattle.take_step.proofs.take_solve.Reads as reads
 use Rattle.take_step.proofs.take_solve.Lts as lts
-use Rattle.layout.proofs.Progress.mark.Reads as mark-reads
+use Rattle.heading_rules.proofs.Progress.mark.Reads as mark-reads
 use Rattle.names.proofs.target_place.Reads as target-place-reads
 use Rattle.solving.proofs.solve.Reads as solve-reads
 

@@ -7,7 +7,7 @@ use Rattle.take_step.proofs.take_subtract.Statement.{statement}
 use Rattle.take_step.proofs.take_subtract.Tie as tie
 use Rattle.take_step.proofs.take_subtract.Reads as reads
 use Rattle.take_step.proofs.take_subtract.Lts as lts
-use Rattle.layout.proofs.Progress.mark.Reads as mark-reads
+use Rattle.heading_rules.proofs.Progress.mark.Reads as mark-reads
 use Rattle.names.proofs.target_place.Reads as target-place-reads
 use Rattle.subtraction.proofs.subtract.Reads as subtract-reads
 

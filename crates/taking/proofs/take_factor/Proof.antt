@@ -8,7 +8,7 @@ use Rattle.taking.proofs.take_factor.Tie as tie
 use Rattle.taking.proofs.take_factor.Reads as reads
 use Rattle.taking.proofs.take_factor.Lts as lts
 use Rattle.factoring.proofs.factor.Reads as factor-reads
-use Rattle.layout.proofs.Progress.mark.Reads as mark-reads
+use Rattle.heading_rules.proofs.Progress.mark.Reads as mark-reads
 use Rattle.names.proofs.target_place.Reads as target-place-reads
 use Rattle.progress.proofs.idle.Reads as idle-reads
 use Rattle.taking.proofs.clear_working.Reads as clear-working-reads

@@ -1,6 +1,6 @@
 -- `views::has_factor`: by the state that the heading tells.
 use mathlib.Core.Path.{ap, _∙_}
-use Rattle.layout.specs.declared.Progress.{Progress}
+use Rattle.heading_rules.specs.declared.Progress.{Progress}
 use Rattle.profile.specs.Deviance.{isFinished}
 use borrow.Author.Needs.{needs}
 use Rattle.views.proofs.has_factor.Statement.{statement}

@@ -2,7 +2,7 @@
 use mathlib.Core.Bool.{true}
 use lib.ListN.{length}
 use mathlib.Core.Path.{sym, _∙_}
-use Rattle.layout.proofs.Fits.{fits}
+use Rattle.heading_rules.proofs.Fits.{fits}
 use Rattle.profile.specs.Deviance.{logDeterminant}
 use Rattle.deviance_tail.proofs.Tails.{workspace}
 use Rattle.views.specs.declared.Look.the-variants.{Value}

@@ -2,9 +2,9 @@
 use mathlib.Core.Bool.{true}
 use lib.ListN.{length}
 use mathlib.Core.Path.{sym, _∙_}
-use Rattle.layout.proofs.Fits.{fits}
+use Rattle.heading_rules.proofs.Fits.{fits}
 use Rattle.layout.specs.Shapes.{pick, shape}
-use Rattle.layout.specs.Heading.{layoutOf, entryRow}
+use Rattle.heading_rules.specs.Heading.{layoutOf, entryRow}
 use Rattle.workspace.specs.Memory.{cellOf, workingBlock}
 use Rattle.deviance_tail.proofs.Tails.{workspace}
 use Rattle.views.specs.declared.Look.the-variants.{Value, Absent}

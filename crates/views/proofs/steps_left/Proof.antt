@@ -1,6 +1,6 @@
 -- `views::steps_left`: 20 by the heading, or the number.
 use mathlib.Core.Path.{sym, _∙_}
-use Rattle.layout.proofs.Fits.{fits}
+use Rattle.heading_rules.proofs.Fits.{fits}
 use Rattle.views.proofs.Looks.{no-heading, steps}
 use borrow.Author.Needs.{needs}
 use Rattle.views.proofs.steps_left.Statement.{statement}

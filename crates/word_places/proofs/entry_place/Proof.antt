@@ -3,7 +3,7 @@ use Prim.Native.Nat.{ℕ, _+_}
 use mathlib.Core.Path.{ap₂, _∙_}
 use native.Mathlib.Omega.{arith}
 use Rattle.layout.specs.Shapes.{levels}
-use Rattle.layout.proofs.Lawful.{is-lawful}
+use Rattle.heading_rules.proofs.Lawful.{is-lawful}
 use Rattle.word_places.proofs.Places.{found, entry-none, entry-own, entry-mirror, entry-pair, pair-same}
 use borrow.Author.Needs.{needs}
 use Rattle.word_places.proofs.entry_place.Statement.{statement}

@@ -2,7 +2,7 @@
 use Prim.Native.Nat.{ℕ, _+_, _*_}
 use mathlib.Core.Path.{ap₂, _∙_}
 use native.Mathlib.Omega.{arith}
-use Rattle.layout.proofs.Lawful.{is-lawful}
+use Rattle.heading_rules.proofs.Lawful.{is-lawful}
 use Rattle.word_places.proofs.Places.{found, fixed-none, fixed-row, fixed-low}
 use borrow.Author.Needs.{needs}
 use Rattle.word_places.proofs.fixed_place.Statement.{statement}

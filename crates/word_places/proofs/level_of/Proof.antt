@@ -2,7 +2,7 @@
 use Prim.Native.Nat.{ℕ, _-_}
 use mathlib.Core.Path.{ap}
 use native.Mathlib.Omega.{arith}
-use Rattle.layout.proofs.Lawful.{is-lawful}
+use Rattle.heading_rules.proofs.Lawful.{is-lawful}
 use Rattle.block_map.proofs.Rows.{in-block}
 use Rattle.word_places.proofs.level_of.Statement.{statement}
 use Rattle.word_places.proofs.level_of.Tie as tie

@@ -7,8 +7,8 @@ use native.Mathlib.Omega.{arith}
 use denote.Ref.{now}
 use lib.ListN.{getD}
 use Rattle.layout.specs.declared.Layout.{Layout}
-use Rattle.layout.specs.Heading.{lawful}
-use Rattle.layout.proofs.Lawful.{is-lawful}
+use Rattle.heading_rules.specs.Heading.{lawful}
+use Rattle.heading_rules.proofs.Lawful.{is-lawful}
 use Rattle.word_places.proofs.Places.{cell-low}
 use borrow.Author.Needs.{needs}
 use Rattle.word_places.proofs.pair_place.Statement.{statement}

@@ -1,6 +1,6 @@
 -- `word_places::start_of`: as the map has it.
 use native.Mathlib.Omega.{arith}
-use Rattle.layout.proofs.Lawful.{is-lawful}
+use Rattle.heading_rules.proofs.Lawful.{is-lawful}
 use Rattle.word_places.proofs.Places.{start-low}
 use Rattle.word_places.proofs.start_of.Statement.{statement}
 use Rattle.word_places.proofs.start_of.Tie as tie

@@ -11,13 +11,13 @@ use borrow.Author.Tests.{le-leb, lt-ltb, ltb-true}
 use Rattle.storage.specs.Runs.{start}
 use Rattle.storage.specs.Part.{store}
 use Rattle.order.specs.Steps.{rustOrder}
 use Rattle.layout.specs.declared.Layout.{Layout}
-use Rattle.layout.specs.declared.Progress.{Progress}
-use Rattle.layout.specs.declared.State.{State}
-use Rattle.layout.specs.declared.State.the-variants.{Idle, UnderWay, Finished}
+use Rattle.heading_rules.specs.declared.Progress.{Progress}
+use Rattle.heading_rules.specs.declared.State.{State}
+use Rattle.heading_rules.specs.declared.State.the-variants.{Idle, UnderWay, Finished}
 use Rattle.layout.specs.Blocks.{padded}
 use Rattle.layout.specs.Shapes.{levels, numbersNeeded, doublesNeeded}
-use Rattle.layout.specs.Heading.{
+use Rattle.heading_rules.specs.Heading.{
   bit,
   stateNumber,
   layoutNumbers,
@@ -34,7 +34,7 @@ use Rattle.layout.specs.Heading.{
   underWay,
   headed,
 }
-use Rattle.layout.proofs.Lawful.{both, unless, every-of, every-at}
+use Rattle.heading_rules.proofs.Lawful.{both, unless, every-of, every-at}
 
 -- a list of n numbers needs no noughts
 padded-same : (n : ℕ) (l : List ℕ) → length l ≡ n → padded n l ≡ l

@@ -3,10 +3,10 @@ use mathlib.Core.Path.{_≡_, refl}
 use native.Mathlib.Omega.{arith}
 use borrow.Author.Needs.{needs}
 use borrow.Author.Tests.{eq-eqb, ne-eqb}
-use Rattle.layout.proofs.Progress.mark.Statement.{statement}
-use Rattle.layout.proofs.Progress.mark.Tie as tie
-use Rattle.layout.proofs.Progress.mark.Reads as reads
-use Rattle.layout.proofs.Progress.mark.Lts as lts
+use Rattle.heading_rules.proofs.Progress.mark.Statement.{statement}
+use Rattle.heading_rules.proofs.Progress.mark.Tie as tie
+use Rattle.heading_rules.proofs.Progress.mark.Reads as reads
+use Rattle.heading_rules.proofs.Progress.mark.Lts as lts
 
 -- src/lib.rt:49:9
 mul-stages : tie.Need-mul-stages

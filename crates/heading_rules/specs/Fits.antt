@@ -4,8 +4,8 @@ use mathlib.Core.Path.{_≡_}
 use mathlib.Core.Bool.{true}
 use mathlib.Core.List.{List}
 use lib.ListN.{length}
 use Rattle.layout.specs.Shapes.{levels, numbersNeeded, doublesNeeded}
-use Rattle.layout.specs.Heading.{layoutOf, progressOf, entryRow, lawful, progressLawful}
+use Rattle.heading_rules.specs.Heading.{layoutOf, progressOf, entryRow, lawful, progressLawful}
 
 -- the numbers h and a list of this many doubles are a workspace
 pub record Fits (h : List ℕ) (doubles : ℕ) : Type 0 where

@@ -6,11 +6,11 @@ use mathlib.Core.List.{List}
 use lib.Dec.{ltb, leb}
 use lib.ListN.{length, getD}
 use borrow.Author.Tests.{leb-true, ltb-true}
 use Rattle.layout.specs.declared.Layout.{Layout}
 use Rattle.layout.specs.Shapes.{levels, numbersNeeded, doublesNeeded}
-use Rattle.layout.specs.Heading.{layoutOf, progressOf, entryRow, every, lawful, progressLawful, headed}
-use Rattle.layout.proofs.Lawful.{every-at}
-use Rattle.layout.specs.Fits.{Fits}
+use Rattle.heading_rules.specs.Heading.{layoutOf, progressOf, entryRow, every, lawful, progressLawful, headed}
+use Rattle.heading_rules.proofs.Lawful.{every-at}
+use Rattle.heading_rules.specs.Fits.{Fits}
 
 -- nine tests that all pass
 passed : (a b c d e f g h i : Bool) → (a && b && c && d && e && f && g && h && i) ≡ true

@@ -8,11 +8,11 @@ use native.Mathlib.Omega.{arith}
 use lib.Dec.{leb, eqb}
 use lib.ListN.{take}
 use borrow.Author.Tests.{leb-true, eqb-true}
 use Rattle.layout.specs.declared.Layout.{Layout}
 use Rattle.layout.specs.Blocks.{sum, sorted}
 use Rattle.layout.specs.Shapes.{levels, doublesNeeded, doublesFormula}
-use Rattle.layout.specs.Heading.{every, within, same, sheetLevels, pairLawful, lawful}
+use Rattle.heading_rules.specs.Heading.{every, within, same, sheetLevels, pairLawful, lawful}
 use Rattle.layout.proofs.Formula.{doubles-formula}
 
 -- ---- tests
 

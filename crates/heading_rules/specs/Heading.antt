@@ -7,15 +7,15 @@ use lib.ListN.{length, getD, take, drop, replicate}
 use Rattle.storage.specs.Runs.{start, triangle}
 use Rattle.order.specs.Steps.{Step, rustOrder, after}
 use Rattle.order.specs.Progress.{all, stepsLeft, done}
 use Rattle.layout.specs.declared.Layout.{Layout}
-use Rattle.layout.specs.declared.Progress.{Progress}
-use Rattle.layout.specs.declared.State.{State}
-use Rattle.layout.specs.declared.State.the-variants.{Idle, UnderWay, Finished}
+use Rattle.heading_rules.specs.declared.Progress.{Progress}
+use Rattle.heading_rules.specs.declared.State.{State}
+use Rattle.heading_rules.specs.declared.State.the-variants.{Idle, UnderWay, Finished}
 use Rattle.layout.specs.declared.Pair.{Pair}
 use Rattle.layout.specs.declared.Pair.the-variants.{Dense, Sparse, Refused}
 use Rattle.layout.specs.Blocks.{sum, sorted, padded}
 use Rattle.layout.specs.Gate.{pairOf}
 use Rattle.layout.specs.Shapes.{levels, numbersNeeded, doublesNeeded}
 
 -- ---- the 128 numbers: n p q k; levels and sheet index of eight sorted blocks; sparse, diagonal; state, steps left; 45 stages by rows; noughts
 abbrev pub bit : Bool → ℕ

@@ -1,0 +1,5 @@
+pub mod Lawful
+pub mod Sorted
+pub mod Heading
+pub mod Fits
+pub mod Controls

@@ -1,0 +1,3 @@
+pub mod Marked
+pub mod Heading
+pub mod Fits
