@@ -10,7 +10,7 @@ pub fn log_pivots(w: &[f64], off: usize, n: usize, s: f64) -> f64
     requires { ⌜ (n ≤ 316) × (off + sizeOf (packed n) ≤ length (now w)) ⌝ }
     ensures { λ r. ⌜ r ≡ logsFirst (packed n) off n s (now (w .entry)) ⌝ }
 {
-    let end = off + re_lower::row_start(n);
+    let end = off + triangle_cells::row_start(n);
     pivot_logs::log_pivots(&w[off..end], n, s)
 }
 

@@ -11,7 +11,7 @@ pub fn forward(v: &mut [f64], z: usize, w: &[f64], off: usize, n: usize)
     ensures { λ _. ⌜ now (v .exit) ≡ solvedForward z off n (now (w .entry)) (now (v .entry)) ⌝ }
 {
     let last = z + n;
-    let end = off + re_lower::row_start(n);
+    let end = off + triangle_cells::row_start(n);
     substitution::solve_row(&mut v[z..last], &w[off..end], n);
 }
 
@@ -21,6 +21,6 @@ pub fn backward(v: &mut [f64], z: usize, w: &[f64], off: usize, n: usize)
     ensures { λ _. ⌜ now (v .exit) ≡ solvedBackward z off n (now (w .entry)) (now (v .entry)) ⌝ }
 {
     let last = z + n;
-    let end = off + re_lower::row_start(n);
+    let end = off + triangle_cells::row_start(n);
     back_substitution::backward(&mut v[z..last], &w[off..end], n);
 }

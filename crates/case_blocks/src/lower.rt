@@ -34,7 +34,7 @@ pub fn diagonal_block(f: u64, w: &mut [f64], x: Numbers, s: f64) -> Answer
         return answer::out_of_form();
     }
     if f == 1 {
-        return answer::verdict(re_lower::chol_diagonal(&mut w[off..], n));
+        return answer::verdict(diagonal_chol::chol_diagonal(&mut w[off..], n));
     }
     answer::double(pivot_logs::log_diagonal(&w[off..], n, s))
 }
@@ -84,7 +84,7 @@ pub fn get(w: &[f64], x: Numbers) -> Answer
     if no_cell(w.len(), off, r, c) {
         return answer::out_of_form();
     }
-    answer::double(re_lower::get(&w[off..], r, c))
+    answer::double(triangle_cells::get(&w[off..], r, c))
 }
 
 pub fn set(w: &mut [f64], x: Numbers, s: f64) -> Answer
@@ -96,6 +96,6 @@ pub fn set(w: &mut [f64], x: Numbers, s: f64) -> Answer
     if no_cell(w.len(), off, r, c) {
         return answer::out_of_form();
     }
-    re_lower::set(&mut w[off..], r, c, s);
+    triangle_cells::set(&mut w[off..], r, c, s);
     answer::nothing()
 }

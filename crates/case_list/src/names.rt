@@ -7,7 +7,7 @@ fn print_lower(f: usize) {
             io::write_all(STDOUT_FILENO, b"cholesky::chol");
         }
         1 => {
-            io::write_all(STDOUT_FILENO, b"re_lower::chol_diagonal");
+            io::write_all(STDOUT_FILENO, b"diagonal_chol::chol_diagonal");
         }
         2 => {
             io::write_all(STDOUT_FILENO, b"pivot_logs::log_pivots");
@@ -22,10 +22,10 @@ fn print_lower(f: usize) {
             io::write_all(STDOUT_FILENO, b"back_substitution::backward");
         }
         6 => {
-            io::write_all(STDOUT_FILENO, b"re_lower::get");
+            io::write_all(STDOUT_FILENO, b"triangle_cells::get");
         }
         _ => {
-            io::write_all(STDOUT_FILENO, b"re_lower::set");
+            io::write_all(STDOUT_FILENO, b"triangle_cells::set");
         }
     }
 }

@@ -3,24 +3,8 @@ ghost use mathlib.Core.Path.{_≡_};
 ghost use Prim.Native.Nat.{_+_, _*_, _≤_, _<_};
 ghost use lib.ListN.{length};
 ghost use Rattle.storage.specs.Runs.{start, triangle};
-ghost use Rattle.re_lower.specs.Lower.{besideDone, TriangleDone};
-ghost use Rattle.re_lower.specs.Band.{NextBand, BesideFrom, RowReady};
-
-// Row r, which lies from `from` on, left of its pivot: its first c0 cells are solved, and the others are with the rows above it, in place.
-// Row c0 lies from `first` on.
-fn row_beside(t: &mut [f64], from: usize, first: usize, c0: usize, r: usize)
-    requires { ⌜ (from ≡ start triangle r) × (from + r ≤ length (now t)) × (first ≡ start triangle c0) × (c0 ≤ r) ⌝ }
-    ensures { λ _. ⌜ BesideFrom (now (t .entry)) (now (t .exit)) from c0 r ⌝ }
-{
-    let mut c = c0;
-    let mut at = first;
-    while c < r {
-        let v = t[from + c];
-        t[from + c] = re_lower::chain(t, from, at, c, v) / t[at + c];
-        c += 1;
-        at += c;
-    }
-}
+ghost use Rattle.re_lower.specs.Lower.{TriangleDone};
+ghost use Rattle.re_lower.specs.Band.{NextBand};
 
 // The band that row r is in: the one from `base` on or, where that one ends before r, the next, solved with the r rows above it.
 // Where x has no room for bands, it is one that has no cells.
@@ -40,20 +24,6 @@ fn next_band(x: &mut [f64], t: &[f64], from: usize, base: usize, r: usize, n: us
     r
 }
 
-// Row r, which lies from `from` on, left of its pivot: its first `base` cells are those that the band has, the others are solved here.
-fn band_row(t: &mut [f64], x: &[f64], from: usize, base: usize, r: usize)
-    requires { ⌜ (from ≡ start triangle r)
-        × (from + r ≤ length (now t))
-        × (base ≤ r)
-        × (0 < base → r < base + 4)
-        × (4 * base ≤ length (now x))
-        × RowReady (now t) (now x) from base r ⌝ }
-    ensures { λ _. ⌜ now (t .exit) ≡ besideDone (now (t .entry)) from r ⌝ }
-{
-    band::put_row(t, x, from, r - base, base);
-    row_beside(t, from, base * (base + 1) / 2, base, r);
-}
-
 // chol, with room for a band in x, or with none. The rows of a band share the pass over the rows above it; each goes back to t at its turn,
 // so that those behind a refused row are as they were.
 fn chol_bands(t: &mut [f64], x: &mut [f64], n: usize) -> re_lower::Pivots
@@ -65,7 +35,7 @@ fn chol_bands(t: &mut [f64], x: &mut [f64], n: usize) -> re_lower::Pivots
     let mut base = 0;
     while r < n {
         base = next_band(x, t, from, base, r, n);
-        band_row(t, x, from, base, r);
+        band_row::band_row(t, x, from, base, r);
         let v = t[from + r];
         let d = re_lower::chain(t, from, from, r, v);
         if re_lower::refused(d) {

@@ -37,7 +37,7 @@ fn last_pivot(y: Layout, w: &[f64]) -> f64
     ensures { λ r. ⌜ r ≡ pivotOf y (now (w .entry)) (y .p) ⌝ }
 {
     let p = y.p as usize;
-    w[places::working_at(y, y.k, y.k) + re_lower::row_start(p) + p]
+    w[places::working_at(y, y.k, y.k) + triangle_cells::row_start(p) + p]
 }
 
 // The deviance with d and the scale s. REML adds twice the logarithms of the first p pivots of block k.

@@ -21,7 +21,7 @@ use Rattle.sheet.proofs.Faults.{line-faulty}
 use Rattle.layout.specs.Blocks.{padded, sum}
 use Rattle.levels.specs.Held.{Holds, levelList}
 use Rattle.levels.proofs.Sums.{levels-sum, levels-small}
-use Rattle.mirror.specs.Mirror.{Found}
+use Rattle.mirror_pass.specs.Mirror.{Found}
 
 -- what a test for a difference says
 differ : (a b : ℕ) → not (eqb a b) ≡ true → a ≡ b → ⊥

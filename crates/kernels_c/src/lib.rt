@@ -253,13 +253,13 @@ pub extern "C" fn husk_chol(t: &mut [f64], n: usize) -> usize
     number(p, n)
 }
 
-// re_lower::chol_diagonal, answered likewise.
+// diagonal_chol::chol_diagonal, answered likewise.
 #[no_mangle]
 pub extern "C" fn husk_chol_diagonal(t: &mut [f64], n: usize) -> usize
     requires { ⌜ n ≤ length (now t) ⌝ }
     ensures { λ k. ⌜ DiagonalAnswered (now (t .entry)) (now (t .exit)) n k ⌝ }
 {
-    let p = re_lower::chol_diagonal(t, n);
+    let p = diagonal_chol::chol_diagonal(t, n);
     number(p, n)
 }
 

@@ -1,18 +1,15 @@
 // Number 9 of a sheet (document 01, "Refused because of the input"): the line of a faulty zz entry. The lines are read again where they stand, in
-// one pass for
-// each group of columns.
-use sheet::Starts;
+// one pass for each group of columns.
 ghost use mathlib.Core.Path.{_≡_};
 ghost use mathlib.Core.Bool.{true};
 ghost use Prim.Native.Nat.{_+_, _*_, _/_, _<_, _≤_};
-ghost use lib.ListN.{length, replicate};
 ghost use Rattle.sheet.specs.Sheet.{Sheet, accepted, readSheet};
 ghost use Rattle.sheet.specs.Fault.{coversRows};
 ghost use Rattle.layout.specs.Blocks.{padded};
 ghost use Rattle.levels.specs.Held.{levelList};
-ghost use Rattle.cursors.specs.Held.{held, placeOf, Given, Levelled};
-ghost use Rattle.cursors.specs.Turns.{Pass};
-ghost use Rattle.mirror.specs.Mirror.{Found, Judged, Closed};
+ghost use Rattle.cursors.specs.Held.{held, Given, Levelled};
+ghost use Rattle.mirror_pass.specs.Mirror.{Found, Judged};
+use sheet::Starts;
 
 // The number of zz lines of a sheet whose lines end before `line`: all but size and yy, those of the blocks, and one for each word of zx, zy, xx and xy.
 fn count(line: u64, k: u64, q: u64, p: u64) -> u64
@@ -22,43 +19,6 @@ fn count(line: u64, k: u64, q: u64, p: u64) -> u64
     line - (3 + k + q * p + q + p * (p + 1) / 2 + p)
 }
 
-// At the end of a pass: the number of the line at a cursor whose mirror never came, or 0.
-fn unmet(s: &[u8], z: Starts, n: u64, base: u64, cur: &[usize], due: u64) -> u64
-    requires { ⌜ Given (now s) z n × Pass (now s) z base (now cur) due n (placeOf (now s) z n) × (base + length (now cur) < 1152921504606846976) ⌝ }
-    ensures { λ r. ⌜ Closed (held (now (s .entry))) base (length (now (cur .entry))) r ⌝ }
-{
-    let mut col = base;
-    while col < due {
-        let j = (col - base) as usize;
-        let o = line::pair_line(b"zz\t", s, cur[j]);
-        if (o.first == col) & (col < o.second) {
-            return mirror_turn::number_of(s, z, n, o.first, o.second);
-        }
-        col += 1;
-    }
-    0
-}
-
-// One pass over the lines, for the columns of `cur` from `base` on. Every cursor starts at the first zz line.
-fn pass(s: &[u8], z: Starts, m: [u64; 8], n: u64, base: u64, cur: &mut [usize]) -> u64
-    requires { ⌜ Given (now s) z n × Levelled (now s) m × (0 < n) × (base + length (now cur) < 1152921504606846976) × (now cur ≡ replicate (length (now cur)) (z .zz)) ⌝ }
-    ensures { λ r. ⌜ Judged (held (now (s .entry))) base (length (now (cur .entry))) r ⌝ }
-{
-    let mut due: u64 = 0;
-    let mut at = z.zz;
-    let mut i: u64 = 0;
-    while i < n {
-        let t = mirror_turn::turn(s, z, m, n, base, cur, due, i, at);
-        if 0 < t.fault {
-            return t.fault;
-        }
-        due = t.due;
-        at = t.next;
-        i += 1;
-    }
-    unmet(s, z, n, base, cur, due)
-}
-
 // A pass for at most 1,024 columns: a small sheet sets up 8 KiB of cursors, not 512.
 fn few(s: &[u8], z: Starts, m: [u64; 8], n: u64) -> u64
     requires { ⌜ Given (now s) z n × Levelled (now s) m × (0 < n) ⌝ }
@@ -66,7 +26,7 @@ fn few(s: &[u8], z: Starts, m: [u64; 8], n: u64) -> u64
 {
     let first = z.zz;
     let mut cur = [first; 1024];
-    pass(s, z, m, n, 0, &mut cur)
+    mirror_pass::pass(s, z, m, n, 0, &mut cur)
 }
 
 // A pass for the 65,536 columns from `base` on.
@@ -76,7 +36,7 @@ fn many(s: &[u8], z: Starts, m: [u64; 8], n: u64, base: u64) -> u64
 {
     let first = z.zz;
     let mut cur = [first; 65536];
-    pass(s, z, m, n, base, &mut cur)
+    mirror_pass::pass(s, z, m, n, base, &mut cur)
 }
 
 // Every group of columns in turn; at most 65,536 columns are one group.

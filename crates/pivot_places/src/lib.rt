@@ -26,12 +26,12 @@ fn pivot_place(y: Layout, j: u64, r: u64) -> usize
 {
     let t = r as usize;
     if j == y.k {
-        return re_lower::row_start(t) + t;
+        return triangle_cells::row_start(t) + t;
     }
     if (j == 0) | (y.diagonal & (j == 1)) {
         return t;
     }
-    re_lower::row_start(t) + t
+    triangle_cells::row_start(t) + t
 }
 
 // Pivot r of block j.

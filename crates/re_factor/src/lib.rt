@@ -10,7 +10,7 @@ pub fn chol(w: &mut [f64], off: usize, n: usize) -> re_lower::Pivots
     requires { ⌜ (n ≤ 316) × (off + sizeOf (packed n) ≤ length (now w)) ⌝ }
     ensures { λ p. ⌜ TriangleFactored off n (now (w .entry)) (now (w .exit)) p ⌝ }
 {
-    let end = off + re_lower::row_start(n);
+    let end = off + triangle_cells::row_start(n);
     cholesky::chol(&mut w[off..end], n)
 }
 
@@ -20,5 +20,5 @@ pub fn chol_diagonal(w: &mut [f64], off: usize, n: usize) -> re_lower::Pivots
     ensures { λ p. ⌜ DiagonalFactored off n (now (w .entry)) (now (w .exit)) p ⌝ }
 {
     let end = off + n;
-    re_lower::chol_diagonal(&mut w[off..end], n)
+    diagonal_chol::chol_diagonal(&mut w[off..end], n)
 }

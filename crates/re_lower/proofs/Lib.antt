@@ -1,4 +1,3 @@
-pub mod Table
 pub mod Laws
 pub mod Turns
 pub mod Band

@@ -17,29 +17,10 @@ fn less_part(t: &mut [f64], to: usize, n: usize, acc: &[f64])
     }
 }
 
-// n doubles of t from `to` on, each less f times the one of acc.
-fn less_times_part(t: &mut [f64], to: usize, n: usize, acc: &[f64], f: f64)
-    requires { ⌜ (to + n ≤ length (now t)) × (n ≤ length (now acc)) ⌝ }
-    ensures { λ _. ⌜ now (t .exit) ≡ run to n (λ i. ieee .minus (at (now (t .entry)) (to + i)) (ieee .times (at (now (acc .entry)) i) f)) (now (t .entry)) ⌝ }
-{
-    let mut i = 0;
-    while i < n {
-        t[to + i] = t[to + i] - acc[i] * f;
-        i += 1;
-    }
-}
-
 // The same on the block that lies from off to end in w: the run starts at `to` within it.
 pub fn less(w: &mut [f64], off: usize, end: usize, to: usize, n: usize, acc: &[f64])
     requires { ⌜ (off + (to + n) ≤ end) × (end ≤ length (now w)) × (n ≤ length (now acc)) ⌝ }
     ensures { λ _. ⌜ now (w .exit) ≡ run (off + to) n (λ i. ieee .minus (at (now (w .entry)) (off + to + i)) (at (now (acc .entry)) i)) (now (w .entry)) ⌝ }
 {
     less_part(&mut w[off..end], to, n, acc);
-}
-
-pub fn less_times(w: &mut [f64], off: usize, end: usize, to: usize, n: usize, acc: &[f64], f: f64)
-    requires { ⌜ (off + (to + n) ≤ end) × (end ≤ length (now w)) × (n ≤ length (now acc)) ⌝ }
-    ensures { λ _. ⌜ now (w .exit) ≡ run (off + to) n (λ i. ieee .minus (at (now (w .entry)) (off + to + i)) (ieee .times (at (now (acc .entry)) i) f)) (now (w .entry)) ⌝ }
-{
-    less_times_part(&mut w[off..end], to, n, acc, f);
 }

@@ -1,8 +1,4 @@
 // Puts the words of a run of a sheet's lines into their places (document 01, Record 3). Definitions are in the crate word_places, specs/Spread.antt.
-use block_map::Map;
-use layout::Layout;
-use sheet::Line;
-use word_places::Run;
 ghost use mathlib.Core.Path.{_≡_};
 ghost use mathlib.Core.Bool.{true};
 ghost use Prim.Native.Nat.{_+_, _≤_};
@@ -12,20 +8,9 @@ ghost use Rattle.heading_rules.specs.Heading.{lawful};
 ghost use Rattle.workspace.specs.Loaded.{double};
 ghost use Rattle.block_map.specs.Blocks.{Maps};
 ghost use Rattle.word_places.specs.Spread.{lineOf, EachLine, FiniteWord, spread, putWord};
-
-// The line of a run at a position.
-fn line_at(run: Run, s: &[u8], at: usize) -> Line
-    ensures { λ r. ⌜ r ≡ lineOf run (now (s .entry)) at ⌝ }
-{
-    match run {
-        Run::Zz => line::pair_line(b"zz\t", s, at),
-        Run::Zx => line::pair_line(b"zx\t", s, at),
-        Run::Zy => single_line::single_line(b"zy\t", s, at),
-        Run::Xx => line::pair_line(b"xx\t", s, at),
-        Run::Xy => single_line::single_line(b"xy\t", s, at),
-        Run::Yy => bare_line::bare_line(b"yy\t", s, at),
-    }
-}
+use block_map::Map;
+use layout::Layout;
+use word_places::Run;
 
 // The double of a word.
 fn double_of(word: u64) -> f64
@@ -62,7 +47,7 @@ pub fn scatter(
     let mut i = from;
     let mut left = count;
     while left > 0 {
-        let l = line_at(run, s, p);
+        let l = word_line_at::line_at(run, s, p);
         put(
             w,
             word_places::place_of(run, y, &y.m, &m.first, &m.at, i, l),

@@ -29,7 +29,7 @@ fn less_column(
     ensures { λ _. ⌜ now (w .exit) ≡ lessColumn (off + to) rows ax f (now (w .entry)) ⌝ }
 {
     run_copies::read(acc, rows, w, ax);
-    runs::less_times(w, off, end, to, rows, acc, f);
+    run_products::less_times(w, off, end, to, rows, acc, f);
 }
 
 // S(k,1,0) of the fixed rows at off with a sparse block whose entries are at v: product by product.

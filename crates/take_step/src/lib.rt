@@ -46,7 +46,7 @@ pub fn take(y: Layout, g: Progress, h: &[u32], w: &mut [f64], name: Name) -> Mov
 {
     match name {
         Name::S(i, j, x) => take_subtract(y, g, h, w, i, j, x),
-        Name::C(j) => taking::take_factor(y, g, h, w, j),
+        Name::C(j) => take_factor::take_factor(y, g, h, w, j),
         Name::T(i, j) => take_solve(y, g, h, w, i, j),
     }
 }

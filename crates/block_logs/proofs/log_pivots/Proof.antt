@@ -7,7 +7,7 @@ use Rattle.block_logs.proofs.log_pivots.Tie as tie
 use Rattle.block_logs.proofs.log_pivots.Reads as reads
 use Rattle.block_logs.proofs.log_pivots.Lts as lts
 use Rattle.pivot_logs.proofs.log_pivots.Reads as log-pivots-reads
-use Rattle.re_lower.proofs.row_start.Reads as row-start-reads
+use Rattle.triangle_cells.proofs.row_start.Reads as row-start-reads
 
 row-start-requires : tie.Need-row-start-requires
 row-start-requires c κs = search needs

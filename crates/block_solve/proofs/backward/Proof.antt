@@ -10,7 +10,7 @@ use Rattle.block_solve.proofs.backward.Tie as tie
 use Rattle.block_solve.proofs.backward.Reads as reads
 use Rattle.block_solve.proofs.backward.Lts as lts
 use Rattle.back_substitution.proofs.backward.Reads as backward-reads
-use Rattle.re_lower.proofs.row_start.Reads as row-start-reads
+use Rattle.triangle_cells.proofs.row_start.Reads as row-start-reads
 
 add-last : tie.Need-add-last
 add-last c = search needs

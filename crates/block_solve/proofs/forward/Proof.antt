@@ -9,7 +9,7 @@ use Rattle.block_solve.proofs.forward.Statement.{statement}
 use Rattle.block_solve.proofs.forward.Tie as tie
 use Rattle.block_solve.proofs.forward.Reads as reads
 use Rattle.block_solve.proofs.forward.Lts as lts
-use Rattle.re_lower.proofs.row_start.Reads as row-start-reads
+use Rattle.triangle_cells.proofs.row_start.Reads as row-start-reads
 use Rattle.substitution.proofs.solve_row.Reads as solve-row-reads
 
 add-last : tie.Need-add-last

@@ -22,7 +22,7 @@ use Rattle.cholesky.proofs.chol_bands.Statement.{statement}
 use Rattle.cholesky.proofs.chol_bands.Tie as tie
 use Rattle.cholesky.proofs.chol_bands.Reads as reads
 use Rattle.cholesky.proofs.chol_bands.Lts as lts
-use Rattle.cholesky.proofs.band_row.Reads as band-row-reads
+use Rattle.band_row.proofs.band_row.Reads as band-row-reads
 use Rattle.re_lower.proofs.chain.Reads as chain-reads
 use Rattle.cholesky.proofs.next_band.Reads as next-band-reads
 use Rattle.re_lower.proofs.refused.Reads as refused-reads

@@ -7,7 +7,7 @@ use Rattle.deviance_tail.proofs.last_pivot.Tie as tie
 use Rattle.deviance_tail.proofs.last_pivot.Reads as reads
 use Rattle.deviance_tail.proofs.last_pivot.Lts as lts
 use Rattle.places.proofs.working_at.Reads as working-at-reads
-use Rattle.re_lower.proofs.row_start.Reads as row-start-reads
+use Rattle.triangle_cells.proofs.row_start.Reads as row-start-reads
 
 -- src/lib.rt:66:7
 working-at-requires : tie.Need-working-at-requires

@@ -1,6 +1,6 @@
 -- `mirror::faulty_line`: by the number of zz lines and of columns.
 use native.Mathlib.Omega.{arith}
-use Rattle.mirror.proofs.Passes.{found-for, counted, given, levelled, empty-found, few-found}
+use Rattle.mirror_pass.proofs.Passes.{found-for, counted, given, levelled, empty-found, few-found}
 use Rattle.mirror.proofs.faulty_line.Statement.{statement}
 use Rattle.mirror.proofs.faulty_line.Tie as tie
 

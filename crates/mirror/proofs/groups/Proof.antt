@@ -3,7 +3,7 @@ use Prim.Native.Nat.{_-_}
 use native.Mathlib.Omega.{arith}
 use mathlib.Core.Logic.{inr}
 use Rattle.cursors.specs.Held.{Given}
-use Rattle.mirror.proofs.Passes.{Cleared, cleared-start, cleared-on, cleared-found, few-columns}
+use Rattle.mirror_pass.proofs.Passes.{Cleared, cleared-start, cleared-on, cleared-found, few-columns}
 use Rattle.mirror.proofs.groups.Statement.{statement}
 use Rattle.mirror.proofs.groups.Tie as tie
 

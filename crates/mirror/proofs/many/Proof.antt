@@ -1,6 +1,6 @@
 -- `mirror::many`: a pass with a fresh array.
 use native.Mathlib.Omega.{arith}
-use Rattle.mirror.proofs.Passes.{fresh-fits, fresh-same}
+use Rattle.mirror_pass.proofs.Passes.{fresh-fits, fresh-same}
 use borrow.Author.Needs.{needs}
 use Rattle.mirror.proofs.many.Statement.{statement}
 use Rattle.mirror.proofs.many.Tie as tie

@@ -5,7 +5,7 @@ use Rattle.pivot_places.proofs.pivot_place.Statement.{statement}
 use Rattle.pivot_places.proofs.pivot_place.Tie as tie
 use Rattle.pivot_places.proofs.pivot_place.Reads as reads
 use Rattle.pivot_places.proofs.pivot_place.Lts as lts
-use Rattle.re_lower.proofs.row_start.Reads as row-start-reads
+use Rattle.triangle_cells.proofs.row_start.Reads as row-start-reads
 
 -- src/lib.rt:85:16
 row-start-requires : tie.Need-row-start-requires

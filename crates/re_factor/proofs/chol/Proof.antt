@@ -13,7 +13,7 @@ use Rattle.re_factor.proofs.chol.Tie as tie
 use Rattle.re_factor.proofs.chol.Reads as reads
 use Rattle.re_factor.proofs.chol.Lts as lts
 use Rattle.cholesky.proofs.chol.Reads as chol-reads
-use Rattle.re_lower.proofs.row_start.Reads as row-start-reads
+use Rattle.triangle_cells.proofs.row_start.Reads as row-start-reads
 
 row-start-requires : tie.Need-row-start-requires
 row-start-requires c κs = search needs

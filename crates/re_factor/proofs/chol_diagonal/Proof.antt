@@ -14,7 +14,7 @@ use Rattle.re_factor.proofs.chol_diagonal.Statement.{statement}
 use Rattle.re_factor.proofs.chol_diagonal.Tie as tie
 use Rattle.re_factor.proofs.chol_diagonal.Reads as reads
 use Rattle.re_factor.proofs.chol_diagonal.Lts as lts
-use Rattle.re_lower.proofs.chol_diagonal.Reads as chol-diagonal-reads
+use Rattle.diagonal_chol.proofs.chol_diagonal.Reads as chol-diagonal-reads
 
 add-end : tie.Need-add-end
 add-end c = search needs

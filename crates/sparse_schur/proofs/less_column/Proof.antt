@@ -7,7 +7,7 @@ use Rattle.sparse_schur.proofs.less_column.Statement.{statement}
 use Rattle.sparse_schur.proofs.less_column.Tie as tie
 use Rattle.sparse_schur.proofs.less_column.Reads as reads
 use Rattle.sparse_schur.proofs.less_column.Lts as lts
-use Rattle.runs.proofs.less_times.Reads as less-times-reads
+use Rattle.run_products.proofs.less_times.Reads as less-times-reads
 use Rattle.run_copies.proofs.read.Reads as read-reads
 
 -- src/lib.rt:115:5

@@ -9,7 +9,7 @@ use Rattle.take_step.proofs.take.Statement.{statement}
 use Rattle.take_step.proofs.take.Tie as tie
 use Rattle.take_step.proofs.take.Reads as reads
 use Rattle.take_step.proofs.take.Lts as lts
-use Rattle.taking.proofs.take_factor.Reads as take-factor-reads
+use Rattle.take_factor.proofs.take_factor.Reads as take-factor-reads
 use Rattle.take_step.proofs.take_solve.Reads as take-solve-reads
 use Rattle.take_step.proofs.take_subtract.Reads as take-subtract-reads
 
