@@ -1,11 +1,11 @@
 -- Patterns that are numbers, floats that are numbers, and doubles of the same size.
-use mathlib.Core.Path.{_≡_, ap, sym, _∙_, subst}
-use mathlib.Core.Bool.{Bool, true, false, not, true≢false}
-use Prim.Native.Nat.{ℕ, _+_, _-_, _*_, _/_, _%_, _^_, _≤_, _<_}
+use mathlib.Core.Path.{_≡_, ap, ap₂, sym, _∙_, subst}
+use mathlib.Core.Bool.{Bool, true, false, not, cond, true≢false}
+use Prim.Native.Nat.{ℕ, suc, _+_, _-_, _*_, _/_, _%_, _^_, _≤_, _<_}
 use native.Mathlib.Omega.{arith}
-use borrow.Author.Tests.{le-ltb}
-use lib.Dec.{T}
-use lib.Ieee.{Float, nan, inf, fin, binary64, up, down, fits, size, eq, isNan, nanBits, toBits, ofBits}
+use borrow.Author.Tests.{le-ltb, ne-eqb, lt-leb}
+use lib.Dec.{T, leb, eqb}
+use lib.Ieee.{Float, nan, inf, fin, binary64, up, down, fits, size, eq, isNan, nanBits, toBits, odd, ofFields, ofBits}
 use lib.Ieee.Bits.{ofBits-toBits, nanBits-above}
 use lib.Ieee.Fits.{down-pos}
 use lib.Ieee.Nearest.{div-same}
@@ -22,6 +22,24 @@ unfolding eq isNan
 equal-itself nan t = absurd (true≢false (sym t))
 equal-itself (inf s) t = tt
 equal-itself (fin s m e) t = tt
+
+-- ---- the bits of a normal double
+fields-at : (x t : ℕ) → suc x < 2047 → ofFields binary64 false (suc x) t ≡ odd 53 false (2 ^ 52 + t) x 1074
+unfolding ofFields
+fields-at x t h = ap (λ (b : Bool). cond b (cond (eqb t 0) (inf false) nan) (odd 53 false (2 ^ 52 + t) x 1074)) (ne-eqb (suc x) 2047 (λ (e : suc x ≡ 2047). omega arith))
+
+pub normal-bits : (k s : ℕ) → k < 2046 → 2 ^ 52 ≤ s → s < 2 ^ 53 → ofBits binary64 (k * 4503599627370496 + s) ≡ odd 53 false s k 1074
+unfolding ofBits
+normal-bits k s h l u =
+    let n = k * 4503599627370496 + s in
+    let a : leb (2 ^ 63) n ≡ false = lt-leb (2 ^ 63) n (omega arith) in
+    let b : n % 2 ^ 63 / 2 ^ 52 ≡ suc k = omega arith in
+    let c : n % 2 ^ 52 ≡ s - 2 ^ 52 = omega arith in
+    let d : 2 ^ 52 + (s - 2 ^ 52) ≡ s = omega arith in
+    ap (λ (x : Bool). ofFields binary64 x (n % 2 ^ 63 / 2 ^ 52) (n % 2 ^ 52)) a
+    ∙ ap₂ (λ (x y : ℕ). ofFields binary64 false x y) b c
+    ∙ fields-at k (s - 2 ^ 52) (omega arith)
+    ∙ ap (λ (x : ℕ). odd 53 false x k 1074) d
 
 -- ---- two doubles above 0 of the same size are the same
 same-bits : (x y : Float) → T (positive x) → T (positive y) → num x * den y ≡ num y * den x → toBits binary64 x ≡ toBits binary64 y

@@ -1,12 +1,12 @@
--- The sign of a logarithm as 0 or 1.
-use mathlib.Core.Path.{_≡_, ap, sym, _∙_}
+-- A choice by the order of two numbers.
+use mathlib.Core.Path.{_≡_, ap, sym}
 use mathlib.Core.Bool.{Bool, cond}
-use Prim.Native.Nat.{ℕ}
-use borrow.Author.Tests.{eq-eqb, ne-eqb}
-use lib.Dec.{ltb, eqb}
+use Prim.Native.Nat.{ℕ, _<_, _≤_}
+use borrow.Author.Tests.{lt-ltb, le-ltb}
+use lib.Dec.{ltb}
 
-pub sign-whole : (m c u s : ℕ) → u ≡ 1074 → s ≡ cond (ltb m c) 1 0 → s ≡ cond (eqb u 1074) (cond (ltb m c) 1 0) (cond (ltb u 1074) 1 0)
-sign-whole m c u s e q = q ∙ ap (λ (b : Bool). cond b (cond (ltb m c) 1 0) (cond (ltb u 1074) 1 0)) (sym (eq-eqb u 1074 e))
+pub taken : (m c a b : ℕ) → m < c → a ≡ cond (ltb m c) a b
+taken m c a b h = ap (λ (t : Bool). cond t a b) (sym (lt-ltb m c h))
 
-pub sign-power : (m c u s : ℕ) → (u ≡ 1074 → ⊥) → s ≡ cond (ltb u 1074) 1 0 → s ≡ cond (eqb u 1074) (cond (ltb m c) 1 0) (cond (ltb u 1074) 1 0)
-sign-power m c u s e q = q ∙ ap (λ (b : Bool). cond b (cond (ltb m c) 1 0) (cond (ltb u 1074) 1 0)) (sym (ne-eqb u 1074 e))
+pub left : (m c a b : ℕ) → c ≤ m → b ≡ cond (ltb m c) a b
+left m c a b h = ap (λ (t : Bool). cond t a b) (sym (le-ltb m c h))

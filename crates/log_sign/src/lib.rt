@@ -1,16 +1,18 @@
-// The sign of a logarithm.
+// The series' part of a logarithm with its sign.
 
 ghost use mathlib.Core.Path.{_≡_};
 ghost use mathlib.Core.Bool.{cond};
-ghost use lib.Dec.{ltb, eqb};
+ghost use lib.Dec.{ltb};
+ghost use Prim.Native.Nat.{_+_, _-_, _^_, _<_};
 
-// 1 where the logarithm is negative: the power of two decides, and where that is 2^0 the significand.
-pub fn sign(m: u64, c: u64, u: u64) -> u64
-    ensures { λ r. ⌜ r ≡ cond (eqb u 1074) (cond (ltb m c) 1 0) (cond (ltb u 1074) 1 0) ⌝ }
+// 2^63 and y, or 2^63 less y where the significand m is below its centre c.
+pub fn leaned(m: u64, c: u64, y: u64) -> u64
+    requires { ⌜ y < 2 ^ 63 ⌝ }
+    ensures { λ r. ⌜ r ≡ cond (ltb m c) (2 ^ 63 - y) (2 ^ 63 + y) ⌝ }
 {
-    if u == 1074 {
-        wide::above(c, m)
+    if m < c {
+        9223372036854775808 - y
     } else {
-        wide::above(1074, u)
+        9223372036854775808 + y
     }
 }

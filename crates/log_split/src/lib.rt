@@ -1,30 +1,28 @@
 // The logarithm of a power of two times a number near 1.
 
 ghost use mathlib.Core.Path.{_≡_};
-ghost use Rattle.log_units.specs.Units.{chosen, lnSum};
+ghost use Prim.Native.Nat.{_+_, _*_, _^_, _<_, _≤_};
+ghost use Rattle.exact_log.specs.Log.{apart};
+ghost use Rattle.log_units.specs.Units.{chosen, ratio, seriesPart, lnSum};
 ghost use Rattle.log_split.specs.Split.{Split};
 
-// The logarithm of m / c * 2^u / 2^1074. ln 2 is 744261117 * 2^32 + 4101234282 units.
-pub fn of_split(m: u64, c: u64, u: u64) -> f64
-    requires { ⌜ Split m c u ⌝ }
+// |m - c| * 2^62 / (m + c).
+pub fn quotient(m: u64, c: u64) -> u64
+    requires { ⌜ (5 * apart m c ≤ m + c) × (m < 2 ^ 53) × (0 < c) × (c ≤ 2 ^ 53) ⌝ }
+    ensures { λ r. ⌜ r ≡ ratio (2 ^ 62) (apart m c) (m + c) ⌝ }
+{
+    log_steps::refined(log_steps::distance(m, c), m + c, log_steps::guess(m, c))
+}
+
+// The logarithm of m / c * 2^u / 2^1074 with the series' part y of m / c. ln 2 is 744261117 * 2^32 + 4101234282 units, and in_units
+// takes away 2^63 and 1074 times that.
+pub fn joined(m: u64, c: u64, u: u64, y: u64) -> f64
+    requires { ⌜ Split m c u × (y ≡ seriesPart chosen m c) ⌝ }
     ensures { λ r. ⌜ r ≡ lnSum chosen m c u 1074 ⌝ }
 {
-    let y = 2
-        * log_series::summed(log_steps::refined(
-            log_steps::distance(m, c),
-            m + c,
-            log_steps::guess(m, c),
-        ));
-    let e = log_steps::distance(u, 1074);
-    let h = e * 744261117;
-    let l = e * 4101234282;
-    let i = y / 4294967296;
-    let j = y % 4294967296;
-    let s = log_sign::sign(m, c, u);
-    let f = (s + wide::above(c, m)) % 2;
+    let f = log_sign::leaned(m, c, y);
     log_steps::in_units(
-        h + i - f * (2 * i + 1),
-        l + j + f * 4294967296 - f * (2 * j),
-        s == 1,
+        u * 744261117 + f / 4294967296,
+        u * 4101234282 + f % 4294967296,
     )
 }

@@ -1,6 +1,7 @@
 // The steps of the logarithm around its series: the quotient in units, and units as a double.
 
 ghost use mathlib.Core.Path.{_≡_};
+ghost use lib.Dec.{ltb};
 ghost use Prim.Native.Nat.{_+_, _*_, _^_, _<_, _≤_};
 ghost use lib.Ieee.{binary64, round};
 ghost use Rattle.exact_log.specs.Log.{apart};
@@ -70,15 +71,12 @@ pub fn refined(a: u64, b: u64, g: u64) -> u64
     g * 256 + r * 256 / b
 }
 
-// h * 2^32 + l units of 2^-62 as a double, rounded once.
-pub fn in_units(h: u64, l: u64, negative: bool) -> f64
-    requires { ⌜ (h < 2 ^ 53) × (l < 2 ^ 53) ⌝ }
-    ensures { λ r. ⌜ r ≡ round binary64 negative (h * 2 ^ 32 + l) (2 ^ 62) ⌝ }
+// h * 2^32 + l units of 2^-62, less 801483923306 * 2^32 + 4404725618868, as a double, rounded once. The numbers go into the last
+// digits of 2^22 and 2^-10, where they count units of 2^-30 and 2^-62, and both differences are exact.
+pub fn in_units(h: u64, l: u64) -> f64
+    requires { ⌜ (h < 2 ^ 52) × (l < 2 ^ 52) ⌝ }
+    ensures { λ r. ⌜ r ≡ round binary64 (ltb (h * 2 ^ 32 + l) 3442347243273767819444) (apart (h * 2 ^ 32 + l) 3442347243273767819444) (2 ^ 62) ⌝ }
 {
-    let v = ((h % 9007199254740992) as f64) * 9.313225746154785e-10
-        + ((l % 9007199254740992) as f64) * 2.168404344971009e-19;
-    if negative {
-        return -v;
-    }
-    v
+    f64::from_bits(4706261610602168320 + h) - 4195050.440070966
+        + (f64::from_bits(4562146422526312448 + l) - 0.0009775176226170358)
 }

@@ -24,7 +24,7 @@ use Rattle.log_units.specs.Near.{IsLn}
 use Rattle.log_units.proofs.Rounding.{Rounded, IsRounded}
 use Rattle.log_units.proofs.Law.{sum-rounded, series-small, size-le}
 use Rattle.log_units.proofs.Serves.{serves}
-use Rattle.log_split.proofs.Joined.{units-some}
+use Rattle.log_split.proofs.Together.{units-some}
 use Rattle.logarithm.specs.Ln.{lnAt, lnOf}
 use Rattle.logarithm.proofs.Near.{at-parts, centre-pos, near-centre, steps, steps-few, ln-near}
 

@@ -1,21 +1,40 @@
 // The natural logarithm of a double.
 
 ghost use mathlib.Core.Path.{_≡_};
+ghost use Prim.Native.Nat.{_+_, _*_, _^_};
 ghost use Rattle.double.proofs.Value.{InPlace};
-ghost use Rattle.log_units.specs.Units.{chosen, lnParts};
+ghost use Rattle.exact_log.specs.Log.{apart, centre};
+ghost use Rattle.log_units.specs.Units.{chosen, ratio, seriesPart, lnParts};
 ghost use Rattle.logarithm.specs.Ln.{lnOf};
 use double::Kind;
 use double::Parts;
+
+// |m - c| * 2^62 / (m + c), where m is the significand and c its centre.
+fn ratio_of(p: Parts) -> u64
+    requires { ⌜ InPlace p ⌝ }
+    ensures { λ r. ⌜ r ≡ ratio (2 ^ 62) (apart (p .significand) (centre (p .significand))) (p .significand + centre (p .significand)) ⌝ }
+{
+    let m = p.significand;
+    log_split::quotient(m, 4503599627370496 * (1 + wide::above(m, 6755399441055743)))
+}
+
+// The logarithm of the double above 0 with these parts, given the sum s of its series.
+fn from_series(p: Parts, s: u64) -> f64
+    requires { ⌜ InPlace p × (2 * s ≡ seriesPart chosen (p .significand) (centre (p .significand))) ⌝ }
+    ensures { λ r. ⌜ r ≡ lnParts chosen p ⌝ }
+{
+    let m = p.significand;
+    let t = p.exponent;
+    let k = wide::above(m, 6755399441055743);
+    log_split::joined(m, 4503599627370496 * (1 + k), t + k, 2 * s)
+}
 
 // The logarithm of the double above 0 with these parts.
 fn of_parts(p: Parts) -> f64
     requires { ⌜ InPlace p ⌝ }
     ensures { λ r. ⌜ r ≡ lnParts chosen p ⌝ }
 {
-    let m = p.significand;
-    let t = p.exponent;
-    let k = wide::above(m, 6755399441055743);
-    log_split::of_split(m, 4503599627370496 * (1 + k), t + k)
+    from_series(p, log_series::summed(ratio_of(p)))
 }
 
 // The natural logarithm, to the bit as specs/Ln.antt has it.

@@ -1,15 +1,15 @@
 -- The root of a double above 0 with given parts, and its bits.
-use mathlib.Core.Path.{_≡_, refl, ap, ap₂, sym, _∙_, subst}
-use mathlib.Core.Bool.{Bool, false, not, cond}
+use mathlib.Core.Path.{_≡_, refl, ap, _∙_, subst}
+use mathlib.Core.Bool.{false}
 use Prim.Native.Nat.{ℕ, zero, suc, _+_, _-_, _*_, _/_, _%_, _^_, _≤_, _<_}
 use native.Mathlib.Nat.{mod-lt}
 use native.Mathlib.Omega.{arith}
-use borrow.Author.Tests.{le-ltb, ne-eqb, lt-leb}
-use lib.Dec.{T, leb, eqb, lit<}
-use lib.Ieee.{Float, nan, inf, binary64, fits, odd, ofFields, ofBits, nanBits}
-use lib.Ieee.Bits.{ofBits-fits, nanBits-above}
+use lib.Dec.{T, lit<}
+use lib.Ieee.{Float, binary64, fits, odd, ofBits}
+use lib.Ieee.Bits.{ofBits-fits}
 use Rattle.double.specs.declared.Parts.{Parts}
 use Rattle.double.proofs.Value.{InPlace}
+use Rattle.double.proofs.Bits.{normal-bits}
 use Rattle.whole_root.specs.Whole.{rounded}
 use Rattle.whole_root.proofs.Whole.{Near, rounded-near, digits-low, digits-high}
 use Rattle.root_parts.specs.Radicand.{radicand, half, rootOf}
@@ -31,24 +31,6 @@ pub doubled-range : (q b : ℕ) → 2 ^ 52 ≤ q → q < 2 ^ 53 → b < 2 → (2
 doubled-range q zero l h k = (omega arith, omega arith)
 doubled-range q (suc zero) l h k = (omega arith, omega arith)
 doubled-range q (suc (suc b)) l h k = omega arith
-
--- ---- the bits of a normal double
-fields-at : (x t : ℕ) → suc x < 2047 → ofFields binary64 false (suc x) t ≡ odd 53 false (2 ^ 52 + t) x 1074
-unfolding ofFields
-fields-at x t h = ap (λ (b : Bool). cond b (cond (eqb t 0) (inf false) nan) (odd 53 false (2 ^ 52 + t) x 1074)) (ne-eqb (suc x) 2047 (λ (e : suc x ≡ 2047). omega arith))
-
-pub normal-bits : (k s : ℕ) → k < 2046 → 2 ^ 52 ≤ s → s < 2 ^ 53 → ofBits binary64 (k * 4503599627370496 + s) ≡ odd 53 false s k 1074
-unfolding ofBits
-normal-bits k s h l u =
-    let n = k * 4503599627370496 + s in
-    let a : leb (2 ^ 63) n ≡ false = lt-leb (2 ^ 63) n (omega arith) in
-    let b : n % 2 ^ 63 / 2 ^ 52 ≡ suc k = omega arith in
-    let c : n % 2 ^ 52 ≡ s - 2 ^ 52 = omega arith in
-    let d : 2 ^ 52 + (s - 2 ^ 52) ≡ s = omega arith in
-    ap (λ (x : Bool). ofFields binary64 x (n % 2 ^ 63 / 2 ^ 52) (n % 2 ^ 52)) a
-    ∙ ap₂ (λ (x y : ℕ). ofFields binary64 false x y) b c
-    ∙ fields-at k (s - 2 ^ 52) (omega arith)
-    ∙ ap (λ (x : ℕ). odd 53 false x k 1074) d
 
 module _ (p : Parts) (i : InPlace p) where
   abbrev m : ℕ

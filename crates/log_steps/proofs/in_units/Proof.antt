@@ -1,19 +1,28 @@
 -- `log_steps::in_units` meets its contract.
-use Rattle.log_steps.proofs.Floats.{plain, negated, whole}
+use borrow.Author.Needs.{needs}
+use Prim.Native.Nat.{_+_}
+use native.Mathlib.Omega.{arith}
+use Rattle.double.proofs.Bits.{number-below}
+use Rattle.log_steps.proofs.Floats.{in-floats}
 use Rattle.log_steps.proofs.in_units.Statement.{statement}
 use Rattle.log_steps.proofs.in_units.Tie as tie
 
-int-to-float-v : tie.Need-int-to-float-v
-int-to-float-v c = whole (c .before .args .h)
+add-result : tie.Need-add-result
+add-result c = search needs
 
-int-to-float-v-2 : tie.Need-int-to-float-v-2
-int-to-float-v-2 c = whole (c .before .before .args .l)
+float-from-bits-result : tie.Need-float-from-bits-result
+float-from-bits-result c = number-below (4706261610602168320 + c .args .h) (omega arith)
+
+add-result-2 : tie.Need-add-result-2
+add-result-2 c = search needs
+
+float-from-bits-result-2 : tie.Need-float-from-bits-result-2
+float-from-bits-result-2 c = number-below (4562146422526312448 + c .args .l) (omega arith)
 
 returns : tie.Need-returns
-returns c = negated _ _ _ (c .if1 .taken) (c .before .before .before .pre .0) (c .before .before .before .pre .1)
-
-returns-2 : tie.Need-returns-2
-returns-2 c = plain _ _ _ (c .if1 .left) (c .before .before .before .pre .0) (c .before .before .before .pre .1)
+returns c = in-floats _ _ (c .pre .0) (c .pre .1)
 
 pub in-units-spec : {M : Type 1} → statement M
-in-units-spec = tie.close (tie.spec int-to-float-v int-to-float-v-2 returns returns-2)
+in-units-spec =
+    tie.close
+    (tie.spec add-result float-from-bits-result add-result-2 float-from-bits-result-2 returns)
