@@ -1,22 +1,15 @@
 -- Laws for the program's whole numbers.
-use mathlib.Core.Path.{_≡_, refl, ap, sym, _∙_, subst}
-use mathlib.Core.Bool.{Bool, true, false}
+use mathlib.Core.Path.{_≡_, ap, sym, _∙_, subst}
+use mathlib.Core.Bool.{true, false}
 use Prim.Native.Nat.{ℕ, _+_, _-_, _*_, _/_, _%_, _^_, _≤_, _<_}
 use native.Mathlib.Omega.{arith}
-use borrow.Author.Tests.{lt-ltb, ltb-true, ltb-false}
+use borrow.Author.Tests.{ltb-true, ltb-false}
 use lib.Dec.{ltb}
+use Rattle.wide.proofs.Tests.{same-test}
 use Rattle.whole_root.specs.Whole.{rounded}
 use Rattle.whole_root.proofs.Whole.{is-rounded}
 
 -- ---- reaches: p = g * (g - 1) against m * 2 ^ 52, word by word
-same-test : (x y z w : ℕ) → (x < y → z < w) → (z < w → x < y) → ltb x y ≡ ltb z w
-same-test x y z w f g = go (ltb x y) refl (ltb z w) refl
-  where
-    go : (b : Bool) → ltb x y ≡ b → (c : Bool) → ltb z w ≡ c → ltb x y ≡ ltb z w
-    go true p c q = p ∙ sym (lt-ltb z w (f (ltb-true x y p)))
-    go false p true q = lt-ltb x y (g (ltb-true z w q)) ∙ sym q
-    go false p false q = p ∙ sym q
-
 by-low-word : (m g p s : ℕ) → p + g ≡ s → p / 2 ^ 64 ≡ m / 4096 → ltb (p % 2 ^ 64) (m % 4096 * 4503599627370496) ≡ ltb s (m * 2 ^ 52 + g)
 by-low-word m g p s e h = same-test _ _ _ _ (λ (l : p % 2 ^ 64 < m % 4096 * 4503599627370496). omega arith) (λ (l : s < m * 2 ^ 52 + g). omega arith)
 

@@ -4,9 +4,10 @@ use mathlib.Core.Bool.{Bool, true, false, cond}
 use Prim.Native.Nat.{ℕ, _+_, _-_, _*_, _/_, _%_, _^_, _≤_, _<_}
 use native.Mathlib.Nat.{mul-le-mul, le-div-iff-mul-le, div-mul-le-self}
 use native.Mathlib.Omega.{arith}
-use borrow.Author.Tests.{lt-ltb, ltb-true, ltb-false}
+use borrow.Author.Tests.{ltb-true, ltb-false}
 use lib.Dec.{ltb, lit<}
 use lib.Ieee.{Float, binary64, round}
+use Rattle.wide.proofs.Tests.{same-test}
 use Rattle.exact_log.specs.Log.{apart}
 use Rattle.log_units.specs.Units.{chosen, ratio, horner, artanhUnits, seriesPart, gain, loss, lnSum}
 use Rattle.log_units.proofs.Horner.{fifth}
@@ -47,14 +48,6 @@ balance u e y f true true ee t h ef = let l : u < 1074 = ltb-true u 1074 t in le
 balance u e y f true false ee t h ef = let l : u < 1074 = ltb-true u 1074 t in let q : e + u ≡ 1074 = omega arith in omega (arith, q)
 balance u e y f false true ee t h ef = let l : 1074 ≤ u = ltb-false u 1074 t in let q : e + 1074 ≡ u = omega arith in omega (arith, q)
 balance u e y f false false ee t h ef = let l : 1074 ≤ u = ltb-false u 1074 t in let q : e + 1074 ≡ u = omega arith in omega (arith, q)
-
-same-test : (x y z w : ℕ) → (x < y → z < w) → (z < w → x < y) → ltb x y ≡ ltb z w
-same-test x y z w f g = go (ltb x y) refl (ltb z w) refl
-  where
-    go : (b : Bool) → ltb x y ≡ b → (c : Bool) → ltb z w ≡ c → ltb x y ≡ ltb z w
-    go true p c q = p ∙ sym (lt-ltb z w (f (ltb-true x y p)))
-    go false p true q = lt-ltb x y (g (ltb-true z w q)) ∙ sym q
-    go false p false q = p ∙ sym q
 
 rounded-same : (G L M K : ℕ) → G + K ≡ L + M → round binary64 (ltb M K) (apart M K) (2 ^ 62) ≡ round binary64 (ltb G L) (apart G L) (2 ^ 62)
 rounded-same G L M K e =

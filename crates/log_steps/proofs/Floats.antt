@@ -11,19 +11,12 @@ use lib.Ieee.{Float, nan, inf, fin, binary64, up, down, round, neg, add, sub, su
 use lib.Ieee.Fits.{down-pos}
 use lib.Ieee.Exact.{HasValue, round-exact, odd-sign}
 use lib.Ieee.Scale.{round-same}
+use Rattle.wide.proofs.Tests.{same-test}
 use Rattle.double.proofs.Value.{rescale}
 use Rattle.double.proofs.Bits.{normal-bits}
 use Rattle.exact_log.specs.Log.{apart}
 
 -- ---- sums of the same fractions
-same-test : (x y z w : ℕ) → (x < y → z < w) → (z < w → x < y) → ltb x y ≡ ltb z w
-same-test x y z w f g = go (ltb x y) refl (ltb z w) refl
-  where
-    go : (b : Bool) → ltb x y ≡ b → (c : Bool) → ltb z w ≡ c → ltb x y ≡ ltb z w
-    go true p c q = p ∙ sym (lt-ltb z w (f (ltb-true x y p)))
-    go false p true q = lt-ltb x y (g (ltb-true z w q)) ∙ sym q
-    go false p false q = p ∙ sym q
-
 module _ (A B C a b c : ℕ) (P : 0 < C) (p : 0 < c) (e : A * c ≡ a * C) (f : B * c ≡ b * C) where
   same-order : ltb A B ≡ ltb a b
   same-order =
