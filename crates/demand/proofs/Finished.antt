@@ -19,7 +19,7 @@ use Rattle.order.proofs.Refusal.{none-refused}
 use Rattle.rules.specs.Arithmetic.{ieee}
 use Rattle.sheet.specs.Sheet.{Sheet}
 use Rattle.layout.specs.declared.Layout.{Layout}
-use Rattle.layout.specs.declared.State as States
+use Rattle.heading_rules.specs.declared.State as States
 use Rattle.heading_rules.specs.declared.State.the-variants.{Idle, UnderWay, Finished}
 use Rattle.layout.specs.Shapes.{pick, shape}
 use Rattle.heading_rules.specs.Heading.{layoutOf, entryRow, stageOf}
