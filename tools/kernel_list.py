@@ -553,43 +553,67 @@ def rank_diagonal_sparse_cases(draws):
 
 KERNELS = [
     ("cholesky::chol", chol_cases),
-    ("re_lower::chol_diagonal", chol_diagonal_cases),
-    ("substitution::log_pivots", log_cases(False, False)),
-    ("substitution::log_diagonal", log_cases(True, False)),
+    ("diagonal_chol::chol_diagonal", chol_diagonal_cases),
+    ("pivot_logs::log_pivots", log_cases(False, False)),
+    ("pivot_logs::log_diagonal", log_cases(True, False)),
     ("substitution::solve_row", solve_cases(forward)),
-    ("substitution::backward", solve_cases(backward)),
-    ("re_lower::get", get_cases),
-    ("re_lower::set", set_cases),
-    ("cross_block::divide_columns", divide_columns_cases),
+    ("back_substitution::backward", solve_cases(backward)),
+    ("triangle_cells::get", get_cases),
+    ("triangle_cells::set", set_cases),
+    ("divide_columns::divide_columns", divide_columns_cases),
     ("sparse_schur::subtract_sparse", subtract_sparse_cases),
     ("scaling::scale_twice", scale_cases(True)),
     ("scaling::scale_once", scale_cases(False)),
     ("cross_block::solve_rows", solve_rows_cases),
-    ("schur::subtract_dense", subtract_dense_cases),
-    ("schur::rank_sub", rank_cases(lambda t, a, b: t - dot(a, b))),
-    ("schur::subtract_last", rank_cases(chain)),
+    ("schur_dense::subtract_dense", subtract_dense_cases),
+    ("rank_dense::rank_sub", rank_cases(lambda t, a, b: t - dot(a, b))),
+    ("schur_last::subtract_last", rank_cases(chain)),
     ("matvec::less_product", less_product_cases),
     ("matvec_t::less_product_t", less_product_t_cases),
     ("sparse_matvec::less_sparse", less_sparse_cases),
-    ("sparse_matvec::less_sparse_t", less_sparse_t_cases),
-    ("diagonal_init::init", init_cases(False)),
+    ("sparse_matvec_t::less_sparse_t", less_sparse_t_cases),
+    ("triangle_init::init", init_cases(False)),
     ("diagonal_init::init_diagonal", init_cases(True)),
     ("re_factor::chol", chol_cases),
     ("re_factor::chol_diagonal", chol_diagonal_cases),
-    ("re_factor::log_pivots", log_cases(False, False)),
-    ("re_factor::log_diagonal", log_cases(True, False)),
-    ("re_factor::logs_later", log_cases(False, True)),
-    ("re_factor::logs_later_diagonal", log_cases(True, True)),
+    ("block_logs::log_pivots", log_cases(False, False)),
+    ("block_logs::log_diagonal", log_cases(True, False)),
+    ("block_logs::logs_later", log_cases(False, True)),
+    ("block_logs::logs_later_diagonal", log_cases(True, True)),
     ("block_solve::forward", solve_cases(forward)),
     ("block_solve::backward", solve_cases(backward)),
-    ("block_solve::divide", divide_cases),
+    ("block_divide::divide", divide_cases),
     ("rank_diagonal::rank_sub_diagonal", rank_diagonal_cases),
-    ("rank_diagonal::rank_sub_diagonal_sparse", rank_diagonal_sparse_cases),
+    ("rank_diagonal_sparse::rank_sub_diagonal_sparse", rank_diagonal_sparse_cases),
 ]
 
 
+# The draws of these kernels are named after the crate that first held them, so that the list stays as it was.
+FIRST_NAMES = {
+    "matvec_t::less_product_t": "matvec::less_product_t",
+    "diagonal_chol::chol_diagonal": "re_lower::chol_diagonal",
+    "pivot_logs::log_pivots": "substitution::log_pivots",
+    "pivot_logs::log_diagonal": "substitution::log_diagonal",
+    "back_substitution::backward": "substitution::backward",
+    "triangle_cells::get": "re_lower::get",
+    "triangle_cells::set": "re_lower::set",
+    "divide_columns::divide_columns": "cross_block::divide_columns",
+    "schur_dense::subtract_dense": "schur::subtract_dense",
+    "rank_dense::rank_sub": "schur::rank_sub",
+    "schur_last::subtract_last": "schur::subtract_last",
+    "sparse_matvec_t::less_sparse_t": "sparse_matvec::less_sparse_t",
+    "triangle_init::init": "diagonal_init::init",
+    "block_logs::log_pivots": "re_factor::log_pivots",
+    "block_logs::log_diagonal": "re_factor::log_diagonal",
+    "block_logs::logs_later": "re_factor::logs_later",
+    "block_logs::logs_later_diagonal": "re_factor::logs_later_diagonal",
+    "block_divide::divide": "block_solve::divide",
+    "rank_diagonal_sparse::rank_sub_diagonal_sparse": "rank_diagonal::rank_sub_diagonal_sparse",
+}
+
+
 def draws_of(name):
-    rng = random.Random(name)
+    rng = random.Random(FIRST_NAMES.get(name, name))
     k = 0
     while True:
         yield Draw(rng, KINDS[k % len(KINDS)])
