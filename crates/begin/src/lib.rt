@@ -1,6 +1,5 @@
 // Begin (document 01, Record 4): theta is kept, every working block becomes its loaded block scaled, the sum of the logarithms is +0.0 and every
-// step is
-// left; and its refusals 20, 13 and 14. What it answers and leaves is defined in the crate update, specs/Calls.antt.
+// step is left; and its refusals 20, 13 and 14. What it answers and leaves is defined in the crate update, specs/Calls.antt.
 ghost use mathlib.Core.Path.{_≡_};
 ghost use mathlib.Core.Bool.{true};
 ghost use Prim.Native.Nat.{_≤_};

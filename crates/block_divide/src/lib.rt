@@ -4,7 +4,7 @@ ghost use Prim.Native.Nat.{_+_, _≤_};
 ghost use lib.ListN.{length};
 ghost use Rattle.re_factor.specs.Factor.{divided};
 
-// Either of them with a diagonal factor: each entry divided by its pivot.
+// Each of the n entries at z of v divided by its pivot, which lies at off of w.
 pub fn divide(v: &mut [f64], z: usize, w: &[f64], off: usize, n: usize)
     requires { ⌜ (z + n ≤ length (now v)) × (off + n ≤ length (now w)) ⌝ }
     ensures { λ _. ⌜ now (v .exit) ≡ divided z off n (now (w .entry)) (now (v .entry)) ⌝ }

@@ -1,7 +1,7 @@
 // One turn of the search for number 9 of a sheet (document 01, "Refused because of the input"): a zz word that is zero, an entry off the diagonal
-// inside a
-// block, or an entry without a mirror of equal bits. One cursor for each column of a group stands at the column's first entry below the diagonal
-// whose mirror has not come. Nothing else is stored: the line of each entry is read where it stands, and once more, below the diagonal, when its mirror comes.
+// inside a block, or an entry without a mirror of equal bits. One cursor for each column of a group stands at the column's first entry below the
+// diagonal whose mirror has not come. Nothing else is stored: the line of each entry is read where it stands, and once more, below the diagonal,
+// when its mirror comes.
 ghost use mathlib.Core.Path.{_≡_};
 ghost use mathlib.Core.List.{List};
 ghost use Prim.Native.Nat.{ℕ, _+_, _<_, _≤_};

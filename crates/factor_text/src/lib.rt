@@ -1,6 +1,5 @@
 // What the program `factor` does (document 01, "Worked sheets"): a sheet and its theta part to the pivots of its factor, or to a refusal, which is
-// then
-// the only line. What it prints is defined in the crate worked, specs/Program.antt.
+// then the only line. What it prints is defined in the crate worked, specs/Program.antt.
 ghost use mathlib.Core.Path.{_≡_};
 ghost use Prim.Native.Nat.{_≤_, _<_, _+_};
 ghost use lib.ListN.{length, take};

@@ -1,6 +1,5 @@
 // C(j) on a workspace (document 01, Record 4): the factor of its own block, and its logarithms in the running sum. What it answers and leaves is
-// defined
-// in the crate factor_logs, specs/Factors.antt.
+// defined in the crate factor_logs, specs/Factors.antt.
 ghost use mathlib.Core.Path.{_≡_};
 ghost use mathlib.Core.Bool.{false};
 ghost use Prim.Native.Nat.{_+_, _≤_};

@@ -1,5 +1,5 @@
 // Refusal 20 (document 01): whether the numbers h and a list of doubles are a workspace. Any numbers whatever may stand in h. What is asked is
-// defined in the crate layout, specs/Heading.antt.
+// defined in the crate heading_rules, specs/Heading.antt.
 ghost use mathlib.Core.Path.{_≡_};
 ghost use Prim.Native.Nat.{_<_};
 ghost use Rattle.heading_rules.specs.Heading.{lawful, headed};

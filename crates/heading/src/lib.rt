@@ -1,5 +1,5 @@
-// The heading of a workspace (document 01, Records 2 and 5): 128 numbers, read as a layout and a progress. What each number is, is
-// defined in the crate layout, specs/Heading.antt.
+// The heading of a workspace (document 01, Records 2 and 5): 128 numbers, read as a layout and a progress. What each number is, is defined in the
+// crate heading_rules, specs/Heading.antt.
 ghost use mathlib.Core.Path.{_≡_};
 ghost use Prim.Native.Nat.{_+_, _<_, _≤_};
 ghost use lib.ListN.{length, getD, take, drop};

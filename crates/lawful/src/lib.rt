@@ -1,5 +1,5 @@
 // Whether a layout is one that Records 1 and 2 of document 01 allow. No number of it is trusted: sizes are made only of counts that were found in
-// range. What is lawful is defined in the crate layout, specs/Heading.antt.
+// range. What is lawful is defined in the crate heading_rules, specs/Heading.antt.
 ghost use mathlib.Core.Path.{_≡_};
 ghost use Prim.Native.Nat.{_<_, _≤_};
 ghost use Rattle.layout.specs.Blocks.{sum};

@@ -1,6 +1,5 @@
 // `load` (document 01, Record 3): a sheet's numbers into a workspace, or the first of the refusals 1 to 12 with all memory as it was. What it comes
-// to is defined in
-// the crate workspace, specs/Load.antt.
+// to is defined in the crate workspace, specs/Load.antt.
 ghost use mathlib.Core.Path.{_≡_};
 ghost use Rattle.sheet.specs.Sheet.{Sheet, accepted, readSheet};
 ghost use Rattle.sheet.specs.Fault.{refusalOf};

@@ -1,6 +1,5 @@
 // The numbers of a sheet into a workspace (document 01, Record 3): every double that the formula counts becomes +0.0, and then each word of the
-// sheet goes into its
-// place. Definitions are in the crates workspace, specs/Loaded.antt, and word_places, specs/Spread.antt.
+// sheet goes into its place. Definitions are in the crates workspace, specs/Loaded.antt, and word_places, specs/Spread.antt.
 ghost use mathlib.Core.Path.{_≡_};
 ghost use Prim.Native.Nat.{_+_, _*_, _/_, _≤_};
 ghost use lib.ListN.{length};

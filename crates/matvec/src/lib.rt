@@ -1,6 +1,5 @@
 // A dense cross block times a vector (document 01, Record 7; the Rust's `cross_matvec_sub`; crate matvec_t has the transpose). The solve's vectors
-// lie in the list v,
-// the blocks in w: the target's entries are the rule's, every other double stays. A dense block has at most 316 rows.
+// lie in the list v, the blocks in w: the target's entries are the rule's, every other double stays. A dense block has at most 316 rows.
 ghost use mathlib.Core.Path.{_≡_};
 ghost use mathlib.Core.Logic.{_⊎_};
 ghost use Prim.Native.Nat.{_+_, _≤_, _<_};

@@ -1,6 +1,5 @@
 // A step's name against the progress of an update (document 01, Records 4 and 5; refusals 22, 21, 23 and 24): whether there is such a step, whether
-// it is
-// done, whether its forerunners are, and which refusal comes first. Any numbers may be asked for.
+// it is done, whether its forerunners are, and which refusal comes first. Any numbers may be asked for.
 use heading_rules::Progress;
 use heading_rules::State;
 use update::Name;

@@ -1,6 +1,5 @@
 // Where each block of a workspace lies among its doubles (document 01, Records 2 to 4), and where theta and the logarithms' sum stand. The
-// definitions
-// are in the crate layout, specs/Shapes.antt.
+// definitions are in the crate layout, specs/Shapes.antt.
 ghost use mathlib.Core.Path.{_≡_};
 ghost use mathlib.Core.Bool.{true, false};
 ghost use Prim.Native.Nat.{_≤_};

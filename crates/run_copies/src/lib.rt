@@ -41,6 +41,7 @@ fn put_part(t: &mut [f64], to: usize, n: usize, acc: &[f64])
     }
 }
 
+// The same on the block that lies from off to end in w: the run starts at `to` within it.
 pub fn put(w: &mut [f64], off: usize, end: usize, to: usize, n: usize, acc: &[f64])
     requires { ⌜ (off + (to + n) ≤ end) × (end ≤ length (now w)) × (n ≤ length (now acc)) ⌝ }
     ensures { λ _. ⌜ now (w .exit) ≡ run (off + to) n (at (now (acc .entry))) (now (w .entry)) ⌝ }

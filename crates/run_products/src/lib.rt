@@ -17,6 +17,7 @@ fn less_times_part(t: &mut [f64], to: usize, n: usize, acc: &[f64], f: f64)
     }
 }
 
+// The same on the block that lies from off to end in w: the run starts at `to` within it.
 pub fn less_times(w: &mut [f64], off: usize, end: usize, to: usize, n: usize, acc: &[f64], f: f64)
     requires { ⌜ (off + (to + n) ≤ end) × (end ≤ length (now w)) × (n ≤ length (now acc)) ⌝ }
     ensures { λ _. ⌜ now (w .exit) ≡ run (off + to) n (λ i. ieee .minus (at (now (w .entry)) (off + to + i)) (ieee .times (at (now (acc .entry)) i) f)) (now (w .entry)) ⌝ }

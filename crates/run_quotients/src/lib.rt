@@ -5,7 +5,7 @@ ghost use lib.ListN.{length};
 ghost use Rattle.rules.specs.Arithmetic.{ieee};
 ghost use Rattle.axpy.specs.Axpy.{at, run};
 
-// They become those of acc, each divided by p.
+// n doubles of t from `to` on become those of acc, each divided by p.
 fn over_part(t: &mut [f64], to: usize, n: usize, acc: &[f64], p: f64)
     requires { ⌜ (to + n ≤ length (now t)) × (n ≤ length (now acc)) ⌝ }
     ensures { λ _. ⌜ now (t .exit) ≡ run to n (λ i. ieee .over (at (now (acc .entry)) i) p) (now (t .entry)) ⌝ }
@@ -29,6 +29,7 @@ fn divide_part(t: &mut [f64], to: usize, n: usize, p: f64)
     }
 }
 
+// The same on the block that lies from off to end in w: the run starts at `to` within it.
 pub fn over(w: &mut [f64], off: usize, end: usize, to: usize, n: usize, acc: &[f64], p: f64)
     requires { ⌜ (off + (to + n) ≤ end) × (end ≤ length (now w)) × (n ≤ length (now acc)) ⌝ }
     ensures { λ _. ⌜ now (w .exit) ≡ run (off + to) n (λ i. ieee .over (at (now (acc .entry)) i) p) (now (w .entry)) ⌝ }

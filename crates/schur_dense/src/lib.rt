@@ -1,4 +1,4 @@
-// S of a dense cross block (document 01, Record 4; the Rust's `schur_sub`), on the whole list of doubles.
+// S of a dense cross block (document 01, Record 4; the Rust's `schur_sub_re_cross`, `schur_sub_xy_re`), on the whole list of doubles.
 ghost use mathlib.Core.Path.{_≡_};
 ghost use mathlib.Core.Logic.{_⊎_};
 ghost use Prim.Native.Nat.{_+_, _≤_, _<_};

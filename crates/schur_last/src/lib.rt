@@ -1,4 +1,4 @@
-// S of the last triangle (document 01, Record 4), product by product, on the whole list of doubles.
+// S of the last triangle (document 01, Record 4; the Rust's `schur_sub_xy_xy`), product by product, on the whole list of doubles.
 ghost use mathlib.Core.Path.{_≡_};
 ghost use mathlib.Core.Logic.{_⊎_};
 ghost use Prim.Native.Nat.{_+_, _≤_, _<_};
@@ -6,7 +6,7 @@ ghost use lib.ListN.{length};
 ghost use Rattle.storage.specs.Shape.{packed, columns, sizeOf};
 ghost use Rattle.schur.specs.Schur.{subtractedLast, lessProducts};
 
-// The same, product by product.
+// One run of the triangle less its products, one by one.
 fn lessen_run(
     w: &mut [f64],
     acc: &mut [f64],

@@ -1,6 +1,5 @@
 // Begin on a cross block and on fixed rows (document 01, Record 4): each becomes its loaded block scaled by theta. What begin leaves of every block
-// is
-// defined in specs/Started.antt.
+// is defined in specs/Started.antt.
 ghost use mathlib.Core.Path.{_≡_};
 ghost use mathlib.Core.Bool.{true};
 ghost use Prim.Native.Nat.{_≤_, _<_};

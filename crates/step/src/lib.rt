@@ -14,7 +14,7 @@ use refusal::Answer;
 use refusal::Refusal;
 use update::Name;
 
-// The same on a workspace, the progress written into its heading.
+// A step that is ready, on a workspace: the moved progress is written into its heading.
 pub fn take_ready(h: &mut [u32], w: &mut [f64], name: Name) -> Answer
     requires { ⌜ Fits (now h) (length (now w)) × Named (layoutOf (now h) .k) (stepOfName name) × (1 ≤ progressOf (now h) .left) ⌝ }
     ensures { λ r. ⌜ record { answer = r; left = space (now (h .exit)) (now (w .exit)) } ≡ onPivot (now (h .entry)) (now (w .entry)) (refusedBy (now (h .entry)) (now (w .entry)) (stepOfName name)) (stepOfName name) ⌝ }

@@ -1,5 +1,5 @@
 // Reads the theta part of the input of the program `factor` (document 01, "Worked sheets"): a line for each block, in the sheet's order. What it is
-// to answer is defined in the crate factor, specs/Program.antt.
+// to answer is defined in the crate worked, specs/Program.antt.
 use field::NOWHERE;
 use sheet::Cursor;
 use sheet::Line;
