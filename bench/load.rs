@@ -14,8 +14,8 @@ mod sheet;
 use std::hint::black_box;
 use std::time::{Duration, Instant};
 
-/// The load of the crate load_c: a list is its first element and its length.
-#[link(name = "load_c", kind = "static")]
+/// The load of the crate calls_c: a list is its first element and its length.
+#[link(name = "calls_c", kind = "static")]
 extern "C" {
     fn husk_load(s: *const u8, n: usize, h: *mut u32, numbers: usize, w: *mut f64, doubles: usize) -> u64;
 }

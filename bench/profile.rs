@@ -15,10 +15,10 @@ mod sheet;
 use std::hint::black_box;
 use std::time::{Duration, Instant};
 
-/// The calls of the crate profile_c: a list is its first element and its length, and an answer its number, 0 where there is none.
+/// The calls of the crate calls_c: a list is its first element and its length, and an answer its number, 0 where there is none.
 mod husk {
     #[rustfmt::skip]
-    #[link(name = "profile_c", kind = "static")]
+    #[link(name = "calls_c", kind = "static")]
     extern "C" {
         fn husk_begin(h: *mut u32, n: usize, w: *mut f64, d: usize, theta: *const f64, k: usize) -> u64;
         fn husk_step(h: *mut u32, n: usize, w: *mut f64, d: usize, kind: u64, i: u64, j: u64, x: u64) -> u64;

@@ -1,54 +1,42 @@
 #!/usr/bin/env python3
-"""Writes the test list of the calls: begin, step, replace_response, profile_deviance and deviance_from_factor.
+"""Writes the test list of the calls: load, begin, step, replace_response, profile_deviance and deviance_from_factor.
 
-    call_list.py LIST STDOUT
+    call_list.py STDIN STDOUT [ACCEPTED...]
     call_list.py --pivots SHEET
     call_list.py --original DRIVER
-    call_list.py --large STDOUT
 
-LIST gets the cases, and STDOUT what a program that checks them must write where every call agrees.  The second form prints the pivots, or
-the refusal, of a file with a sheet and its theta lines, as the program `factor` of document 01 does.  The third compares what is computed here
-with the driver of the Rust original: pivots, refused places and deviances of each sheet of the list with each theta that it tries.
-The last writes what the program large_calls must print, whose workspace is too large for a list: it follows a rule, and a sum over all words
-is compared in place of them.
+STDIN gets the calls, and STDOUT what the program `calls` must print of them.  ACCEPTED are files with a sheet and its theta lines, as
+the generator of the Rust original makes them (sheet_list.py says which the stored list was made with); each becomes a sheet that must load.
+The second form prints the pivots, or the refusal, of a file with a sheet and its theta lines, as the program `factor` of document 01 does.
+The third compares what is computed here with the driver of the Rust original: pivots, refused places and deviances of each sheet of the list
+with each theta that it tries.
 
 How the list is made.  The arithmetic below is written from document 01 alone (Records 4 to 6, the book of Record 5, both tables of
 refusals), one operation of a Python float, which is an IEEE double, at a time and in that document's orders.  It shares nothing with the
 proved code.  Where document 01 leaves the memory's order open, the layout is that of docs/DECISIONS.md, and sheet_list.py has the reading of
-a sheet and what load leaves.  The square root is math.sqrt, which rounds correctly; the logarithm is the whole-number definition of
-crates/logarithm/specs/Ln.antt, in Python's whole numbers.  Every NaN is the word 7ff8000000000000.  When an update is finished, the script
-holds the factor to the one that the Rust's order makes on a freshly loaded workspace.
+a sheet, what load leaves, and the sheets that load and replace_response are tried with.  The square root is math.sqrt, which rounds
+correctly; the logarithm is the whole-number definition of crates/logarithm/specs/Ln.antt, in Python's whole numbers.  Every NaN is the word
+7ff8000000000000.  When an update is finished, the script holds the factor to the one that the Rust's order makes on a freshly loaded workspace.
 
-A case is a workspace and a list of calls on it, each given what the last left.  After each call the answer, every number of the heading and
-every double are compared, bit for bit.  The list tells what a call must change; all else must be as it was.
+The list is lines of 16 lower-case hexadecimal digits, a word each.  Memory is 1,024 numbers of a heading and 8,192 doubles, numbered
+through; a call is lent the first of each.  A call is
 
-The list is lines of 16 lower-case hexadecimal digits, a word each.  A case is
-
-    ca5e0000 and the case's number, which counts from 1
-     0       the sheet's bytes
-     1, 2    the lengths of heading and doubles
-     3       how many calls follow
-     4       how many words hold the sheet
-     5 to 19 0
-    then     the sheet's bytes, eight to a word, the first highest, noughts behind; the heading's numbers and the doubles that load must
-             leave, the pattern behind them included
-
-and a call is
-
-    ca5e0000 and the call's number, which counts from 1 in each case
-     0       what is called: 1 begin, 2 S, 3 C, 4 T, 5 replace_response, 6 profile_deviance, 7 deviance_from_factor; 0 nothing, numbers and
-             doubles are altered, as a stranger to the calls may
-     1 to 3  the numbers of the step's name; 1 at 1 for REML
+     0       what is called: 1 begin, 2 S, 3 C, 4 T, 5 replace_response, 6 profile_deviance, 7 deviance_from_factor; 8 load, before which
+             memory is filled with a pattern; 0 nothing, numbers and doubles are altered, as a stranger to the calls may
+     1 to 3  the numbers of the step's name; 1 at 1 for REML; the sheet's bytes at 1 for load
      4 to 6  the lengths of the lists: theta, or Z'y, X'y, y'y
-     7, 8    the lengths of heading and doubles that are lent
-     9       how the answer stands: 0 accepted, 1 refused, 2 a value, 3 a refused pivot of profile_deviance, 4 no scale
-    10 to 12 the refusal's number and places; 26, block and row of that pivot
-    13       the value's word
-    14       how many numbers of the heading it must leave other than they were
-    15       how many words tell the doubles that it must leave other than they were
-    16       how many words the lists have
-    17 to 19 0
-    then     the lists; the changed numbers, index and number in the halves of a word; the changed doubles, index and then word
+     7, 8    how many numbers and doubles are lent
+     9       how many words follow
+    10, 11   from where to before where, counted from word 0, the words are lines any of which number 9 may name
+    then     the lists; or the sheet's bytes, eight to a word, the first highest, noughts behind, and those lines; or places and words by turns
+
+What is printed of a call: a line with word 0, how the answer stands (0 accepted, 1 refused, 2 a value, 3 a refused pivot of
+profile_deviance, 4 no scale), the refusal's number and places (0 for the first where it is one of the lines; 26, block and row of that
+pivot) and the value's word; then a line for each number and double that is other than before, with its place and its word.  An alteration has
+only the latter.
+
+The word 9 ends this part.  In the second the calls are on a workspace of 3 by 33,334 cells, one entry in each column, too large for a list: its
+heading and its loaded doubles follow a rule, and behind each call's line stands a sum over all numbers and doubles.
 """
 import math
 import os
@@ -60,10 +48,11 @@ import sys
 sys.path.insert(0, os.path.dirname(os.path.abspath(__file__)))
 import sheet_list
 
-HEAD = 20
+HEAD = 12
+NUMBERS, DOUBLES = 1024, 8192
 NAN = 0x7FF8000000000000
 TWO_PI = struct.unpack(">d", bytes.fromhex("401921fb54442d18"))[0]
-BEGIN, SUBTRACT, FACTOR, SOLVE, RESPONSE, PROFILE, DEVIANCE = range(1, 8)
+BEGIN, SUBTRACT, FACTOR, SOLVE, RESPONSE, PROFILE, DEVIANCE, LOAD, END = range(1, 10)
 ALTER = 0
 ACCEPTED, REFUSED, VALUE, PIVOT, NO_SCALE = range(5)
 
@@ -575,23 +564,72 @@ class Case:
         self.w.fill(words)
         return self.record(ALTER, (), (), self.room, YES)
 
-    def words(self):
-        text = [int.from_bytes(self.text[i:i + 8].ljust(8, b"\0"), "big") for i in range(0, len(self.text), 8)]
-        head = [len(self.text), *self.room, len(self.calls), len(text)]
-        out = head + [0] * (HEAD - len(head)) + text
-        out += self.fresh[0] + [sheet_list.PATTERN_U32] * 2 + self.fresh[1] + [sheet_list.PATTERN_F64] * 3
-        for number, c in enumerate(self.calls, 1):
-            how, places, value = c.answer
-            numbers = list(c.numbers) + [0] * (3 - len(c.numbers))
-            lengths = [len(l) for l in c.lists] + [0] * (3 - len(c.lists))
-            head = [c.kind, *numbers, *lengths, *c.lent, how, *places, value, len(c.heading), 2 * len(c.doubles), sum(lengths)]
-            out += [0xCA5E0000 << 32 | number] + head + [0] * (HEAD - len(head))
-            for l in c.lists:
-                out += l
-            out += [i << 32 | x for i, x in c.heading]
-            for i, x in c.doubles:
-                out += [i, x]
-        return out
+    def write(self, out):
+        out.load(self.text, self.room, (0, 0, 0))
+        out.left(dict(enumerate(self.fresh[0])), dict(enumerate(self.fresh[1])))
+        for c in self.calls:
+            if c.kind == ALTER:
+                out.alter(dict(c.heading), dict(c.doubles))
+            else:
+                out.call(c.kind, c.numbers, c.lists, c.lent, c.answer)
+            out.left(dict(c.heading), dict(c.doubles))
+
+
+class Output:
+    """The list, and what must be printed of it."""
+
+    def __init__(self):
+        self.words = []
+        self.lines = []
+        self.memory = []
+
+    def head(self, kind, numbers, lengths, lent, body, lines=()):
+        numbers, lengths = list(numbers), list(lengths)
+        numbers += [0] * (3 - len(numbers))
+        lengths += [0] * (3 - len(lengths))
+        end = HEAD + len(body)
+        self.words += [kind, *numbers, *lengths, *lent, len(body) + len(lines), end, end + len(lines), *body, *lines]
+
+    def answer(self, kind, how, places, value):
+        self.lines.append("%d %d %d %d %d %016x\n" % (kind, how, *places, value))
+
+    def load(self, text, room, answer, lines=()):
+        self.memory = [sheet_list.PATTERN_U32] * NUMBERS + [sheet_list.PATTERN_F64] * DOUBLES
+        body = [int.from_bytes(text[i:i + 8].ljust(8, b"\0"), "big") for i in range(0, len(text), 8)]
+        self.head(LOAD, [len(text)], [], room, body, lines)
+        number, first, second = answer
+        self.answer(LOAD, int(number != 0), (number, 0 if lines else first, second), 0)
+
+    def call(self, kind, numbers, lists, lent, answer):
+        self.head(kind, numbers, [len(l) for l in lists], lent, [x for l in lists for x in l])
+        self.answer(kind, *answer)
+
+    def alter(self, heading, doubles):
+        body = [x for i, w in heading.items() for x in (i, w)] + [x for i, w in doubles.items() for x in (NUMBERS + i, w)]
+        self.head(ALTER, [], [], (0, 0), body)
+
+    def left(self, heading, doubles):
+        """The numbers and doubles that the call, or the alteration, must leave so."""
+        for at, words in ((0, heading), (NUMBERS, doubles)):
+            for i in sorted(words):
+                if self.memory[at + i] != words[i]:
+                    self.memory[at + i] = words[i]
+                    self.lines.append("%d %016x\n" % (at + i, words[i]))
+
+
+def write_sheet(out, c):
+    """A case of sheet_list.py: load, and perhaps replace_response behind alterations of the heading."""
+    out.load(c.text, c.room, c.answer, c.lines)
+    out.left(dict(enumerate(c.heading)), dict(enumerate(c.doubles)))
+    if not c.after:
+        return
+    altered, n, d, lists, answer, changed = c.after
+    if altered:
+        out.alter(dict(altered), {})
+        out.left(dict(altered), {})
+    out.call(RESPONSE, (), lists, (n, d), YES if answer[0] == 0 else refusal(*answer))
+    accepted = answer[0] == 0
+    out.left({i: c.heading[i] for i in range(22, 69)} if accepted else {}, dict(changed))
 
 
 def bits(x):
@@ -975,48 +1013,24 @@ def cases():
     return out
 
 
-CALLS = ["load", "begin", "step", "replace_response", "profile_deviance", "deviance_from_factor"]
-
-
-def called(kind):
-    return {BEGIN: 1, SUBTRACT: 2, FACTOR: 2, SOLVE: 2, RESPONSE: 3, PROFILE: 4, DEVIANCE: 5}[kind]
-
-
-# rows of the report by the answer: a refusal's number, and these
-ROWS = {0: "accepted", 28: "value", 29: "pivot", 30: "no scale"}
-
-
-def answered(answer):
-    return {ACCEPTED: 0, REFUSED: answer[1][0], VALUE: 28, PIVOT: 29, NO_SCALE: 30}[answer[0]]
-
-
 def main():
-    if len(sys.argv) != 3:
+    if len(sys.argv) < 3:
         sys.exit(__doc__.split("\n\n")[1])
     if sys.argv[1] == "--pivots":
         return print_pivots(sys.argv[2])
-    if sys.argv[1] == "--large":
-        return large(sys.argv[2])
     if sys.argv[1] == "--original":
         return compare(sys.argv[2])
-    all_cases = cases()
+    out = Output()
+    for c in sheet_list.cases(sys.argv[3:]):
+        write_sheet(out, c)
+    for c in cases():
+        c.write(out)
+    out.words.append(END)
+    large(out)
     with open(sys.argv[1], "w") as f:
-        for number, c in enumerate(all_cases, 1):
-            for w in [0xCA5E0000 << 32 | number] + c.words():
-                f.write("%016x\n" % w)
-    calls = [x for c in all_cases for x in c.calls if x.kind != ALTER]
-    by_call, by_answer = [len(all_cases)] + [0] * 5, [len(all_cases)] + [0] * 31
-    for x in calls:
-        by_call[called(x.kind)] += 1
-        by_answer[answered(x.answer)] += 1
+        f.writelines("%016x\n" % w for w in out.words)
     with open(sys.argv[2], "w") as f:
-        for name, n in zip(CALLS, by_call):
-            f.write("%s %d of %d\n" % (name, n, n))
-        for row, n in enumerate(by_answer):
-            if n:
-                f.write("%s %d of %d\n" % (ROWS.get(row, "refused %d:" % row), n, n))
-        n = len(calls) + len(all_cases)
-        f.write("calls %d of %d\nall agree\n" % (n, n))
+        f.writelines(out.lines)
 
 
 def pivots(w, theta):
@@ -1084,8 +1098,8 @@ def compare(driver):
     print("deviances %d: %d bit for bit" % (values, equal))
 
 
-def large(path):
-    """3 by 33,334 cells, one entry in each column: the calls of large_calls."""
+def large(out):
+    """3 by 33,334 cells, one entry in each column."""
     m0 = 33334
     q = m0 + 3
 
@@ -1112,24 +1126,23 @@ def large(path):
         return s
 
     theta = [bits(0.5), bits(0.25)]
-    lines = []
 
-    def line(name, answer):
-        how, places, value = answer
-        lines.append("%s %d %d %d %d %d %d\n" % (name, how, *places, value, total()))
+    def line(kind, answer, numbers=(), lists=()):
+        out.call(kind, numbers, lists, (0, 0), answer)
+        out.lines.append(" %016x\n" % total())
 
-    line("begin", w.call_begin(theta))
+    line(BEGIN, w.call_begin(theta), (), [theta])
     for s in (solving(1, 0), cholesky(0), solving(2, 0), subtraction(2, 2, 0), solving(1, 0), subtraction(2, 1, 0), subtraction(2, 1, 0), subtraction(1, 1, 0),
               cholesky(1), solving(2, 1), subtraction(2, 2, 1), cholesky(2)):
-        line("step", w.call_step(s))
-    for reml in (False, True):
-        line("deviance_from_factor", w.call_deviance(reml))
-    line("profile_deviance", w.call_profile(theta, False))
-    line("profile_deviance", w.call_profile([bits(1e200), bits(0.5)], True))
-    line("replace_response", w.call_response([[bits(fraction(i) - 8.0) for i in range(q)], [bits(5.0)], [bits(1.0)]]))
-    line("profile_deviance", w.call_profile(theta, True))
-    with open(path, "w") as f:
-        f.writelines(lines)
+        line(s[0], w.call_step(s), s[1:])
+    for reml in (0, 1):
+        line(DEVIANCE, w.call_deviance(reml), (reml,))
+    line(PROFILE, w.call_profile(theta, 0), (0,), [theta])
+    wide = [bits(1e200), bits(0.5)]
+    line(PROFILE, w.call_profile(wide, 1), (1,), [wide])
+    response = [[bits(fraction(i) - 8.0) for i in range(q)], [bits(5.0)], [bits(1.0)]]
+    line(RESPONSE, w.call_response(response), (), response)
+    line(PROFILE, w.call_profile(theta, 1), (1,), [theta])
 
 
 if __name__ == "__main__":

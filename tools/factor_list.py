@@ -1,15 +1,15 @@
 #!/usr/bin/env python3
 """Writes the test inputs of the program `factor`, each with what it must print.
 
-    factor_list.py LIST STDOUT
+    factor_list.py STDIN STDOUT
     factor_list.py --original DRIVER
     factor_list.py --run PROGRAM
     factor_list.py --print INPUT
 
-LIST gets the cases, and STDOUT what a program that checks them must write where every case agrees.  The second form holds the pivots, and
-the refused pivots' places, of every case to the Rust original's driver; it names those that differ because the original leaves out a diagonal
-subtraction, and ends with 1 where another differs.  The third form gives each input to PROGRAM and compares.  The last form prints what
-`factor` must print for one input.
+STDIN gets the inputs, which the program `factors` reads, and STDOUT what that program must print: for each input a line with its number, and
+then what `factor` must print.  The second form holds the pivots, and the refused pivots' places, of every case to the Rust original's driver; it
+names those that differ because the original leaves out a diagonal subtraction, and ends with 1 where another differs.  The third form gives each
+input to PROGRAM and compares.  The last form prints what `factor` must print for one input.
 
 How the list is made.  `factor` below is written from document 01 alone ("Worked sheets"; the readings are those of docs/DECISIONS.md), on
 sheet_list.py, which has Records 1 to 3 and the refusals 1 to 12 of a load, and on call_list.py, which has Record 4, one operation of a
@@ -22,17 +22,15 @@ The stored list was held to the Rust original: of its 565 inputs without another
 pivot, bit for bit; seven differ, all with a diagonal block 1, where the original's `rank_sub_diagonal` leaves out S(1,1,0) (a difference that
 docs/DIFFERENCES.md lists), and they are the original's pivots once `Original` below leaves it out too.
 
-Number 9 names one faulty line of the sheet's: where there are several, there is an output for each, and one of them must be printed.
+Number 9 names one faulty line of the sheet's: where there are several, a text for each is behind the input, and if one of them is printed, the
+program prints `one of` and how many they are in its place.
 
-The list is lines of 16 lower-case hexadecimal digits, a word each.  A case is
+STDIN is lines of 16 lower-case hexadecimal digits, a word each.  A case is
 
-    ca5e0000 and the case's number, which counts from 1
-     0       how many bytes of the case before begin this input too
-     1       how many bytes follow them
-     2, 3    a byte that follows those, and how often
-     4       the refusal's number, 0 where pivots are printed
-     5 to 19 the bytes of each output that serves, 0 where there is none more
-    then     the bytes of 1, eight to a word, the first highest, noughts behind; each output's bytes likewise
+    how many bytes of the input before begin this input too
+    where this input ends, how many words follow, and the words: its bytes behind those, eight to a word, the first highest; the last word is
+             taken over and over to the end
+    the texts, where there are several, in the same form: 32 bytes for each, noughts behind; else 0 and 0
 """
 import os
 import random
@@ -47,7 +45,8 @@ from call_list import pair, sheet, simulated, wild
 from sheet_list import Refused, bits, join, symmetric
 
 BYTES, DOUBLES = 32768, 4096
-HEAD, OUTPUTS = 20, 15
+# as the program has them: the bytes of the longest input, of each text where several serve, and of all these texts
+ROOM, PLACE, TEXTS = 65536, 32, 512
 
 
 # ---- what the program must print
@@ -123,23 +122,29 @@ def pivots(own, theta, arithmetic):
 # ---- cases
 
 class Case:
-    """An input: the stored bytes, and a byte behind them so many times."""
+    """An input: the given bytes, and a byte behind them so many times."""
 
-    def __init__(self, stored, byte=0, times=0):
-        self.stored, self.byte, self.times = stored, byte, times
-        self.text = stored + bytes([byte]) * times
+    def __init__(self, given, byte=0, times=0):
+        self.text = given + bytes([byte]) * times
         self.number, self.outputs = factor(self.text)
 
     def words(self, before):
-        """The case's words, where the case before has this input."""
-        assert len(self.outputs) <= OUTPUTS and all(self.outputs)
-        kept = len(os.path.commonprefix([before, self.stored]))
-        stored = self.stored[kept:]
-        head = [kept, len(stored), self.byte, self.times, self.number] + [len(o) for o in self.outputs]
-        out = head + [0] * (HEAD - len(head))
-        for text in [stored] + self.outputs:
-            out += [int.from_bytes(text[i:i + 8].ljust(8, b"\0"), "big") for i in range(0, len(text), 8)]
-        return out
+        """The case's words, where `before` is the input of the case before."""
+        kept = len(os.path.commonprefix([before, self.text]))
+        texts = self.outputs if len(self.outputs) > 1 else []
+        assert len(self.text) <= ROOM and all(len(o) < PLACE for o in texts) and len(texts) * PLACE <= TEXTS
+        return [kept] + packed(self.text, kept) + packed(b"".join(o.ljust(PLACE, b"\0") for o in texts), 0)
+
+
+def packed(text, kept):
+    """Where a text ends, how many words it has behind its first `kept` bytes, and the words."""
+    words = [text[i:i + 8] for i in range(kept, len(text), 8)]
+    if words:
+        filler = words[-2] if len(words) > 1 else b"\0" * 8
+        words[-1] += filler[len(words[-1]):]
+    while len(words) > 1 and words[-1] == words[-2]:
+        words.pop()
+    return [len(text), len(words)] + [int.from_bytes(w, "big") for w in words]
 
 
 def theta_lines(theta):
@@ -413,23 +418,14 @@ class Original(call_list.Workspace):
         super().subtract(i, j, h)
 
 
-def write(path, stdout):
-    all_cases = cases()
+def write(stdin, stdout):
     before = b""
-    with open(path, "w") as f:
-        for number, c in enumerate(all_cases, 1):
-            for w in [0xCA5E0000 << 32 | number] + c.words(before):
-                f.write("%016x\n" % w)
+    with open(stdin, "w") as f, open(stdout, "wb") as told:
+        for number, c in enumerate(cases(), 1):
+            f.writelines("%016x\n" % w for w in c.words(before))
             before = c.text
-    by = {}
-    for c in all_cases:
-        by[c.number] = by.get(c.number, 0) + 1
-    with open(stdout, "w") as f:
-        for number in sorted(by):
-            name = "refused %d" % number if number else "pivots"
-            f.write("%s: %d of %d\n" % (name, by[number], by[number]))
-        n = len(all_cases)
-        f.write("inputs %d of %d\nall agree\n" % (n, n))
+            told.write(b"input %d\n" % number)
+            told.write(b"one of %d\n" % len(c.outputs) if len(c.outputs) > 1 else c.outputs[0])
 
 
 def replay(program):

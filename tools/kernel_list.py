@@ -1,9 +1,9 @@
 #!/usr/bin/env python3
 """Writes the test vectors of the kernels.
 
-    kernel_list.py LIST [STDOUT]
+    kernel_list.py STDIN STDOUT
 
-LIST gets the cases, and STDOUT what a program that checks them must write where every case agrees.
+STDIN gets the cases that the program `kernels` reads, and STDOUT what it must print of them.
 
 How the list is made.  Written from document 01, Records 4 and 7, with Python's doubles, which are IEEE 754's, one operation at a time in the
 paper's order; no line of it comes from the kernels or from the definitions that they are proved equal to.  A root is math.sqrt.  The
@@ -11,23 +11,28 @@ logarithm is the project's whole-number one (crates/logarithm/specs/Ln.antt), wo
 
 A case is a kernel's number, its whole-number arguments, two doubles, the lists w and v of doubles and h of row numbers, and what the kernel
 must leave and answer.  The kernel works on w; v is only read.  Blocks lie in the middle of the lists with other doubles before, between and
-behind them, and the whole of w is compared.  A dense block lies by columns, cell (r, c) at its offset + c * rows + r, a triangle by rows.
+behind them, and the whole of w is printed.  A kernel that takes no offset is lent the lists from its blocks on.  A dense block lies by
+columns, cell (r, c) at its offset + c * rows + r, a triangle by rows.
 
 Numbers are drawn by a fixed generator, so the list is the same at each run: numbers of ordinary size, of far apart magnitudes, with many
 zeros of either sign, subnormal ones, and with infinities and NaN among them.  Sizes are 1 to 7 in each direction, a few times 0, and 9, 12,
 16, 37, 21 and 13, with a few blocks of 60 and 316 rows and a diagonal of 8200.
 
-The list is lines of 16 lower-case hexadecimal digits, a word each:
+STDIN is lines of 16 lower-case hexadecimal digits, a word each.  A case is
 
-    ca5e0000 and the case's number, which counts from 1
-     0       the kernel's number, its place in KERNELS
-     1 to 8  its whole-number arguments in their order, 0 where it has fewer
+     0       its number, which counts from 1
+     1       the kernel's number, its place in KERNELS
+     2 to 8  its whole-number arguments in their order, 0 where it has fewer
      9, 10   its doubles, 0 where it has fewer
-    11, 12   its answer: a refused pivot's row, counted from 1, and a double; 0 where it has none
-    13, 14   where the doubles of w begin that are not compared, and how many: the block of a refused C
-    15, 16   where the words begin that the kernel changes, and how many
-    17 to 19 the lengths of w, v and h
-    then     w, v and h, and the words that the kernel puts in the place of the changed ones
+    11, 12   where w and v begin for the kernel
+    13, 14   where the doubles of w begin that are not printed, and how many: the block of a refused C
+    15 to 17 the lengths of w, v and h
+    18       their sum
+    then     w, v and h
+
+STDOUT has a line for each case, with its number, the kernel's number and the word of the answer: a refused pivot's row, counted from 1, or
+the word of the double that it answers, and 0 where it answers neither.  Then comes a line for each double that the kernel leaves in w, but
+those that are not printed: its word.  Each number and each word has a blank before it.
 
 Every NaN is the word 7ff8000000000000.
 """
@@ -37,7 +42,7 @@ import struct
 import sys
 
 NAN, INF = math.nan, math.inf
-HEAD = 20
+HEAD = 19
 
 
 def word(x):
@@ -232,15 +237,23 @@ class Case:
         self.w, self.after, self.numbers, self.v, self.h = w, after, numbers, v, h
         self.s, self.t, self.row, self.value, self.free = s, t, row, value, free
 
-    def words(self, kernel):
-        before, after = [word(x) for x in self.w], [word(x) for x in self.after]
-        assert len(before) == len(after) <= 8704 and len(self.v) <= 4096 and len(self.h) <= 1024 and len(self.numbers) <= 8
-        moved = [i for i, (x, y) in enumerate(zip(before, after)) if x != y]
-        at, end = (moved[0], moved[-1] + 1) if moved else (0, 0)
-        head = [kernel, *self.numbers, *[0] * (8 - len(self.numbers)), word(self.s), word(self.t), self.row, word(self.value), *self.free]
-        head += [at, end - at, len(before), len(self.v), len(self.h)]
+    def words(self, number, kernel):
+        """The case's lines of STDIN."""
+        assert len(self.w) <= 8704 and len(self.v) <= 8704 and len(self.h) <= 1024 and len(self.numbers) <= 7
+        k = LENT.get(KERNELS[kernel][0], 0)
+        lent, given = self.numbers[:k], self.numbers[k:]
+        head = [number, kernel, *given, *[0] * (7 - len(given)), word(self.s), word(self.t), *lent, *[0] * (2 - k)]
+        lists = [word(x) for x in self.w] + [word(x) for x in self.v] + list(self.h)
+        head += [*self.free, len(self.w), len(self.v), len(self.h), len(lists)]
         assert len(head) == HEAD
-        return head + before + [word(x) for x in self.v] + list(self.h) + after[at:end]
+        return head + lists
+
+    def printed(self, number, kernel):
+        """The case's lines of STDOUT."""
+        assert len(self.w) == len(self.after) and not (self.row and word(self.value))
+        at, n = self.free
+        yield f" {number} {kernel} {self.row or word(self.value):016x}\n"
+        yield from (f" {word(x):016x}\n" for i, x in enumerate(self.after) if not at <= i < at + n)
 
 
 # ---- sizes
@@ -588,6 +601,19 @@ KERNELS = [
 ]
 
 
+# How many of the first numbers of a case say where w and v begin, for the kernels that take no offset.
+LENT = {
+    "cholesky::chol": 1,
+    "diagonal_chol::chol_diagonal": 1,
+    "pivot_logs::log_pivots": 1,
+    "pivot_logs::log_diagonal": 1,
+    "substitution::solve_row": 2,
+    "back_substitution::backward": 2,
+    "triangle_cells::get": 1,
+    "triangle_cells::set": 1,
+}
+
+
 # The draws of these kernels are named after the crate that first held them, so that the list stays as it was.
 FIRST_NAMES = {
     "matvec_t::less_product_t": "matvec::less_product_t",
@@ -621,20 +647,17 @@ def draws_of(name):
 
 
 def main(arguments):
-    if len(arguments) not in (1, 2):
+    if len(arguments) != 2:
         sys.exit(__doc__)
-    lines, report, count = [], [], 0
-    for kernel, (name, cases) in enumerate(KERNELS):
-        seen = 0
-        for case in cases(draws_of(name)):
-            count, seen = count + 1, seen + 1
-            lines += [f"ca5e0000{count:08x}\n", *(f"{x:016x}\n" for x in case.words(kernel))]
-        report.append(f"{name} {seen} of {seen}\n")
-    with open(arguments[0], "w", encoding="ascii", newline="\n") as out:
-        out.writelines(lines)
-    if len(arguments) == 2:
-        with open(arguments[1], "w", encoding="ascii", newline="\n") as out:
-            out.writelines([*report, f"kernels {count} of {count}\n", "0 out of form\n", "all agree\n"])
+    cases, printed, number = [], [], 0
+    for kernel, (name, made) in enumerate(KERNELS):
+        for case in made(draws_of(name)):
+            number += 1
+            cases += [f"{x:016x}\n" for x in case.words(number, kernel)]
+            printed += case.printed(number, kernel)
+    for path, lines in zip(arguments, (cases, printed), strict=True):
+        with open(path, "w", encoding="ascii", newline="\n") as out:
+            out.writelines(lines)
 
 
 main(sys.argv[1:])

@@ -1,9 +1,10 @@
 #!/usr/bin/env python3
 """Writes the test vectors of the square root and the natural logarithm.
 
-    number_list.py LIST [STDOUT]
+    number_list.py STDIN STDOUT
 
-LIST gets the vectors, and STDOUT what a program that checks them must write where every record agrees.
+STDIN gets the vectors, and STDOUT what the program `numbers` must print where every vector agrees: a line for each group, with the group's number and
+how many vectors it has.
 
 How the list is made.  A double is its 64-bit word, and every number here is a whole number or a fraction of whole numbers: no
 floating-point operation of this machine makes an x or an expected value, and nothing of the project's own code is used.
@@ -18,18 +19,18 @@ floating-point operation of this machine makes an x or an expected value, and no
 
 Both functions have the same x, in these groups:
 
-    s special     zeros, infinities, NaNs, negative numbers, and the ends of the normal and subnormal ranges
-    p power       every power of two, 2^-1074 to 2^1023
-    o one         1, the 128 doubles on either side of it, and 1 plus or minus 2^-j
-    u subnormal   small and large ones, those beside a power of two, and random ones of every length
-    l largest     the largest double and those below it, and the last doubles before a power of two
-    q square      exact squares and the doubles beside them; the doubles beside the square of a midpoint between two doubles; and those
+    special       zeros, infinities, NaNs, negative numbers, and the ends of the normal and subnormal ranges
+    power         every power of two, 2^-1074 to 2^1023
+    one           1, the 128 doubles on either side of it, and 1 plus or minus 2^-j
+    subnormal     small and large ones, those beside a power of two, and random ones of every length
+    largest       the largest double and those below it, and the last doubles before a power of two
+    square        exact squares and the doubles beside them; the doubles beside the square of a midpoint between two doubles; and those
                   that lie nearest of all to such a square, found by square roots modulo a power of two
-    r random      a random significand at every exponent, random words, and random numbers from 0 to 1,000,000
+    random        a random significand at every exponent, random words, and random numbers from 0 to 1,000,000
 
-A record is a line of 55 bytes, its fields parted by tabs: s for sqrt or l for ln, the group's letter, x, lower, upper.  Words have 16
-lower-case hexadecimal digits.  Of a square root lower and upper are the one expected word.  The random numbers have a fixed seed, so
-the list is the same at each run.
+The list is lines of 16 lower-case hexadecimal digits, a word each.  A vector is four words: the group's number, 0 to 6 in the order above for the
+square root and 7 to 13 for the logarithm; x; lower; upper.  Of a square root lower and upper are the one expected word.  The random numbers
+have a fixed seed, so the list is the same at each run.
 """
 import math
 import random
@@ -44,9 +45,6 @@ NAN = 0x7FF8000000000000
 SIGN = 0x8000000000000000
 MIN_NORMAL = 0x0010000000000000
 MAX = INFINITY - 1
-
-GROUPS = ["special", "power", "one", "subnormal", "largest", "square", "random"]
-LETTERS = dict(zip(GROUPS, "spoulqr"))
 
 rng = random.Random("sqrt and ln")
 
@@ -261,24 +259,19 @@ MAKERS = [special, power, one, subnormal, largest, square, random_words]
 
 
 def main(arguments):
-    if len(arguments) not in (1, 2):
-        sys.exit(__doc__)
-    groups = {name: list(dict.fromkeys(make())) for name, make in zip(GROUPS, MAKERS)}
-    lines, report, totals = [], [], []
-    for name, letter, expected in [("sqrt", "s", lambda x: (sqrt(x),) * 2), ("ln", "l", ln)]:
-        for group, words in groups.items():
-            for x in words:
-                low, high = expected(x)
-                lines.append(f"{letter}\t{LETTERS[group]}\t{x:016x}\t{low:016x}\t{high:016x}\n")
-            report.append(f"{name} {group} {len(words)} of {len(words)}\n")
-        count = sum(map(len, groups.values()))
-        totals.append(f"{name} {count} of {count}\n")
-    assert all(len(line) == 55 for line in lines)
+    if len(arguments) != 2:
+        sys.exit(__doc__.split("\n\n")[1])
+    groups = [list(dict.fromkeys(make())) for make in MAKERS]
+    words, report = [], []
+    for expected in (lambda x: (sqrt(x),) * 2, ln):
+        for group in groups:
+            for x in group:
+                words += [len(report), x, *expected(x)]
+            report.append(f"{len(report)} {len(group)}\n")
     with open(arguments[0], "w", encoding="ascii", newline="\n") as out:
-        out.writelines(lines)
-    if len(arguments) == 2:
-        with open(arguments[1], "w", encoding="ascii", newline="\n") as out:
-            out.writelines(report + totals + ["all agree\n"])
+        out.writelines(f"{w:016x}\n" for w in words)
+    with open(arguments[1], "w", encoding="ascii", newline="\n") as out:
+        out.writelines(report)
 
 
 main(sys.argv[1:])

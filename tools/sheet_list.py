@@ -1,16 +1,16 @@
 #!/usr/bin/env python3
-"""Writes the test sheets of load and replace_response.
+"""The test sheets of load and replace_response, for call_list.py.
 
-    sheet_list.py LIST STDOUT [ACCEPTED...]
     sheet_list.py --loaded SHEET OUT
 
-LIST gets the cases, and STDOUT what a program that checks them must write where every case agrees.  ACCEPTED are files with a sheet and its
-theta lines, as the generator of the Rust original makes them; each becomes a case that must load.  The second form writes what load must
-leave of one such file: the counts of numbers and of doubles, the numbers and the doubles, all lowest byte first.
-The stored list was made with eight of them: `gen.py` with 12,7 2 40 1 crossed; 20,5 3 60 2 nested; 5,20 2 60 3 nested; 9,9,4 2 50 4 crossed;
-6 1 20 5 crossed; 40,30,20 3 60 6 crossed; 3,2,2,1,1,1,1,1 1 30 7 crossed; 15,15 4 80 8 crossed --exact.
+writes what load must leave of a file with a sheet and its theta lines: the counts of numbers and of doubles, the numbers and the
+doubles, all lowest byte first.
 
-How the list is made.  `read`, `judge`, `lay` and `load` below are written from document 01 alone (Records 1 to 3, "Refused because of the
+The stored list of call_list.py was made with eight sheets of the Rust original's generator beside those that are written here: `gen.py` with
+12,7 2 40 1 crossed; 20,5 3 60 2 nested; 5,20 2 60 3 nested; 9,9,4 2 50 4 crossed; 6 1 20 5 crossed; 40,30,20 3 60 6 crossed;
+3,2,2,1,1,1,1,1 1 30 7 crossed; 15,15 4 80 8 crossed --exact.
+
+How the cases are made.  `read`, `judge`, `lay` and `load` below are written from document 01 alone (Records 1 to 3, "Refused because of the
 input", number 20), as it reads: whole lines, split at tabs, dictionaries for the entries.  They share nothing with the proved reader.  Where
 document 01 leaves the memory's order open, docs/DECISIONS.md has it (points 22 to 24).  The sheets are written here: a few whole ones, and from
 them, line by line and field by field, damaged ones.
@@ -18,30 +18,12 @@ them, line by line and field by field, damaged ones.
 A case: a sheet, the lengths of the heading and of the doubles that load is lent, and what load must answer and leave.  The lists are filled
 with a pattern before, and a refused call must leave it.  An accepted one may go on: numbers of the heading are altered, both
 slices are cut, and replace_response is called with three lists; what it must answer and leave follows.
-
-The list is lines of 16 lower-case hexadecimal digits, a word each:
-
-    ca5e0000 and the case's number, which counts from 1
-     0       the sheet's bytes
-     1, 2    the lengths of heading and doubles
-     3 to 5  load's answer: number and places, 0 where it accepts
-     6       how many lines serve as the first place (number 9), 0 where places 4 and 5 are meant as they stand
-     7, 8    how many numbers of the heading and doubles an accepted load writes
-     9       1 where replace_response is called after load, else 0
-    10       how many numbers of the heading are altered before that call
-    11, 12   the lengths of heading and doubles lent to it
-    13 to 15 the lengths of its three lists
-    16 to 18 its answer
-    19       how many doubles it must leave other than they were
-    then     the sheet's bytes, eight to a word, the first highest, noughts behind; the lines of 6; the heading's numbers; the doubles;
-             the alterations, index and number in the halves of a word; the lists; the changed doubles, index and then word
 """
 import random
 import re
 import struct
 import sys
 
-HEAD = 20
 NUMBER = re.compile(rb"(0|[1-9][0-9]*)\Z")
 WORD = re.compile(rb"[0-9a-f]{16}\Z")
 PATTERN_U32 = 0xA5A5A5A5
@@ -314,20 +296,6 @@ class Case:
         self.after = (list(altered), n, d, lists, answer, changed)
         return self
 
-    def words(self):
-        after = self.after or ([], 0, 0, ([], [], []), (0, 0, 0), [])
-        altered, n, d, lists, answer, changed = after
-        head = [len(self.text), *self.room, *self.answer, len(self.lines), len(self.heading), len(self.doubles),
-                int(self.after is not None), len(altered), n, d, *[len(l) for l in lists], *answer, len(changed)]
-        assert len(head) == HEAD
-        body = [int.from_bytes(self.text[i:i + 8].ljust(8, b"\0"), "big") for i in range(0, len(self.text), 8)]
-        body += self.lines + self.heading + self.doubles + [i << 32 | x for i, x in altered]
-        for l in lists:
-            body += l
-        for i, w in changed:
-            body += [i, w]
-        return head + body
-
 
 def bits(x):
     return struct.unpack(">Q", struct.pack(">d", x))[0]
@@ -587,27 +555,9 @@ def loaded(path, out):
 
 
 def main():
-    if len(sys.argv) < 3:
+    if len(sys.argv) != 4 or sys.argv[1] != "--loaded":
         sys.exit(__doc__.split("\n\n")[1])
-    if sys.argv[1] == "--loaded":
-        return loaded(sys.argv[2], sys.argv[3])
-    all_cases = cases(sys.argv[3:])
-    with open(sys.argv[1], "w") as f:
-        for number, c in enumerate(all_cases, 1):
-            for w in [0xCA5E0000 << 32 | number] + c.words():
-                f.write("%016x\n" % w)
-    by = {}
-    responses = {}
-    for c in all_cases:
-        by[c.answer[0]] = by.get(c.answer[0], 0) + 1
-        if c.after:
-            responses[c.after[4][0]] = responses.get(c.after[4][0], 0) + 1
-    with open(sys.argv[2], "w") as f:
-        for name, counts in (("load", by), ("replace_response", responses)):
-            for number in sorted(counts):
-                f.write("%s %d: %d of %d\n" % (name, number, counts[number], counts[number]))
-        n = len(all_cases)
-        f.write("sheets %d of %d\nall agree\n" % (n, n))
+    loaded(sys.argv[2], sys.argv[3])
 
 
 if __name__ == "__main__":

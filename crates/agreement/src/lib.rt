@@ -1,21 +1,9 @@
 // Whether an answer agrees with a listed one: it lies between two words, NaN being one value.
 ghost use mathlib.Core.Path.{_≡_};
 ghost use Prim.Native.Nat.{_<_};
-ghost use lib.Ieee.{binary64, toBits};
-ghost use Rattle.vector_list.specs.Words.{agreesOf};
-ghost use Rattle.vector_list.specs.Words.{rank as rankOf};
-use vector_list::NAN;
-use vector_list::SIGN;
-
-// The word of a double, of a NaN always the same one.
-fn word_of(x: f64) -> u64
-    ensures { λ r. ⌜ r ≡ toBits binary64 x ⌝ }
-{
-    if x != x {
-        return NAN;
-    }
-    f64::to_bits(x)
-}
+ghost use Rattle.words.specs.Words.{agreesOf};
+ghost use Rattle.words.specs.Words.{rank as rankOf};
+use words::SIGN;
 
 // A word's place in the order of doubles.
 fn rank(w: u64) -> u64
@@ -31,6 +19,6 @@ fn rank(w: u64) -> u64
 pub fn agrees(lower: u64, upper: u64, r: f64) -> bool
     ensures { λ a. ⌜ a ≡ agreesOf lower upper r ⌝ }
 {
-    let w = rank(word_of(r));
+    let w = rank(words::word_of(r));
     (rank(lower) <= w) & (w <= rank(upper))
 }

@@ -1,4 +1,4 @@
-// A case of the list of calls, and a call of it: where the parts of a body lie, what memory must hold, and the report.
+// A call of the list of calls (tools/call_list.py): what memory holds before it, and what the program prints of its answer and of every number
+// and double that it leaves other than it was.
 pub mod memory;
-pub mod parts;
-pub mod report;
+pub mod told;

@@ -1,54 +1,111 @@
-// What memory must hold: the heading's numbers in a list of their own, the doubles as words behind the room of a body.
-ghost use Prim.Native.Nat.{_+_, _≤_};
-ghost use lib.ListN.{length};
-ghost use Rattle.call_list.specs.Laid.{Laid};
-use super::parts;
-use super::parts::Parts;
-use case_calls::lists;
+// Memory, numbered through: the 1,024 numbers of a heading, then 8,192 doubles.
+ghost use Prim.Native.Nat.{_<_};
+use libc::STDOUT_FILENO;
 
-// The n doubles from the word `from` of a body on are those that memory must hold.
-pub fn expect_doubles(words: &mut [u64], from: usize, n: usize)
-    requires { ⌜ (from + n ≤ 32768) × (32768 + n ≤ length (now words)) ⌝ }
+// The words of a call's head. Its body stands behind it.
+pub const HEAD: usize = 12;
+
+// Where m has each number and double as it was before a call, behind the room of a body.
+const BEFORE: usize = 56320;
+
+// What stands in numbers and doubles that no call has written.
+fn pattern(i: usize) -> u64 {
+    if i < 1024 {
+        return 0xa5a5a5a5;
+    }
+    0x4045abcdef012345
+}
+
+fn wide(x: u32) -> u64 {
+    x as u64
+}
+
+// Number or double i as a word.
+fn word_at(h: &[u32; 1024], w: &[f64; 8192], i: usize) -> u64
+    requires { ⌜ i < 9216 ⌝ }
 {
+    if i < 1024 {
+        return wide(h[i]);
+    }
+    words::word_of(w[i - 1024])
+}
+
+// Puts a word into number or double i, if there is one.
+fn put(h: &mut [u32; 1024], w: &mut [f64; 8192], i: usize, x: u64) {
+    if i < 1024 {
+        h[i] = (x % 0x100000000) as u32;
+        return;
+    }
+    if i < 9216 {
+        w[i - 1024] = words::double(x);
+    }
+}
+
+// Memory that no call has written.
+pub fn reset(m: &mut [u64; 65536], h: &mut [u32; 1024], w: &mut [f64; 8192]) {
     let mut i: usize = 0;
-    while i < n {
-        words[parts::ROOM + i] = words[from + i];
+    while i < 9216 {
+        let x = pattern(i);
+        put(h, w, i, x);
+        m[BEFORE + i] = x;
         i += 1;
     }
 }
 
-// What load must leave, by a case's body: numbers in e, as many doubles as w has behind the room.
-pub fn expect_loaded(p: Parts, words: &mut [u64], e: &mut [u32])
-    requires { ⌜ Laid p × (65536 ≤ length (now words)) ⌝ }
-{
-    lists::fill_numbers(e, 0, e.len(), words, p.numbers, p.doubles - p.numbers);
-    expect_doubles(words, p.doubles, p.end - p.doubles);
+// What a stranger to the calls writes: places and words by turns, as the body has them.
+pub fn alter(m: &[u64; 65536], h: &mut [u32; 1024], w: &mut [f64; 8192]) {
+    let end = HEAD + word_list::size(m[9], 40960);
+    let mut i = HEAD;
+    while i < end {
+        put(h, w, word_list::size(m[i], 9216), m[i + 1]);
+        i += 2;
+    }
 }
 
-// What a call must leave other than it was, by its body; n is how many doubles there are. Whether each index is one of the lists'.
-pub fn expect_changes(p: Parts, words: &mut [u64], e: &mut [u32], n: usize) -> bool
-    requires { ⌜ Laid p × (32768 + n ≤ length (now words)) ⌝ }
-{
-    let numbers = lists::alter(e, words, p.numbers, p.doubles - p.numbers);
-    let doubles = lists::change(words, parts::ROOM, n, p.doubles, p.end);
-    numbers & doubles
+// A line for each number and double that is other than before: its place and its word.
+pub fn print_changes(m: &mut [u64; 65536], h: &[u32; 1024], w: &[f64; 8192]) {
+    let mut i: usize = 0;
+    while i < 9216 {
+        let x = word_at(h, w, i);
+        if m[BEFORE + i] != x {
+            io::print_decimal(STDOUT_FILENO, i as u64);
+            word_list::print_word(x);
+        }
+        m[BEFORE + i] = x;
+        i += 1;
+    }
 }
 
-// Whether heading and doubles are what they must be.
-pub fn is_expected(words: &[u64], h: &[u32], w: &[f64], e: &[u32]) -> bool
-    requires { ⌜ 32768 + length (now w) ≤ length (now words) ⌝ }
-{
-    let numbers = lists::same_numbers(h, e);
-    let doubles = lists::same_doubles(w, words, parts::ROOM, w.len());
-    numbers & doubles
+// Word i of the body.
+fn body(m: &[u64; 65536], i: usize) -> u64 {
+    if i < 56308 {
+        return m[HEAD + i];
+    }
+    0
 }
 
-// A stranger's alterations, by the body: heading and doubles become what they must be. Whether each index is one of the lists'.
-pub fn alter(p: Parts, words: &mut [u64], h: &mut [u32], w: &mut [f64], e: &mut [u32]) -> bool
-    requires { ⌜ Laid p × (32768 + length (now w) ≤ length (now words)) ⌝ }
+// The doubles of a call's lists, one list behind the other.
+pub fn fill_doubles(l: &mut [f64], m: &[u64; 65536]) {
+    let n = word_list::size(m[9], l.len());
+    let mut i: usize = 0;
+    while i < n {
+        l[i] = words::double(body(m, i));
+        i += 1;
+    }
+}
+
+// Byte k of a word, from the highest on.
+fn byte(word: u64, k: usize) -> u8
+    requires { ⌜ k < 8 ⌝ }
 {
-    let known = expect_changes(p, words, e, w.len());
-    let numbers = lists::alter(h, words, p.numbers, p.doubles - p.numbers);
-    lists::fill_doubles(w, words, parts::ROOM, w.len());
-    known & numbers
+    ((word >> (56 - 8 * k)) % 256) as u8
+}
+
+// The bytes of a sheet, eight to a word.
+pub fn fill_bytes(s: &mut [u8], m: &[u64; 65536]) {
+    let mut i: usize = 0;
+    while i < s.len() {
+        s[i] = byte(body(m, i / 8), i % 8);
+        i += 1;
+    }
 }

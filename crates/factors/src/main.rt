@@ -1,77 +1,92 @@
-// Replays the list of inputs factors.txt through `factor`, holds what it prints to the list, byte for byte, and prints how many agree.
+// Gives each input of the list on standard input to `factor`, and prints a line with the input's number and then what `factor` printed, byte for byte.
+// Where the list has several texts of which any serves, and one of them is what was printed, it prints how many they are instead. tools/factor_list.py
+// made the list, and the file stdout, which has what must be printed.
 ghost use Prim.Native.Nat.{_≤_};
 ghost use lib.ListN.{length};
-use case_factors::counts;
-use case_factors::texts;
-use case_factors::texts::Served;
 use libc::STDOUT_FILENO;
 
-// What `factor` prints for an input, into out, held to the outputs that the list has for it.
-fn held(fd: i32, head: &[u64; 20], s: &[u8], out: &mut [u8]) -> Served
-    requires { ⌜ 131072 ≤ length (now out) ⌝ }
+// The word whose highest byte is byte j of a text that has so many words in the list: the next one, or the one before turned by a byte, so that the
+// last word goes on to the end.
+fn turned(x: u64, j: usize, words: u64) -> u64 {
+    if (j % 8 == 0) & (((j / 8) as u64) < words) {
+        return word_list::read_word().word;
+    }
+    x % 0x100000000000000 * 256 + x / 0x100000000000000 % 256
+}
+
+// The next text of the list, to the bytes of s from `from` on: where it ends, how many words it has, and the words. Answers where it ends.
+fn read_text(s: &mut [u8], from: usize) -> usize
+    ensures { λ r. ⌜ r ≤ length (now (s .exit)) ⌝ }
 {
-    let n = factor_text::factor(s, out);
-    texts::read_outputs(fd, head, &out[..n])
+    let end = word_list::size(word_list::read_word().word, s.len());
+    let words = word_list::read_word().word;
+    let mut x: u64 = 0;
+    let mut i = from;
+    while i < end {
+        x = turned(x, i - from, words);
+        s[i] = (x / 0x100000000000000 % 256) as u8;
+        i += 1;
+    }
+    end
 }
 
-// The same with an output of its own.
-fn judged(fd: i32, head: &[u64; 20], s: &[u8]) -> Served {
+// Whether out begins with one of the texts in t, which have 32 bytes each, noughts behind.
+fn among(t: &[u8], out: &[u8; 131072]) -> bool {
+    let mut found = false;
+    let mut same = false;
+    let mut i: usize = 0;
+    while i < t.len() {
+        let k = i % 32;
+        same = (same | (k == 0)) & (t[i] == out[k]);
+        found = found | (same & (k == 31));
+        i += 1;
+    }
+    found
+}
+
+// A line of a word and a number.
+fn tell(what: &[u8], x: u64) {
+    io::write_all(STDOUT_FILENO, what);
+    word_list::print_number(x);
+    io::write_all(STDOUT_FILENO, b"\n");
+}
+
+// Prints the line with the input's number, and says whether what was printed is one of the next texts of the list, of which any serves; then it prints
+// how many they are. Behind what was printed out is nought.
+fn served(number: u64, out: &[u8; 131072]) -> bool {
+    let mut t = [0u8; 512];
+    let end = read_text(&mut t, 0);
+    let found = among(&t[..end], out);
+    tell(b"input", number);
+    if found {
+        tell(b"one of", (end / 32) as u64);
+    }
+    found
+}
+
+// What `factor` prints for an input.
+fn run(number: u64, input: &[u8]) {
     let mut out = [0u8; 131072];
-    held(fd, head, s, &mut out)
+    let n = factor_text::factor(input, &mut out);
+    if !served(number, &out) {
+        io::write_all(STDOUT_FILENO, &out[..n]);
+    }
 }
 
-// A case behind its head; s has the input of the case before.
-fn body(fd: i32, head: &[u64; 20], s: &mut [u8], counts: &mut [u64; 100], number: u64) -> u8 {
-    let p = texts::of_head(head, s.len());
-    if !texts::fits(head, p) {
-        return word_list::MALFORMED;
-    }
-    let state = texts::read_input(fd, head, p, s);
-    if state != word_list::OPEN {
-        return state;
-    }
-    let end = p.end;
-    let served = judged(fd, head, &s[..end]);
-    if served.state != word_list::OPEN {
-        return served.state;
-    }
-    counts::count_case(counts, number, head, served.agrees);
-    word_list::OPEN
-}
-
-// One case more.
-fn step(fd: i32, s: &mut [u8], counts: &mut [u64; 100], number: u64) -> u8 {
-    let mut head = [0u64; 20];
-    let state = word_list::read_head(fd, &mut head, number);
-    if state != word_list::OPEN {
-        return state;
-    }
-    body(fd, &head, s, counts, number)
-}
-
-// The cases of the whole list. A proved loop has to end, and nothing says that a file does, so it takes a million cases at most. s
-// has room for an input.
-fn tallied(fd: i32, s: &mut [u8], counts: &mut [u64; 100]) -> u8 {
-    let mut state = word_list::OPEN;
+// An input's first word says how many bytes it has in common with the one before, which s has. A proved loop has to end, and nothing says that a file
+// does, so it takes a million inputs at most.
+fn replay(s: &mut [u8]) {
     let mut number: u64 = 1;
-    while number < 1000000 && state == word_list::OPEN {
-        state = step(fd, s, counts, number);
+    let mut next = word_list::read_word();
+    while number < 1000000 && next.more {
+        let end = read_text(s, word_list::size(next.word, 65536));
+        run(number, &s[..end]);
+        next = word_list::read_word();
         number += 1;
     }
-    state
 }
 
 fn main() {
-    let path = b"factors.txt";
-    let fd = os::open_read(path);
-    if fd < 0 {
-        os::fail(path);
-        io::write_all(STDOUT_FILENO, b"factors.txt cannot be opened\n");
-        return;
-    }
     let mut s = [0u8; 65536];
-    let mut counts = [0u64; 100];
-    let state = tallied(fd, &mut s, &mut counts);
-    libc::close(fd);
-    counts::print(&counts, state);
+    replay(&mut s);
 }

@@ -1,207 +1,144 @@
-// Holds every kernel to the list of test vectors kernels.txt, bit for bit, and prints how many cases of each agree.
-mod cases;
+// Runs the kernels on the cases of standard input and prints what each answers and leaves: the file stdout has what they must. tools/kernel_list.py
+// makes both, and says what the words of a case are.
+mod answer;
+mod cross;
+mod diagonals;
+mod factors;
+mod lower;
+mod numbered;
+mod products;
+mod sizes;
+mod vectors;
 
-ghost use Prim.Native.Nat.{_+_, _≤_, _<_};
-ghost use lib.ListN.{length};
-use case_list::held;
-use case_list::names;
-use case_sizes::sizes;
+ghost use Prim.Native.Nat.{_≤_};
+ghost use Rattle.kernels.specs.Sizes.{Small};
+use answer::OUT_OF_FORM;
 use libc::STDOUT_FILENO;
-use word_list::tally;
+use sizes::Case;
 
-// How many kernels there are, and how many disagreeing cases are named.
-const KERNELS: usize = 33;
+// How many words a case has before its lists, and how many doubles, row numbers and words these have at most.
+const HEAD: usize = 19;
 
-const NAMED: u64 = 10;
+const DOUBLES: usize = 8704;
 
-// Names a case that does not agree.
-fn name_case(number: u64, f: usize, ended: u8) {
-    io::write_all(STDOUT_FILENO, b"case ");
-    io::print_decimal(STDOUT_FILENO, number);
-    io::write_all(STDOUT_FILENO, b" of ");
-    names::print(f);
-    if ended == held::OUT_OF_FORM {
-        io::write_all(STDOUT_FILENO, b" is out of form\n");
-        return;
-    }
-    io::write_all(STDOUT_FILENO, b" disagrees\n");
+const ROWS: usize = 1024;
+
+const WORDS: usize = 2 * DOUBLES + ROWS;
+
+// The next case's words, and whether there was one.
+fn read_case(m: &mut [u64; 65536]) -> bool {
+    let first = word_list::read_word();
+    m[0] = first.word;
+    word_list::read_words(m, 1, HEAD);
+    word_list::read_words(m, HEAD, HEAD + size_at(m, 18, WORDS));
+    first.more
 }
 
-// Counts a case of kernel f: at f if it was read, at 33 + f if it agrees, at 66 + f if it is out of form.
-fn counted(counts: &mut [u64; 100], number: u64, f: usize, ended: u8)
-    requires { ⌜ f < 33 ⌝ }
+// The word at i as a size, and `most` where it is larger.
+fn size_at(m: &[u64; 65536], i: usize, most: usize) -> usize
+    requires { ⌜ i ≤ 65535 ⌝ }
+    ensures { λ r. ⌜ r ≤ most ⌝ }
 {
-    tally::count(counts, f);
-    if ended == held::AGREES {
-        tally::count(counts, 33 + f);
-        return;
-    }
-    if ended == held::OUT_OF_FORM {
-        tally::count(counts, 66 + f);
-    }
-    if counts[99] < NAMED {
-        tally::count(counts, 99);
-        name_case(number, f, ended);
-    }
+    word_list::size(m[i], most)
 }
 
-// How the reading stands behind a case, and how the case ended.
-struct Ended {
-    state: u8,
-    ended: u8,
-}
-
-fn stopped(state: u8) -> Ended {
-    Ended {
-        state,
-        ended: held::OUT_OF_FORM,
-    }
-}
-
-// A case's run on lists of its own lengths.
-fn judged(
-    head: &[u64; 20],
-    words: &mut [u64],
-    w: &mut [f64],
-    n: usize,
-    v: &mut [f64],
-    m: usize,
-    h: &mut [u32],
-    rows: usize,
-    changed: usize,
-) -> u8
-    requires { ⌜ (n ≤ length (now w)) × (m ≤ length (now v)) × (rows ≤ length (now h)) × (n + m + rows + changed ≤ length (now words)) × (changed ≤ 65535) ⌝ }
+// A case's kernel and its arguments.
+fn case_of(m: &[u64; 65536]) -> Case
+    ensures { λ r. ⌜ Small r ⌝ }
 {
-    cases::judged(
-        head,
-        words,
-        &mut w[..n],
-        &mut v[..m],
-        &mut h[..rows],
-        changed,
-    )
+    Case {
+        kernel: m[1],
+        p0: size_at(m, 2, 65535),
+        p1: size_at(m, 3, 65535),
+        p2: size_at(m, 4, 65535),
+        p3: size_at(m, 5, 65535),
+        p4: size_at(m, 6, 65535),
+        p5: size_at(m, 7, 65535),
+        p6: size_at(m, 8, 65535),
+        s: words::double(m[9]),
+        t: words::double(m[10]),
+    }
 }
 
-// The words of a case behind its head, and the case's run.
-fn case(
-    fd: i32,
-    head: &[u64; 20],
-    words: &mut [u64],
-    w: &mut [f64],
-    v: &mut [f64],
-    h: &mut [u32],
-) -> Ended {
-    let changed = sizes::small(head[16]);
-    let n = sizes::small(head[17]);
-    let m = sizes::small(head[18]);
-    let rows = sizes::small(head[19]);
-    let total = n + m + rows + changed;
-    if n > w.len() {
-        return stopped(word_list::MALFORMED);
-    }
-    if m > v.len() {
-        return stopped(word_list::MALFORMED);
-    }
-    if rows > h.len() {
-        return stopped(word_list::MALFORMED);
-    }
-    if total > words.len() {
-        return stopped(word_list::MALFORMED);
-    }
-    let state = word_list::read_words(fd, words, total);
-    if state != word_list::OPEN {
-        return stopped(state);
-    }
-    let ended = judged(head, words, w, n, v, m, h, rows, changed);
-    Ended { state, ended }
-}
-
-// A case behind its head, on lists of its own: at most 8704 and 4096 doubles and 1024 row numbers.
-fn body(fd: i32, head: &[u64; 20], counts: &mut [u64; 100], number: u64) -> u8 {
-    let f = sizes::small(head[0]);
-    if f >= KERNELS {
-        return word_list::MALFORMED;
-    }
-    let mut words = [0u64; 22528];
+// The doubles of the words from `from` on.
+fn doubles(m: &[u64; 65536], from: usize) -> [f64; 8704]
+    requires { ⌜ from ≤ 50000 ⌝ }
+{
     let mut w = [0f64; 8704];
-    let mut v = [0f64; 4096];
-    let mut h = [0u32; 1024];
-    let e = case(fd, head, &mut words, &mut w, &mut v, &mut h);
-    if e.state != word_list::OPEN {
-        return e.state;
-    }
-    counted(counts, number, f, e.ended);
-    word_list::OPEN
-}
-
-// One case more.
-fn step(fd: i32, counts: &mut [u64; 100], number: u64) -> u8 {
-    let mut head = [0u64; 20];
-    let state = word_list::read_head(fd, &mut head, number);
-    if state != word_list::OPEN {
-        return state;
-    }
-    body(fd, &head, counts, number)
-}
-
-// The cases of the whole list. A proved loop has to end, and nothing says that a file does, so it takes a million cases at most.
-fn tallied(fd: i32, counts: &mut [u64; 100]) -> u8 {
-    let mut state = word_list::OPEN;
-    let mut number: u64 = 1;
-    while number < 1000000 && state == word_list::OPEN {
-        state = step(fd, counts, number);
-        number += 1;
-    }
-    state
-}
-
-// A line for each kernel that has cases.
-fn print_kernels(counts: &[u64; 100]) {
-    let mut f: usize = 0;
-    while f < 33 {
-        if counts[f] > 0 {
-            names::print(f);
-            tally::print_counts(counts[33 + f], counts[f]);
-        }
-        f += 1;
-    }
-}
-
-// The sum of 33 counts, the first of them at `from`.
-fn total(counts: &[u64; 100], from: usize) -> u64
-    requires { ⌜ from ≤ 66 ⌝ }
-{
-    let mut sum: u64 = 0;
     let mut i: usize = 0;
-    while i < 33 {
-        sum = sum % 1000000000 + counts[from + i] % 1000000000;
+    while i < 8704 {
+        w[i] = words::double(m[from + i]);
         i += 1;
     }
-    sum
+    w
 }
 
-// The last lines.
-fn print_verdict(counts: &[u64; 100], state: u8) {
-    let seen = total(counts, 0);
-    let agreed = total(counts, 33);
-    io::write_all(STDOUT_FILENO, b"kernels");
-    tally::print_counts(agreed, seen);
-    io::print_decimal(STDOUT_FILENO, total(counts, 66));
-    io::write_all(STDOUT_FILENO, b" out of form\n");
-    tally::print_verdict(agreed, seen, state);
+// The row numbers of the words from `from` on.
+fn rows(m: &[u64; 65536], from: usize) -> [u32; 1024]
+    requires { ⌜ from ≤ 50000 ⌝ }
+{
+    let mut h = [0u32; 1024];
+    let mut i: usize = 0;
+    while i < 1024 {
+        h[i] = (m[from + i] % 0x100000000) as u32;
+        i += 1;
+    }
+    h
 }
 
-fn main() {
-    let path = b"kernels.txt";
-    let fd = os::open_read(path);
-    if fd < 0 {
-        os::fail(path);
-        io::write_all(STDOUT_FILENO, b"kernels.txt cannot be opened\n");
+// A line with the case's number, the kernel's, and the answer.
+fn print_answer(m: &[u64; 65536], answer: u64) {
+    word_list::print_number(m[0]);
+    word_list::print_number(m[1]);
+    if answer == OUT_OF_FORM {
+        io::write_all(STDOUT_FILENO, b" out of form\n");
         return;
     }
-    let mut counts = [0u64; 100];
-    let state = tallied(fd, &mut counts);
-    libc::close(fd);
-    print_kernels(&counts);
-    print_verdict(&counts, state);
+    word_list::print_word(answer);
+}
+
+// The first n doubles of w, but those that the kernel may leave as it likes.
+fn print_list(m: &[u64; 65536], w: &[f64; 8704], n: usize)
+    requires { ⌜ n ≤ 8704 ⌝ }
+{
+    let free = size_at(m, 13, DOUBLES);
+    let end = free + size_at(m, 14, DOUBLES);
+    let mut i: usize = 0;
+    while i < n {
+        if (i < free) | (i >= end) {
+            word_list::print_word(words::word_of(w[i]));
+        }
+        i += 1;
+    }
+}
+
+// What the case's kernel answers on w, which begins with what it is lent, and on lists v and h of the case's own lengths.
+fn answered(m: &[u64; 65536], w: &mut [f64], from: usize) -> u64
+    requires { ⌜ from ≤ 9000 ⌝ }
+{
+    let n = size_at(m, 16, DOUBLES);
+    let v = doubles(m, from);
+    let h = rows(m, from + n);
+    let a = size_at(m, 12, n);
+    let r = size_at(m, 17, ROWS);
+    numbered::run(case_of(m), w, &v[a..n], &h[..r])
+}
+
+fn run_case(m: &[u64; 65536]) {
+    let n = size_at(m, 15, DOUBLES);
+    let a = size_at(m, 11, n);
+    let mut w = doubles(m, HEAD);
+    let answer = answered(m, &mut w[a..n], HEAD + n);
+    print_answer(m, answer);
+    print_list(m, &w, n);
+}
+
+// A proved loop has to end, and nothing says that a list does, so it takes a million cases at most.
+fn main() {
+    let mut m = [0u64; 65536];
+    let mut left: u64 = 1000000;
+    while left > 0 && read_case(&mut m) {
+        run_case(&m);
+        left -= 1;
+    }
 }

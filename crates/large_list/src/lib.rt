@@ -71,26 +71,9 @@ pub fn fill_doubles(w: &mut [f64]) {
     }
 }
 
-// Fills a response.
-pub fn fill_response(l: &mut [f64]) {
-    let mut i: usize = 0;
-    while i < l.len() {
-        l[i] = fraction(i) - 8.0;
-        i += 1;
-    }
-}
-
 // A sum with one more number below 2^32. 31 is odd, so lists that differ in one number have different sums.
 fn more(sum: u64, x: u64) -> u64 {
     sum % 0x0400000000000000 * 31 + x % 0x100000000
-}
-
-// The word of a double, of a NaN always the same one.
-pub fn word(x: f64) -> u64 {
-    if x != x {
-        return 0x7ff8000000000000;
-    }
-    f64::to_bits(x)
 }
 
 // A number of a heading as a term of a sum.
@@ -114,7 +97,7 @@ fn sum_doubles(w: &[f64], from: u64) -> u64 {
     let mut sum = from;
     let mut i: usize = 0;
     while i < w.len() {
-        let x = word(w[i]);
+        let x = words::word_of(w[i]);
         sum = more(more(sum, x / 0x100000000), x);
         i += 1;
     }

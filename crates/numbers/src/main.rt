@@ -1,294 +1,70 @@
-// Holds the square root and the logarithm to the list of test vectors numbers.txt, and prints how many records of each group agree.
-ghost use mathlib.Core.Path.{_≡_};
-ghost use Prim.Native.Nat.{ℕ, _+_, _<_, _≤_, _^_};
-ghost use lib.ListN.{getD};
-ghost use Rattle.numbers.specs.Tallies.{countedOf, stoppedOf, Room};
-ghost use Rattle.numbers.specs.Judged.{resultOf, judgedOf, takenOf, sumOf};
+// Holds the square root and the logarithm to a list of test vectors (tools/number_list.py): a group, a word x, and the words between which the
+// result must lie. A vector whose result does not is printed with it; at the end how many of each group agree.
 use libc::STDOUT_FILENO;
-use vector_list::Vector;
+use word_list::print_number;
 
-// How many disagreeing records are named.
-const NAMED: u64 = 10;
+// The groups of the square root, then those of the logarithm.
+const GROUPS: usize = 14;
 
-// The records read and those that disagree; of each group those read and those that agree; and how the reading stands.
-struct Tally {
-    records: u64,
-    missed: u64,
-    seen: [u64; 14],
-    agreed: [u64; 14],
-    state: u8,
-}
-
-// The states of a reading.
-const OPEN: u8 = 0;
-
-const ENDED: u8 = 1;
-
-const CUT: u8 = 2;
-
-const MALFORMED: u8 = 3;
-
-const FAILED: u8 = 4;
-
-// No record read yet.
-fn none() -> Tally
-    ensures { λ r. ⌜ Room r × (r .records ≡ 0) ⌝ }
-{
-    Tally {
-        records: 0,
-        missed: 0,
-        seen: [0; 14],
-        agreed: [0; 14],
-        state: OPEN,
-    }
-}
-
-// One record more.
-fn counted(t: Tally, place: usize, ok: bool) -> Tally
-    requires { ⌜ Room t × (t .records < 2 ^ 63) × (place < 14) ⌝ }
-    ensures sum { λ r. ⌜ r ≡ countedOf t place ok ⌝ }
-    ensures room { λ r. ⌜ Room r ⌝ }
-{
-    let mut seen = t.seen;
-    let mut agreed = t.agreed;
-    seen[place] = seen[place] + 1;
-    agreed[place] = agreed[place] + ok as u64;
-    Tally {
-        records: t.records + 1,
-        missed: t.missed + !ok as u64,
-        seen,
-        agreed,
-        state: t.state,
-    }
-}
-
-// The reading stops, and why.
-fn stopped(t: Tally, state: u8) -> Tally
-    requires { ⌜ Room t ⌝ }
-    ensures sum { λ r. ⌜ r ≡ stoppedOf t state ⌝ }
-    ensures room { λ r. ⌜ Room r ⌝ }
-{
-    let seen = t.seen;
-    let agreed = t.agreed;
-    Tally {
-        records: t.records,
-        missed: t.missed,
-        seen,
-        agreed,
-        state,
-    }
-}
-
-// What the vector's function makes of its x.
-fn result(v: Vector) -> f64
-    ensures { λ r. ⌜ r ≡ resultOf v ⌝ }
-{
-    let x = vector_list::double(v.x);
-    if v.place < 7 {
+// The function of a group.
+fn result(group: u64, x: f64) -> f64 {
+    if group < 7 {
         return root::sqrt(x);
     }
     logarithm::ln(x)
 }
 
-// Whether that lies where the vector says.
-fn judged(v: Vector) -> bool
-    ensures { λ r. ⌜ r ≡ judgedOf v ⌝ }
-{
-    agreement::agrees(v.lower, v.upper, result(v))
+// A line: the vector's first three words and the result's word.
+fn print_vector(m: &[u64; 65536], r: f64) {
+    io::print_decimal(STDOUT_FILENO, m[0]);
+    print_number(m[1]);
+    print_number(m[2]);
+    word_list::print_word(words::word_of(r));
 }
 
-// The tally after one line more.
-fn taken(t: Tally, line: &[u8; 55]) -> Tally
-    requires { ⌜ Room t × (t .records < 2 ^ 63) ⌝ }
-    ensures sum { λ r. ⌜ r ≡ takenOf t (now (line .entry)) ⌝ }
-    ensures room { λ r. ⌜ Room r × (r .records ≤ t .records + 1) ⌝ }
-{
-    if vector_list::is_vector(line) {
-        let v = vector_list::parsed(line);
-        return counted(t, v.place, judged(v));
-    }
-    stopped(t, MALFORMED)
-}
-
-// Why a read of a line gave n bytes and no more: the end, an end within a line, or an error.
-fn state_after(fd: i32, n: usize) -> u8 {
-    let mut more = [0u8; 1];
-    if libc::read(fd, &mut more) != 0 {
-        return FAILED;
-    }
-    if n == 0 {
-        return ENDED;
-    }
-    CUT
-}
-
-// Names the record just counted if it disagrees, and fewer than NAMED did before it.
-fn name_miss(missed: u64, t: Tally) {
-    if t.missed > missed {
-        if missed < NAMED {
-            io::write_all(STDOUT_FILENO, b"line ");
-            io::print_decimal(STDOUT_FILENO, t.records);
-            io::write_all(STDOUT_FILENO, b" disagrees\n");
-        }
+// Holds the vector in the first four words of m; from 4 on, those of each group that agree are counted.
+fn hold(m: &mut [u64; 65536]) {
+    let r = result(m[0], words::double(m[1]));
+    let at = 4 + word_list::size(m[0], GROUPS);
+    if agreement::agrees(m[2], m[3], r) {
+        m[at] = m[at] % 0x100000000 + 1;
+    } else {
+        print_vector(m, r);
     }
 }
 
-// One turn of the reading.
-fn step(fd: i32, t: Tally) -> Tally
-    requires { ⌜ Room t × (t .records < 2 ^ 63) ⌝ }
-    ensures { λ r. ⌜ Room r × (r .records ≤ t .records + 1) ⌝ }
-{
-    let mut line = [0u8; 55];
-    let n = io::read_full(fd, &mut line);
-    if n < vector_list::LINE {
-        return stopped(t, state_after(fd, n));
+// The next vector, into the first four words. Whether there is one.
+fn read_vector(m: &mut [u64; 65536]) -> bool {
+    let first = word_list::read_word();
+    m[0] = first.word;
+    if first.more {
+        word_list::read_words(m, 1, 4);
     }
-    let next = taken(t, &line);
-    name_miss(t.missed, next);
-    next
+    first.more
 }
 
-// The tally of the whole list. A proved loop has to end, and nothing says that a file does, so it takes a million lines at most.
-fn tallied(fd: i32) -> Tally
-    ensures { λ r. ⌜ Room r × (r .records ≤ 1000000) ⌝ }
-{
-    let mut t = none();
-    let mut turns: u64 = 1000000;
-    while turns > 0 && t.state == OPEN {
-        t = step(fd, t);
-        turns -= 1;
-    }
-    t
-}
-
-// The sum of a function's seven counts, the first of them at from.
-fn total(counts: [u64; 14], from: usize) -> u64
-    requires { ⌜ ((k : ℕ) → getD counts k 0 ≤ 1000000) × (from ≤ 7) ⌝ }
-    ensures { λ r. ⌜ r ≡ sumOf counts from 7 ⌝ }
-{
-    let mut sum: u64 = 0;
-    let mut i: usize = 0;
-    while i < 7 {
-        sum += counts[from + i];
-        i += 1;
-    }
-    sum
-}
-
-fn print_function(place: usize) {
-    if place < 7 {
-        io::write_all(STDOUT_FILENO, b"sqrt ");
-        return;
-    }
-    io::write_all(STDOUT_FILENO, b"ln ");
-}
-
-fn print_group(group: usize) {
-    match group {
-        0 => {
-            io::write_all(STDOUT_FILENO, b"special ");
-        }
-        1 => {
-            io::write_all(STDOUT_FILENO, b"power ");
-        }
-        2 => {
-            io::write_all(STDOUT_FILENO, b"one ");
-        }
-        3 => {
-            io::write_all(STDOUT_FILENO, b"subnormal ");
-        }
-        4 => {
-            io::write_all(STDOUT_FILENO, b"largest ");
-        }
-        5 => {
-            io::write_all(STDOUT_FILENO, b"square ");
-        }
-        _ => {
-            io::write_all(STDOUT_FILENO, b"random ");
-        }
-    }
-}
-
-fn print_counts(agreed: u64, seen: u64) {
-    io::print_decimal(STDOUT_FILENO, agreed);
-    io::write_all(STDOUT_FILENO, b" of ");
-    io::print_decimal(STDOUT_FILENO, seen);
+// A line: a group's number and how many of its vectors agree.
+fn print_group(g: usize, agreed: u64) {
+    io::print_decimal(STDOUT_FILENO, g as u64);
+    print_number(agreed);
     io::write_all(STDOUT_FILENO, b"\n");
 }
 
-fn print_groups(t: Tally) {
-    let seen = t.seen;
-    let agreed = t.agreed;
-    let mut place: usize = 0;
-    while place < 14 {
-        print_function(place);
-        print_group(place % 7);
-        print_counts(agreed[place], seen[place]);
-        place += 1;
+fn print_groups(m: &[u64; 65536]) {
+    let mut g: usize = 0;
+    while g < GROUPS {
+        print_group(g, m[4 + g]);
+        g += 1;
     }
 }
 
-fn print_totals(t: Tally)
-    requires { ⌜ Room t × (t .records ≤ 1000000) ⌝ }
-{
-    let seen = t.seen;
-    let agreed = t.agreed;
-    print_function(0);
-    print_counts(total(agreed, 0), total(seen, 0));
-    print_function(7);
-    print_counts(total(agreed, 7), total(seen, 7));
-}
-
-// The last line. Only a list that was read to its end, and has records, agrees.
-fn print_verdict(t: Tally)
-    requires { ⌜ t .records ≤ 1000000 ⌝ }
-{
-    let state = t.state;
-    match state {
-        ENDED => {
-            if t.records == 0 {
-                io::write_all(STDOUT_FILENO, b"the list is empty\n");
-                return;
-            }
-            if t.missed == 0 {
-                io::write_all(STDOUT_FILENO, b"all agree\n");
-                return;
-            }
-            io::write_all(STDOUT_FILENO, b"DISAGREE\n");
-        }
-        OPEN => {
-            io::write_all(
-                STDOUT_FILENO,
-                b"the list has more lines than the program takes\n",
-            );
-        }
-        CUT => {
-            io::write_all(STDOUT_FILENO, b"the list ends within line ");
-            io::print_decimal(STDOUT_FILENO, t.records + 1);
-            io::write_all(STDOUT_FILENO, b"\n");
-        }
-        MALFORMED => {
-            io::write_all(STDOUT_FILENO, b"line ");
-            io::print_decimal(STDOUT_FILENO, t.records + 1);
-            io::write_all(STDOUT_FILENO, b" is malformed\n");
-        }
-        _ => {
-            io::write_all(STDOUT_FILENO, b"the list cannot be read\n");
-        }
-    }
-}
-
+// A proved loop has to end, and nothing says that a file does, so it takes a million vectors at most.
 fn main() {
-    let path = b"numbers.txt";
-    let fd = os::open_read(path);
-    if fd < 0 {
-        os::fail(path);
-        io::write_all(STDOUT_FILENO, b"numbers.txt cannot be opened\n");
-        return;
+    let mut m = [0u64; 65536];
+    let mut n: u64 = 0;
+    while n < 1000000 && read_vector(&mut m) {
+        hold(&mut m);
+        n += 1;
     }
-    let t = tallied(fd);
-    libc::close(fd);
-    print_groups(t);
-    print_totals(t);
-    print_verdict(t);
+    print_groups(&m);
 }

@@ -3,7 +3,6 @@ ghost use mathlib.Core.Path.{_≡_};
 ghost use Prim.Native.Nat.{_+_, _≤_};
 ghost use mathlib.Core.List.{[], _∷_};
 ghost use lib.ListN.{length};
-ghost use lib.Ieee.{binary64, toBits};
 ghost use Rattle.storage.specs.Part.{store};
 ghost use Rattle.worked.specs.Print.{number, hexDigit, hexadecimal, word};
 
@@ -11,19 +10,6 @@ ghost use Rattle.worked.specs.Print.{number, hexDigit, hexadecimal, word};
 pub const TAB: u8 = 9;
 
 pub const LF: u8 = 10;
-
-// The word that stands for every NaN.
-const NAN: u64 = 0x7ff8000000000000;
-
-// The word of a double, of a NaN always the same one.
-fn bits_of(x: f64) -> u64
-    ensures { λ r. ⌜ r ≡ toBits binary64 x ⌝ }
-{
-    if x != x {
-        return NAN;
-    }
-    f64::to_bits(x)
-}
 
 // One byte, at a place that is there.
 pub fn put_byte(out: &mut [u8], at: usize, b: u8) -> usize
@@ -92,5 +78,5 @@ pub fn put_word(out: &mut [u8], at: usize, x: f64) -> usize
     requires { ⌜ at + 16 ≤ length (now out) ⌝ }
     ensures { λ r. ⌜ (r ≡ at + 16) × (now (out .exit) ≡ store at (word x) (now (out .entry))) ⌝ }
 {
-    put_hexadecimal(out, at, 16, bits_of(x))
+    put_hexadecimal(out, at, 16, words::word_of(x))
 }

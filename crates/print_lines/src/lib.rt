@@ -4,6 +4,7 @@ ghost use Prim.Native.Nat.{_+_, _≤_};
 ghost use lib.ListN.{length};
 ghost use Rattle.storage.specs.Part.{store};
 ghost use Rattle.worked.specs.Print.{number, pivotLine, refusedLine};
+ghost use Rattle.print.proofs.Written.{Put};
 use print::LF;
 use print::TAB;
 
@@ -21,10 +22,10 @@ pub fn put_pivot(out: &mut [u8], at: usize, block: u64, row: u64, x: f64) -> usi
     print::put_byte(out, p, LF)
 }
 
-// The line of a refusal: its number and its two places.
+// The line of a refusal: its number and its two places. It has at most 71 bytes.
 pub fn put_refused(out: &mut [u8], at: usize, number: u64, first: u64, second: u64) -> usize
     requires { ⌜ at + 71 ≤ length (now out) ⌝ }
-    ensures { λ r. ⌜ (r ≡ at + length (refusedLine number first second)) × (now (out .exit) ≡ store at (refusedLine number first second) (now (out .entry))) ⌝ }
+    ensures { λ r. ⌜ (r ≤ at + 71) × Put at (refusedLine number first second) (now (out .entry)) r (now (out .exit)) ⌝ }
 {
     let p = print::put_text(out, at, b"refused\t");
     let p = print::put_number(out, p, number);

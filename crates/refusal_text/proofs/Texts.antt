@@ -7,14 +7,13 @@ use mathlib.Core.Option.{Option, none, some}
 use native.Mathlib.Omega.{arith}
 use native.Mathlib.Nat.{mul-le-mul, add-zero}
 use lib.Dec.{ltb, eqb}
-use lib.ListN.{length, take, replicate}
+use lib.ListN.{length, take, drop, replicate}
 use lib.Ieee.{Float}
 use borrow.Author.Tests.{eqb-true, lt-ltb, le-ltb}
 use Rattle.refusal.specs.declared.Refusal.{Refusal}
 use Rattle.refusal.specs.declared.Answer.{Answer}
 use Rattle.refusal.specs.declared.Answer.the-variants.{Accepted, Refused}
-use Rattle.storage.specs.Part.{part, store}
-use Rattle.storage.proofs.Parts.{part-same}
+use Rattle.storage.proofs.Parts.{part-same, drop-store}
 use Rattle.order.specs.Steps.{Step, named, after, rustOrder}
 use Rattle.order.specs.Progress.{all, done}
 use Rattle.rules.specs.Arithmetic.{ieee}
@@ -43,23 +42,12 @@ use Rattle.ready_step.proofs.Turns.{just-begun}
 use Rattle.loading.proofs.Facts.{few-entries}
 use Rattle.worked.specs.Print.{refusedLine}
 use Rattle.worked.specs.Program.{bytesHeld, numbersHeld, doublesHeld, pivotLines, printSteps, afterBegin, factorWith, thetaLines, afterTheta, afterLoad, afterSheet, printOf, Prints, too-long, read}
-use Rattle.print.proofs.Written.{Put}
-use Rattle.print_lines.proofs.Lines.{refused-long}
 use Rattle.refusal_text.specs.Text.{Text}
-
--- ---- what is written from the first byte on is a text
-pub put-text : (l w : List ℕ) (r : ℕ) (w′ : List ℕ) → r ≤ 131072 → 131072 ≤ length w → Put 0 l w r w′ → Text l r w′
-put-text l w r w′ few room p =
-    let e : length l ≡ r = omega (arith, p .0) in
-    (few, ap (take r) (p .1) ∙ part-same 0 l w (omega arith) r e)
-
-pub refused-text : (n a b : ℕ) (w : List ℕ) (r : ℕ) (w′ : List ℕ) → 131072 ≤ length w → Put 0 (refusedLine n a b) w r w′ → Text (refusedLine n a b) r w′
-refused-text n a b w r w′ room p = put-text (refusedLine n a b) w r w′ (omega (arith, p .0, refused-long n a b)) room p
 
 -- ---- answers
 -- a text by an answer that is known
-pub answered : (f : Answer → List ℕ) (a b : Answer) (n : ℕ) (out : List ℕ) → a ≡ b → Text (f b) n out → Text (f a) n out
-answered f a b n out e t = subst (λ (x : Answer). Text (f x) n out) (sym e) t
+pub answered : (f : Answer → List ℕ) (a b : Answer) (n : ℕ) (old out : List ℕ) → a ≡ b → Text (f b) n old out → Text (f a) n old out
+answered f a b n old out e t = subst (λ (x : Answer). Text (f x) n old out) (sym e) t
 
 abbrev isAccepted : Answer → Bool
 isAccepted Accepted = true
@@ -95,10 +83,10 @@ module _ (h : List ℕ) (w theta : List Float) where
       (subst (λ (k : ℕ). Underway (space h₁ w₁) (rustOrder k)) same (just-begun h (space h₁ w₁) (ap (headed h) long ∙ b .0) (b .2)), same)
 
   -- the text of begin's outcome
-  pub begin-out : (k : ℕ) (a : Answer) (h₁ : List ℕ) (w₁ : List Float) (n : ℕ) (out : List ℕ) → record { answer = a; left = space h₁ w₁ } ≡ beginOf h w theta
-      → Text (afterBegin a (space h₁ w₁) k) n out → Text (factorWith (space h w) k theta) n out
+  pub begin-out : (k : ℕ) (a : Answer) (h₁ : List ℕ) (w₁ : List Float) (n : ℕ) (old out : List ℕ) → record { answer = a; left = space h₁ w₁ } ≡ beginOf h w theta
+      → Text (afterBegin a (space h₁ w₁) k) n old out → Text (factorWith (space h w) k theta) n old out
   unfolding factorWith
-  begin-out k a h₁ w₁ n out e t = subst (λ (o : Outcome). Text (afterBegin (o .answer) (o .left) k) n out) e t
+  begin-out k a h₁ w₁ n old out e t = subst (λ (o : Outcome). Text (afterBegin (o .answer) (o .left) k) n old out) e t
 
 -- ---- the steps keep the layout
 -- a workspace has at most eight blocks
@@ -151,13 +139,13 @@ pub run-headed : (h : List ℕ) (w : List Float) (k : ℕ) (a : Answer) (h₁ : 
 run-headed h w k a h₁ w₁ u r q = r .next [] (subst (Underway (space h w)) (sym (append-nil (rustOrder k))) u) (ap isRefused q) .lawful
 
 -- what the run leaves is printed as the steps' outcome
-pub run-out : (h : List ℕ) (w : List Float) (k : ℕ) (a : Answer) (h₁ : List ℕ) (w₁ : List Float) (n : ℕ) (out : List ℕ) → headed h (length w) ≡ true → layoutOf h .k ≡ k
-    → record { answer = a; left = space h₁ w₁ } ≡ runOf (space h w) (rustOrder k) → Text (printSteps a (space h₁ w₁) (layoutOf h₁ .k)) n out
-    → Text (afterBegin Accepted (space h w) k) n out
-run-out h w k a h₁ w₁ n out ok is e t =
+pub run-out : (h : List ℕ) (w : List Float) (k : ℕ) (a : Answer) (h₁ : List ℕ) (w₁ : List Float) (n : ℕ) (old out : List ℕ) → headed h (length w) ≡ true → layoutOf h .k ≡ k
+    → record { answer = a; left = space h₁ w₁ } ≡ runOf (space h w) (rustOrder k) → Text (printSteps a (space h₁ w₁) (layoutOf h₁ .k)) n old out
+    → Text (afterBegin Accepted (space h w) k) n old out
+run-out h w k a h₁ w₁ n old out ok is e t =
     let q : layoutOf h₁ .k ≡ k =
     ap (λ (o : Outcome). layoutOf (o .left .heading) .k) e ∙ ap (λ (y : Layout). y .k) (run-kept (rustOrder k) (space h w) (fits h (length w) ok .long)) ∙ is in
-    subst (λ (o : Outcome). Text (printSteps (o .answer) (o .left) k) n out) e (subst (λ (x : ℕ). Text (printSteps a (space h₁ w₁) x) n out) q t)
+    subst (λ (o : Outcome). Text (printSteps (o .answer) (o .left) k) n old out) e (subst (λ (x : ℕ). Text (printSteps a (space h₁ w₁) x) n old out) q t)
 
 -- ---- the theta part
 -- both tests pass, so no line was refused
@@ -169,16 +157,16 @@ module _ (s : List ℕ) (z : Starts) (h : List ℕ) (w : List Float) where
   start = record { at = z .end; line = z .line; number = 0 }
 
   -- it is in form and the last of the input
-  pub theta-good : (c : Cursor) (theta : List Float) (n : ℕ) (out : List ℕ) → c ≡ thetaLines s (z .counts .k) start .past → (eqb (c .number) 0 && eqb (c .at) (length s)) ≡ true
-      → theta ≡ thetaLines s (z .counts .k) start .items → length theta ≡ z .counts .k → Text (factorWith (space h w) (length theta) theta) n out
-      → Text (afterLoad Accepted (space h w) (z .counts .k) s z) n out
-  theta-good c theta n out e t q long p =
+  pub theta-good : (c : Cursor) (theta : List Float) (n : ℕ) (old out : List ℕ) → c ≡ thetaLines s (z .counts .k) start .past → (eqb (c .number) 0 && eqb (c .at) (length s)) ≡ true
+      → theta ≡ thetaLines s (z .counts .k) start .items → length theta ≡ z .counts .k → Text (factorWith (space h w) (length theta) theta) n old out
+      → Text (afterLoad Accepted (space h w) (z .counts .k) s z) n old out
+  theta-good c theta n old out e t q long p =
       rw (← e, t, ← q, ← long) p
 
   -- or 2, with the line
-  pub theta-bad : (c : Cursor) (n : ℕ) (out : List ℕ) → c ≡ thetaLines s (z .counts .k) start .past → (eqb (c .number) 0 && eqb (c .at) (length s)) ≡ false
-      → Text (refusedLine 2 (c .line) 0) n out → Text (afterLoad Accepted (space h w) (z .counts .k) s z) n out
-  theta-bad c n out e t p = rw (← e, t) p
+  pub theta-bad : (c : Cursor) (n : ℕ) (old out : List ℕ) → c ≡ thetaLines s (z .counts .k) start .past → (eqb (c .number) 0 && eqb (c .at) (length s)) ≡ false
+      → Text (refusedLine 2 (c .line) 0) n old out → Text (afterLoad Accepted (space h w) (z .counts .k) s z) n old out
+  theta-bad c n old out e t p = rw (← e, t) p
 
 -- ---- the sheet
 module _ (s : List ℕ) (z : Starts) where
@@ -194,13 +182,13 @@ module _ (s : List ℕ) (z : Starts) where
       let pp = mul-le-mul (t .counts .p .1) (t .counts .p .1) in
       (k, omega (arith, k, zz, qq, qp, pp, t .lines, t .counts .k, t .counts .q, t .counts .p .1))
 
-  pub sheet-out : (sheet : Sheet) → readSheet s ≡ accepted sheet z → (a : Answer) (h : List ℕ) (w : List Float) (n : ℕ) (out : List ℕ)
+  pub sheet-out : (sheet : Sheet) → readSheet s ≡ accepted sheet z → (a : Answer) (h : List ℕ) (w : List Float) (n : ℕ) (old out : List ℕ)
       → record { answer = a; left = space h w } ≡ loadSheet sheet (replicate numbersHeld 0) (replicate doublesHeld (ieee .zero))
-      → Text (afterLoad a (space h w) (z .counts .k) s z) n out → Text (afterSheet (readSheet s) s) n out
-  sheet-out sheet e a h w n out q t =
+      → Text (afterLoad a (space h w) (z .counts .k) s z) n old out → Text (afterSheet (readSheet s) s) n old out
+  sheet-out sheet e a h w n old out q t =
       let k : z .counts .k ≡ sheet .counts .k = ap (λ (x : _). x .k) (read-whole s sheet z e .shape .same-counts) in
-      subst (λ (o : Sheets.Outcome). Text (afterSheet o s) n out) (sym e)
-      (subst (λ (o : Outcome). Text (afterLoad (o .answer) (o .left) (sheet .counts .k) s z) n out) q (subst (λ (x : ℕ). Text (afterLoad a (space h w) x s z) n out) k t))
+      subst (λ (o : Sheets.Outcome). Text (afterSheet o s) n old out) (sym e)
+      (subst (λ (o : Outcome). Text (afterLoad (o .answer) (o .left) (sheet .counts .k) s z) n old out) q (subst (λ (x : ℕ). Text (afterLoad a (space h w) x s z) n old out) k t))
 
 -- ---- what the sheet's reader answered
 pub goes-on : (s : List ℕ) (z : Starts) → Answers (readSheet s) (Read z) → (sheet : Sheet) × (readSheet s ≡ accepted sheet z) × (refusalOf sheet ≡ 0)
@@ -210,16 +198,29 @@ goes-on s z a = go (readSheet s) refl a
     go (accepted sheet starts) e a = (sheet, e ∙ ap (accepted sheet) (sym (a .1)), a .0)
     go (refused number line) e a = absurd (let x : _≡_ {A = ℕ} 0 1 = cc in omega arith)
 
-module _ (s : List ℕ) (n : ℕ) (out : List ℕ) where
+-- what it may print stands in the first n bytes, and those behind are as they were
+abbrev pub Printed : List ℕ → ℕ → List ℕ → List ℕ → Type 0
+Printed s n old out = (n ≤ 131072) × Prints s (take n out) × (drop n out ≡ drop n old)
+
+module _ (s : List ℕ) (n : ℕ) (old out : List ℕ) (room : 131072 ≤ length old) where
+  -- a text that it may print
+  text-out : (l : List ℕ) → Prints s l → Text l n old out → Printed s n old out
+  text-out l p t =
+      let e : length l ≡ n = omega (arith, t .1 .0) in (
+        t .0,
+        subst (Prints s) (sym (ap (take n) (t .1 .1) ∙ part-same 0 l old (omega (arith, e, t .0)) n e)) p,
+        ap (drop n) (t .1 .1) ∙ drop-store 0 l old (omega (arith, e, t .0)) n (omega (arith, e)),
+      )
+
   -- more than the program holds
-  pub long-out : bytesHeld < length s → Text (refusedLine 12 0 0) n out → (n ≤ 131072) × Prints s (take n out)
-  long-out h t = (t .0, subst (Prints s) (sym (t .1)) (too-long (lt-ltb bytesHeld (length s) h)))
+  pub long-out : bytesHeld < length s → Text (refusedLine 12 0 0) n old out → Printed s n old out
+  long-out h t = text-out (refusedLine 12 0 0) (too-long (lt-ltb bytesHeld (length s) h)) t
 
   module _ (h : length s ≤ bytesHeld) where
-    pub read-out : (z : Starts) → Answers (readSheet s) (Read z) → Text (afterSheet (readSheet s) s) n out → (n ≤ 131072) × Prints s (take n out)
+    pub read-out : (z : Starts) → Answers (readSheet s) (Read z) → Text (afterSheet (readSheet s) s) n old out → Printed s n old out
     unfolding printOf
-    read-out z a t = (t .0, subst (Prints s) (sym (t .1)) (read (le-ltb bytesHeld (length s) h) (Read z) a))
+    read-out z a t = text-out _ (read (le-ltb bytesHeld (length s) h) (Read z) a) t
 
-    pub unread-out : (number line : ℕ) → Answers (readSheet s) (Unread number line) → Text (refusedLine number line 0) n out → (n ≤ 131072) × Prints s (take n out)
+    pub unread-out : (number line : ℕ) → Answers (readSheet s) (Unread number line) → Text (refusedLine number line 0) n old out → Printed s n old out
     unfolding printOf
-    unread-out number line a t = (t .0, subst (Prints s) (sym (t .1)) (read (le-ltb bytesHeld (length s) h) (Unread number line) a))
+    unread-out number line a t = text-out _ (read (le-ltb bytesHeld (length s) h) (Unread number line) a) t

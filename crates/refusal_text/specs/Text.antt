@@ -1,9 +1,8 @@
 -- A text at the start of lent bytes.
 use Prim.Native.Nat.{ℕ, _≤_}
-use mathlib.Core.Path.{_≡_}
 use mathlib.Core.List.{List}
-use lib.ListN.{take}
+use Rattle.print.proofs.Written.{Put}
 
--- the first n bytes of out are l, and they are as many as the program holds
-abbrev pub Text : List ℕ → ℕ → List ℕ → Type 0
-Text l n out = (n ≤ 131072) × (take n out ≡ l)
+-- out is w with l from its first byte on, and all behind l as it was; l has n bytes, which are as many as the program holds
+abbrev pub Text : List ℕ → ℕ → List ℕ → List ℕ → Type 0
+Text l n w out = (n ≤ 131072) × Put 0 l w n out

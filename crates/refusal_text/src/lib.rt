@@ -7,7 +7,7 @@ ghost use Rattle.refusal_text.specs.Text.{Text};
 // A refusal alone, from the first byte on.
 pub fn put_refusal(out: &mut [u8], number: u64, first: u64, second: u64) -> usize
     requires { ⌜ 131072 ≤ length (now out) ⌝ }
-    ensures { λ n. ⌜ Text (refusedLine number first second) n (now (out .exit)) ⌝ }
+    ensures { λ n. ⌜ Text (refusedLine number first second) n (now (out .entry)) (now (out .exit)) ⌝ }
 {
     print_lines::put_refused(out, 0, number, first, second)
 }

@@ -6,8 +6,8 @@ ghost use lib.ListN.{length};
 ghost use Rattle.storage.specs.Shape.{columns, sizeOf};
 ghost use Rattle.schur.specs.Schur.{subtractedDense};
 
-// S of the dense block at off: less block a times block b transposed.
-pub fn subtract_dense(
+// S of the dense block at off, column by column: the sums of a column lie side by side.
+fn subtract_columns(
     w: &mut [f64],
     off: usize,
     rows: usize,
@@ -30,4 +30,27 @@ pub fn subtract_dense(
         c += 1;
         to += rows;
     }
+}
+
+// S of the dense block at off: less block a times block b transposed.
+pub fn subtract_dense(
+    w: &mut [f64],
+    off: usize,
+    rows: usize,
+    cols: usize,
+    a: usize,
+    b: usize,
+    inner: usize,
+)
+    requires { ⌜ (rows ≤ 316) × (off + sizeOf (columns rows cols) ≤ length (now w)) × (a + sizeOf (columns rows inner) ≤ length (now w)) × (b + sizeOf (columns cols inner) ≤ length (now w)) ⌝ }
+    requires { ⌜ (off + sizeOf (columns rows cols) ≤ a) ⊎ (a + sizeOf (columns rows inner) ≤ off) ⌝ }
+    requires { ⌜ (off + sizeOf (columns rows cols) ≤ b) ⊎ (b + sizeOf (columns cols inner) ≤ off) ⌝ }
+    ensures { λ _. ⌜ now (w .exit) ≡ subtractedDense off rows cols a b inner (now (w .entry)) ⌝ }
+{
+    // The longer side of the target is the one that packed loops run over.
+    if rows <= 12 && rows < cols && cols <= 316 {
+        schur_few::subtract_few(w, off, rows, cols, a, b, inner);
+        return;
+    }
+    subtract_columns(w, off, rows, cols, a, b, inner);
 }

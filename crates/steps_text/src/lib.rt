@@ -15,7 +15,7 @@ use refusal::Answer;
 // What the steps came to: the pivots of every block, or the refusal that ended them.
 fn put_steps(a: Answer, h: &[u32], w: &[f64], out: &mut [u8]) -> usize
     requires { ⌜ (a ≡ Accepted → headed (now h) (length (now w)) ≡ true) × (length (now w) ≤ 4096) × (131072 ≤ length (now out)) ⌝ }
-    ensures { λ n. ⌜ Text (printSteps a (space (now (h .entry)) (now (w .entry))) (layoutOf (now (h .entry)) .k)) n (now (out .exit)) ⌝ }
+    ensures { λ n. ⌜ Text (printSteps a (space (now (h .entry)) (now (w .entry))) (layoutOf (now (h .entry)) .k)) n (now (out .entry)) (now (out .exit)) ⌝ }
 {
     match a {
         Answer::Accepted => pivot_lines::put_pivots(h, w, out),
@@ -26,7 +26,7 @@ fn put_steps(a: Answer, h: &[u32], w: &[f64], out: &mut [u8]) -> usize
 // What begin came to: the steps in the Rust's order, or its refusal.
 fn put_begun(a: Answer, h: &mut [u32], w: &mut [f64], k: u64, out: &mut [u8]) -> usize
     requires { ⌜ (a ≡ Accepted → Underway (space (now h) (now w)) (rustOrder k) × (layoutOf (now h) .k ≡ k)) × (length (now w) ≤ 4096) × (131072 ≤ length (now out)) ⌝ }
-    ensures { λ n. ⌜ Text (afterBegin a (space (now (h .entry)) (now (w .entry))) k) n (now (out .exit)) ⌝ }
+    ensures { λ n. ⌜ Text (afterBegin a (space (now (h .entry)) (now (w .entry))) k) n (now (out .entry)) (now (out .exit)) ⌝ }
 {
     match a {
         Answer::Accepted => {
@@ -40,7 +40,7 @@ fn put_begun(a: Answer, h: &mut [u32], w: &mut [f64], k: u64, out: &mut [u8]) ->
 // Begin with theta, and what it came to.
 pub fn put_factor(h: &mut [u32], w: &mut [f64], theta: &[f64], out: &mut [u8]) -> usize
     requires { ⌜ (length (now w) ≤ 4096) × (131072 ≤ length (now out)) ⌝ }
-    ensures { λ n. ⌜ Text (factorWith (space (now (h .entry)) (now (w .entry))) (length (now (theta .entry))) (now (theta .entry))) n (now (out .exit)) ⌝ }
+    ensures { λ n. ⌜ Text (factorWith (space (now (h .entry)) (now (w .entry))) (length (now (theta .entry))) (now (theta .entry))) n (now (out .entry)) (now (out .exit)) ⌝ }
 {
     let a = begin::begin(h, w, theta);
     put_begun(a, h, w, theta.len() as u64, out)

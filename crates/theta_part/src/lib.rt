@@ -41,7 +41,7 @@ pub fn read_theta(s: &[u8], c: Cursor, k: u64, theta: &mut [f64]) -> Cursor
             return d;
         }
         let l = single_line::single_line(b"theta\t", s, d.at);
-        theta[i as usize] = vector_list::double(l.word);
+        theta[i as usize] = words::double(l.word);
         d = theta_line(l, i, d);
         i += 1;
     }

@@ -11,7 +11,7 @@ use sheet::Starts;
 // The theta part behind an accepted sheet, and begin with it; a line there that is not what is due, or one left over, is 2.
 pub fn put_theta(s: &[u8], z: Starts, h: &mut [u32], w: &mut [f64], out: &mut [u8]) -> usize
     requires { ⌜ (z .counts .k ≤ 8) × (z .line + z .counts .k < 9223372036854775808) × (length (now w) ≤ 4096) × (131072 ≤ length (now out)) ⌝ }
-    ensures { λ n. ⌜ Text (afterLoad Accepted (space (now (h .entry)) (now (w .entry))) (z .counts .k) (now (s .entry)) z) n (now (out .exit)) ⌝ }
+    ensures { λ n. ⌜ Text (afterLoad Accepted (space (now (h .entry)) (now (w .entry))) (z .counts .k) (now (s .entry)) z) n (now (out .entry)) (now (out .exit)) ⌝ }
 {
     let k = z.counts.k;
     let mut theta = [0f64; 8];

@@ -1,134 +1,73 @@
-// A list of cases: lines of sixteen hexadecimal digits and a line feed, a word each.
-pub mod tally;
-
+// A list of words on standard input: lines of sixteen lower-case hexadecimal digits and a line feed, a word each. A test program reads its
+// cases from one, and what it prints of them is held to the file stdout, which a script made. Nothing is tested here: a list out of form shows
+// in what is printed.
 ghost use Prim.Native.Nat.{_≤_};
-ghost use lib.ListN.{length};
+use libc::STDIN_FILENO;
+use libc::STDOUT_FILENO;
 
-// How a reading stands.
-pub const OPEN: u8 = 0;
-
-pub const ENDED: u8 = 1;
-
-pub const CUT: u8 = 2;
-
-pub const MALFORMED: u8 = 3;
-
-pub const FAILED: u8 = 4;
-
-// A case begins with this number above its own, which counts from 1.
-const CASE: u64 = 0xca5e0000;
-
-// A line's word, where the state is OPEN.
+// A line's word; more is false behind the last line.
 pub struct Word {
-    pub state: u8,
+    pub more: bool,
     pub word: u64,
 }
 
-// The value of a hexadecimal digit, and 16 for any other byte.
-fn digit(b: u8) -> u64 {
-    if b < 48 {
-        return 16;
-    }
-    if b < 58 {
-        return (b - 48) as u64;
-    }
-    if b < 97 {
-        return 16;
-    }
-    if b < 103 {
-        return (b - 87) as u64;
-    }
-    16
+// A byte's value, so that a sum of it fits.
+fn wide(b: u8) -> u64 {
+    b as u64
 }
 
-// Whether a line is sixteen digits and a line feed.
-fn is_line(line: &[u8; 17]) -> bool {
-    let mut ok = line[16] == 10;
-    let mut i: usize = 0;
-    while i < 16 {
-        ok = ok & (digit(line[i]) < 16);
-        i += 1;
-    }
-    ok
-}
-
-// The word that a line's digits spell.
+// The word that a line's digits spell. The letters have 6 in their upper half and lie ten less one behind the digits.
 fn spelt(line: &[u8; 17]) -> u64 {
     let mut w: u64 = 0;
     let mut i: usize = 0;
     while i < 16 {
-        w = w % 0x1000000000000000 * 16 + digit(line[i]) % 16;
+        let b = wide(line[i]);
+        w = w % 0x1000000000000000 * 16 + (b % 16 + b / 64 * 9) % 16;
         i += 1;
     }
     w
 }
 
-// Why a read of a line gave n bytes and no more: the end, an end within a line, or an error.
-fn state_after(fd: i32, n: usize) -> u8 {
-    let mut more = [0u8; 1];
-    if libc::read(fd, &mut more) != 0 {
-        return FAILED;
-    }
-    if n == 0 {
-        return ENDED;
-    }
-    CUT
-}
-
 // The next line.
-pub fn read_word(fd: i32) -> Word {
+pub fn read_word() -> Word {
     let mut line = [0u8; 17];
-    let n = io::read_full(fd, &mut line);
-    if n < 17 {
-        return Word {
-            state: state_after(fd, n),
-            word: 0,
-        };
-    }
-    if is_line(&line) {
-        return Word {
-            state: OPEN,
-            word: spelt(&line),
-        };
-    }
+    let n = io::read_full(STDIN_FILENO, &mut line);
     Word {
-        state: MALFORMED,
-        word: 0,
+        more: n == 17,
+        word: spelt(&line),
     }
 }
 
-// Fills the first n words by lines. A list that ends before is cut.
-pub fn read_words(fd: i32, words: &mut [u64], n: usize) -> u8
-    requires { ⌜ n ≤ length (now words) ⌝ }
+// Fills m from its word `from` to before `end` by lines.
+pub fn read_words(m: &mut [u64; 65536], from: usize, end: usize)
+    requires { ⌜ end ≤ 65536 ⌝ }
 {
-    let mut i: usize = 0;
-    while i < n {
-        let next = read_word(fd);
-        if next.state == ENDED {
-            return CUT;
-        }
-        if next.state != OPEN {
-            return next.state;
-        }
-        words[i] = next.word;
+    let mut i = from;
+    while i < end {
+        m[i] = read_word().word;
         i += 1;
     }
-    OPEN
 }
 
-// The 20 words behind the first of the case with this number.
-pub fn read_head(fd: i32, head: &mut [u64; 20], number: u64) -> u8 {
-    let first = read_word(fd);
-    let state = first.state;
-    if state != OPEN {
-        return state;
+// A word as a size, and `most` where it is larger.
+pub fn size(x: u64, most: usize) -> usize
+    ensures { λ r. ⌜ r ≤ most ⌝ }
+{
+    if x > most as u64 {
+        return most;
     }
-    let word = first.word;
-    if word / 0x100000000 != CASE {
-        return MALFORMED;
-    }
-    if word % 0x100000000 != number {
-        return MALFORMED;
-    }
-    read_words(fd, head, 20)
+    x as usize
+}
+
+// A blank and a number.
+pub fn print_number(x: u64) {
+    io::write_all(STDOUT_FILENO, b" ");
+    io::print_decimal(STDOUT_FILENO, x);
+}
+
+// A blank, a word's digits and a line feed.
+pub fn print_word(x: u64) {
+    io::write_all(STDOUT_FILENO, b" ");
+    io::print_hex(STDOUT_FILENO, x, 16);
+    io::write_all(STDOUT_FILENO, b"\n");
 }

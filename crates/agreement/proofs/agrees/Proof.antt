@@ -1,6 +1,6 @@
 -- `agreement::agrees` meets its contract.
 use borrow.Author.Needs.{needs}
-use Rattle.vector_list.proofs.Laws.{between}
+use Rattle.words.proofs.Laws.{between}
 use Rattle.agreement.proofs.agrees.Statement.{statement}
 use Rattle.agreement.proofs.agrees.Tie as tie
 

@@ -9,87 +9,66 @@ use Rattle.axpy.proofs.add_columns.Lts as lts
 use Rattle.axpy.proofs.add_four.Reads as add-four-reads
 use Rattle.axpy.proofs.signed.Reads as signed-reads
 
--- src/lib.rt:71:14
 add-p1 : tie.Need-add-p1
 add-p1 c = search needs
 
--- src/lib.rt:72:14
 add-p2 : tie.Need-add-p2
 add-p2 c = search needs
 
--- src/lib.rt:73:14
 add-p3 : tie.Need-add-p3
 add-p3 c = search needs
 
--- src/lib.rt:74:14
 add-q1 : tie.Need-add-q1
 add-q1 c = search needs
 
--- src/lib.rt:75:14
 add-q2 : tie.Need-add-q2
 add-q2 c = search needs
 
--- src/lib.rt:76:14
 add-q3 : tie.Need-add-q3
 add-q3 c = search needs
 
--- src/lib.rt:77:20
 mul-signed : tie.Need-mul-signed
 mul-signed c = search needs
 
--- src/lib.rt:77:20
 shared-slice-read-signed : tie.Need-shared-slice-read-signed
 shared-slice-read-signed c = search needs
 
--- src/lib.rt:77:9
 signed-requires : tie.Need-signed-requires
 signed-requires c κs = search needs
 
--- src/lib.rt:78:21
 mul-signed-2 : tie.Need-mul-signed-2
 mul-signed-2 c = search needs
 
--- src/lib.rt:78:21
 shared-slice-read-signed-2 : tie.Need-shared-slice-read-signed-2
 shared-slice-read-signed-2 c = search needs
 
--- src/lib.rt:78:9
 signed-requires-2 : tie.Need-signed-requires-2
 signed-requires-2 c κs = search needs
 
--- src/lib.rt:79:21
 mul-signed-3 : tie.Need-mul-signed-3
 mul-signed-3 c = search needs
 
--- src/lib.rt:79:21
 shared-slice-read-signed-3 : tie.Need-shared-slice-read-signed-3
 shared-slice-read-signed-3 c = search needs
 
--- src/lib.rt:79:9
 signed-requires-3 : tie.Need-signed-requires-3
 signed-requires-3 c κs = search needs
 
--- src/lib.rt:80:21
 mul-signed-4 : tie.Need-mul-signed-4
 mul-signed-4 c = search needs
 
--- src/lib.rt:80:21
 shared-slice-read-signed-4 : tie.Need-shared-slice-read-signed-4
 shared-slice-read-signed-4 c = search needs
 
--- src/lib.rt:80:9
 signed-requires-4 : tie.Need-signed-requires-4
 signed-requires-4 c κs = search needs
 
--- src/lib.rt:81:5
 add-four-requires : tie.Need-add-four-requires
 add-four-requires c κs = search needs
 
--- src/lib.rt:57:1
 same-length : tie.Need-same-length
 same-length c = search needs
 
--- src/lib.rt:57:1
 returns : tie.Need-returns
 returns c =
     let a = c .before .before .before .before .before .before .before .before .before .before .before .before .before .before .before .args in

@@ -21,85 +21,65 @@ Inv-loop acc₀ n w p p1 p2 p3 f f1 f2 f3 i₀ acc i =
 abbrev μ-loop : tie.MeasureT-loop
 μ-loop acc₀ n w p p1 p2 p3 f f1 f2 f3 i₀ acc i = n - i
 
--- src/lib.rt:40:5
 loop-holds : tie.Need-loop-holds Inv-loop μ-loop
 loop-holds c =
     let a = c .args in
     (omega arith, refl, made-none 0 (a .n) (oneMore (ieee .plus) (a .w .now) (a .p3) (a .f3) (oneMore (ieee .plus) (a .w .now) (a .p2) (a .f2) (oneMore (ieee .plus) (a .w .now) (a .p1) (a .f1) (oneMore (ieee .plus) (a .w .now) (a .p) (a .f) (at (a .acc .now)))))) (a .acc .now) (omega arith))
 
--- src/lib.rt:41:18
 mul-acc : tie.Need-mul-acc Inv-loop μ-loop
 mul-acc c = search needs
 
--- src/lib.rt:41:18
 slice-read-acc : tie.Need-slice-read-acc Inv-loop μ-loop
 slice-read-acc c = search needs
 
--- src/lib.rt:41:29
 add-acc : tie.Need-add-acc Inv-loop μ-loop
 add-acc c = search needs
 
--- src/lib.rt:41:27
 mul-acc-2 : tie.Need-mul-acc-2 Inv-loop μ-loop
 mul-acc-2 c = search needs
 
--- src/lib.rt:41:27
 shared-slice-read-acc : tie.Need-shared-slice-read-acc Inv-loop μ-loop
 shared-slice-read-acc c = search needs
 
--- src/lib.rt:41:44
 add-acc-2 : tie.Need-add-acc-2 Inv-loop μ-loop
 add-acc-2 c = search needs
 
--- src/lib.rt:41:42
 mul-acc-3 : tie.Need-mul-acc-3 Inv-loop μ-loop
 mul-acc-3 c = search needs
 
--- src/lib.rt:41:42
 shared-slice-read-acc-2 : tie.Need-shared-slice-read-acc-2 Inv-loop μ-loop
 shared-slice-read-acc-2 c = search needs
 
--- src/lib.rt:41:61
 add-acc-3 : tie.Need-add-acc-3 Inv-loop μ-loop
 add-acc-3 c = search needs
 
--- src/lib.rt:41:59
 mul-acc-4 : tie.Need-mul-acc-4 Inv-loop μ-loop
 mul-acc-4 c = search needs
 
--- src/lib.rt:41:59
 shared-slice-read-acc-3 : tie.Need-shared-slice-read-acc-3 Inv-loop μ-loop
 shared-slice-read-acc-3 c = search needs
 
--- src/lib.rt:41:78
 add-acc-4 : tie.Need-add-acc-4 Inv-loop μ-loop
 add-acc-4 c = search needs
 
--- src/lib.rt:41:76
 mul-acc-5 : tie.Need-mul-acc-5 Inv-loop μ-loop
 mul-acc-5 c = search needs
 
--- src/lib.rt:41:76
 shared-slice-read-acc-4 : tie.Need-shared-slice-read-acc-4 Inv-loop μ-loop
 shared-slice-read-acc-4 c = search needs
 
--- src/lib.rt:41:9
 mul-acc-6 : tie.Need-mul-acc-6 Inv-loop μ-loop
 mul-acc-6 c = search needs
 
--- src/lib.rt:41:9
 slice-write-acc : tie.Need-slice-write-acc Inv-loop μ-loop
 slice-write-acc c = search needs
 
--- src/lib.rt:42:9
 add-i : tie.Need-add-i Inv-loop μ-loop
 add-i c = search needs
 
--- src/lib.rt:40:5
 loop-less : tie.Need-loop-less Inv-loop μ-loop
 loop-less c = search needs
 
--- src/lib.rt:40:5
 loop-again : tie.Need-loop-again Inv-loop μ-loop
 loop-again c =
     let a = c .before .before .before .before .before .before .before .args in
@@ -108,11 +88,9 @@ loop-again c =
     (λ (s : Float). oneMore (ieee .plus) (a .w .now) (a .p3) (a .f3) (oneMore (ieee .plus) (a .w .now) (a .p2) (a .f2) (oneMore (ieee .plus) (a .w .now) (a .p1) (a .f1) (oneMore (ieee .plus) (a .w .now) (a .p) (a .f) (λ i. s)))) (l .i)) refl in
     (omega arith, simp length-set (omega arith), rw add-one t)
 
--- src/lib.rt:23:1
 same-length : tie.Need-same-length Inv-loop μ-loop
 same-length c = search needs
 
--- src/lib.rt:23:1
 returns : tie.Need-returns Inv-loop μ-loop
 returns c =
     let a = c .before .before .args in

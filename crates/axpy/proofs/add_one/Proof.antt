@@ -20,49 +20,38 @@ Inv-loop acc₀ n w p f i₀ acc i = (i ≤ n) × (length acc ≡ length acc₀)
 abbrev μ-loop : tie.MeasureT-loop
 μ-loop acc₀ n w p f i₀ acc i = n - i
 
--- src/lib.rt:16:5
 loop-holds : tie.Need-loop-holds Inv-loop μ-loop
 loop-holds c =
     let a = c .args in
     (omega arith, refl, made-none 0 (a .n) (oneMore (ieee .plus) (a .w .now) (a .p) (a .f) (at (a .acc .now))) (a .acc .now) (omega arith))
 
--- src/lib.rt:17:18
 mul-acc : tie.Need-mul-acc Inv-loop μ-loop
 mul-acc c = search needs
 
--- src/lib.rt:17:18
 slice-read-acc : tie.Need-slice-read-acc Inv-loop μ-loop
 slice-read-acc c = search needs
 
--- src/lib.rt:17:29
 add-acc : tie.Need-add-acc Inv-loop μ-loop
 add-acc c = search needs
 
--- src/lib.rt:17:27
 mul-acc-2 : tie.Need-mul-acc-2 Inv-loop μ-loop
 mul-acc-2 c = search needs
 
--- src/lib.rt:17:27
 shared-slice-read-acc : tie.Need-shared-slice-read-acc Inv-loop μ-loop
 shared-slice-read-acc c = search needs
 
--- src/lib.rt:17:9
 mul-acc-3 : tie.Need-mul-acc-3 Inv-loop μ-loop
 mul-acc-3 c = search needs
 
--- src/lib.rt:17:9
 slice-write-acc : tie.Need-slice-write-acc Inv-loop μ-loop
 slice-write-acc c = search needs
 
--- src/lib.rt:18:9
 add-i : tie.Need-add-i Inv-loop μ-loop
 add-i c = search needs
 
--- src/lib.rt:16:5
 loop-less : tie.Need-loop-less Inv-loop μ-loop
 loop-less c = search needs
 
--- src/lib.rt:16:5
 loop-again : tie.Need-loop-again Inv-loop μ-loop
 loop-again c =
     let a = c .before .before .before .before .args in
@@ -71,11 +60,9 @@ loop-again c =
     (λ (s : Float). ieee .plus s (ieee .times (at (a .w .now) (a .p + l .i)) (a .f))) refl in
     (omega arith, simp length-set (omega arith), rw add-one t)
 
--- src/lib.rt:11:1
 same-length : tie.Need-same-length Inv-loop μ-loop
 same-length c = search needs
 
--- src/lib.rt:11:1
 returns : tie.Need-returns Inv-loop μ-loop
 returns c =
     let a = c .before .before .args in

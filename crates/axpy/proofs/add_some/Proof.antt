@@ -13,39 +13,32 @@ use Rattle.axpy.proofs.add_columns.Reads as add-columns-reads
 use Rattle.axpy.proofs.add_one.Reads as add-one-reads
 use Rattle.axpy.proofs.signed.Reads as signed-reads
 
--- src/lib.rt:101:16
 add-from : tie.Need-add-from
 add-from c =
     let a = c .before .before .before .args in
     omega (arith, one-fits (a .q) (a .step) (a .left) (length (a .v .now)) (omega arith) (omega arith), one-fits (a .p) (a .rows) (a .left) (length (a .w .now)) (omega arith) (omega arith))
 
--- src/lib.rt:103:24
 mul-signed : tie.Need-mul-signed
 mul-signed c =
     let a = c .before .before .before .before .args in
     omega (arith, one-fits (a .q) (a .step) (a .left) (length (a .v .now)) (omega arith) (omega arith), one-fits (a .p) (a .rows) (a .left) (length (a .w .now)) (omega arith) (omega arith))
 
--- src/lib.rt:103:24
 shared-slice-read-signed : tie.Need-shared-slice-read-signed
 shared-slice-read-signed c =
     let a = c .before .before .before .before .before .args in
     omega (arith, one-fits (a .q) (a .step) (a .left) (length (a .v .now)) (omega arith) (omega arith), one-fits (a .p) (a .rows) (a .left) (length (a .w .now)) (omega arith) (omega arith))
 
--- src/lib.rt:103:13
 signed-requires : tie.Need-signed-requires
 signed-requires c κs = search needs
 
--- src/lib.rt:104:9
 add-one-requires : tie.Need-add-one-requires
 add-one-requires c κs =
     let a = c .before .before .before .before .before .before .before .args in
     omega (arith, one-fits (a .q) (a .step) (a .left) (length (a .v .now)) (omega arith) (omega arith), one-fits (a .p) (a .rows) (a .left) (length (a .w .now)) (omega arith) (omega arith))
 
--- src/lib.rt:105:9
 same-length : tie.Need-same-length
 same-length c = search needs
 
--- src/lib.rt:105:9
 returns : tie.Need-returns
 returns c =
     let a = c .before .before .before .before .before .before .before .before .before .before .args in
@@ -53,17 +46,14 @@ returns c =
     (a .acc .now) _ (a .q + a .r) (omega arith) (omega arith)
     (one-signed (a .less) (a .acc .now) _ (a .n) (a .w .now) (a .p) (at (a .v .now) (a .q + a .r)) _ (c .before .before .before .before .signed .ensures) (c .before .before .add-one .ensures))
 
--- src/lib.rt:107:5
 add-columns-requires : tie.Need-add-columns-requires
 add-columns-requires c κs =
     let a = c .before .before .before .before .before .args in
     omega (arith, four-fit (a .q) (a .step) (a .left) (length (a .v .now)) (omega arith) (omega arith), four-fit (a .p) (a .rows) (a .left) (length (a .w .now)) (omega arith) (omega arith))
 
--- src/lib.rt:85:1
 same-length-2 : tie.Need-same-length-2
 same-length-2 c = search needs
 
--- src/lib.rt:85:1
 returns-2 : tie.Need-returns-2
 returns-2 c =
     let a = c .before .before .before .before .before .before .before .before .args in

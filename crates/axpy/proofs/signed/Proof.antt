@@ -7,12 +7,10 @@ use Rattle.axpy.proofs.signed.Tie as tie
 use Rattle.axpy.proofs.signed.Reads as reads
 use Rattle.axpy.proofs.signed.Lts as lts
 
--- src/lib.rt:15:9
 returns : tie.Need-returns
 unfolding neg
 returns c = search needs
 
--- src/lib.rt:11:1
 returns-2 : tie.Need-returns-2
 returns-2 c = search needs
 

@@ -21,7 +21,6 @@ Inv-loop acc₀ n w a rows v b step r inner less x₀ p₀ q₀ acc x p q =
 abbrev μ-loop : tie.MeasureT-loop
 μ-loop acc₀ n w a rows v b step r inner less x₀ p₀ q₀ acc x p q = inner - x
 
--- src/lib.rt:96:5
 loop-holds : tie.Need-loop-holds Inv-loop μ-loop
 loop-holds c =
     let a = c .before .before .before .args in (
@@ -32,11 +31,9 @@ loop-holds c =
       none-taken (taking (a .less)) (a .acc .now) (a .n) (a .w .now) (a .a) (a .rows) (a .v .now) (a .b) (a .step) (a .r) (omega arith) (omega arith) (omega arith),
     )
 
--- src/lib.rt:97:61
 sub-add-some : tie.Need-sub-add-some Inv-loop μ-loop
 sub-add-some c = search needs
 
--- src/lib.rt:97:13
 add-some-requires : tie.Need-add-some-requires Inv-loop μ-loop
 add-some-requires c κs =
     let a = c .before .before .before .before .before .before .args in
@@ -47,7 +44,6 @@ add-some-requires c κs =
       left-fits (a .b) (a .step) (l .x) (a .inner) (l .q) (length (a .v .now)) (omega arith) (omega arith) (omega arith),
     )
 
--- src/lib.rt:98:14
 mul-p : tie.Need-mul-p Inv-loop μ-loop
 mul-p c =
     let a = c .before .before .before .before .before .before .before .before .before .args in
@@ -59,7 +55,6 @@ mul-p c =
       next-start (a .b) (a .step) (l .x) k (a .inner) (l .q) (length (a .v .now)) (omega arith) (omega arith) (omega arith),
     )
 
--- src/lib.rt:98:9
 add-p : tie.Need-add-p Inv-loop μ-loop
 add-p c =
     let a = c .before .before .before .before .before .before .before .before .before .args in
@@ -71,7 +66,6 @@ add-p c =
       next-start (a .b) (a .step) (l .x) k (a .inner) (l .q) (length (a .v .now)) (omega arith) (omega arith) (omega arith),
     )
 
--- src/lib.rt:99:14
 mul-q : tie.Need-mul-q Inv-loop μ-loop
 mul-q c =
     let a = c .before .before .before .before .before .before .before .before .before .args in
@@ -83,7 +77,6 @@ mul-q c =
       next-start (a .b) (a .step) (l .x) k (a .inner) (l .q) (length (a .v .now)) (omega arith) (omega arith) (omega arith),
     )
 
--- src/lib.rt:99:9
 add-q : tie.Need-add-q Inv-loop μ-loop
 add-q c =
     let a = c .before .before .before .before .before .before .before .before .before .args in
@@ -95,15 +88,12 @@ add-q c =
       next-start (a .b) (a .step) (l .x) k (a .inner) (l .q) (length (a .v .now)) (omega arith) (omega arith) (omega arith),
     )
 
--- src/lib.rt:100:9
 add-x : tie.Need-add-x Inv-loop μ-loop
 add-x c = search needs
 
--- src/lib.rt:96:5
 loop-less : tie.Need-loop-less Inv-loop μ-loop
 loop-less c = search needs
 
--- src/lib.rt:96:5
 loop-again : tie.Need-loop-again Inv-loop μ-loop
 loop-again c =
     let a = c .before .before .before .before .before .before .before .before .before .args in
@@ -122,11 +112,9 @@ loop-again c =
           (omega (arith, start-le (dense (a .step)) (l .x + s .result) (a .inner) room)) (l .inv .4) (s .ensures .2),
     )
 
--- src/lib.rt:78:1
 same-length : tie.Need-same-length Inv-loop μ-loop
 same-length c = search needs
 
--- src/lib.rt:78:1
 returns : tie.Need-returns Inv-loop μ-loop
 returns c =
     let a = c .before .before .before .before .before .args in

@@ -1,6 +1,11 @@
 -- `bare_line::bare_line`: field by field, as defined.
 use borrow.Author.Needs.{needs}
-use Rattle.sheet.specs.Line.{bareLine}
+use Prim.Native.Nat.{ℕ}
+use mathlib.Core.Path.{_≡_}
+use mathlib.Core.List.{List}
+use Rattle.sheet.specs.declared.Field.{Field}
+use Rattle.sheet.specs.declared.Line.{Line}
+use Rattle.sheet.specs.Line.{bareLine, tagTo, wordTo}
 use Rattle.bare_line.proofs.bare_line.Statement.{statement}
 use Rattle.bare_line.proofs.bare_line.Tie as tie
 use Rattle.bare_line.proofs.bare_line.Reads as reads
@@ -14,9 +19,14 @@ tag-requires c κs = search needs
 word-requires : tie.Need-word-requires
 word-requires c κs = search needs
 
-returns : tie.Need-returns
+bare : (t s : List ℕ) (at : ℕ) (o w : Field) → o ≡ tagTo t s at → w ≡ wordTo s (o .next) → _≡_ {A = Line} (record { first = 0; second = 0; word = w .value; next = w .next }) (bareLine t s at)
 unfolding bareLine
-returns c = cc
+bare t s at o w e f = cc
+
+returns : tie.Need-returns
+returns c =
+    let a = c .before .before .before .before .args in
+    bare (a .t .now) (a .s .now) (a .at) (c .before .tag .result) (c .word .result) (c .before .tag .ensures) (c .word .ensures)
 
 pub bare-line-spec : {M : Type 1} → statement M
 bare-line-spec = tie.close (tie.spec tag-requires word-requires returns)

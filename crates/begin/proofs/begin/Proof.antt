@@ -10,35 +10,27 @@ use Rattle.begin.proofs.begin_headed.Reads as begin-headed-reads
 use Rattle.begin.proofs.refused.Reads as refused-reads
 use Rattle.headed.proofs.is_headed.Reads as is-headed-reads
 
--- src/lib.rt:89:8
 is-headed-requires : tie.Need-is-headed-requires
 is-headed-requires c κs = search needs
 
--- src/lib.rt:90:9
 begin-headed-requires : tie.Need-begin-headed-requires
 begin-headed-requires c κs = sym (c .before .before .before .is-headed .ensures) ∙ c .before .before .if1 .taken
 
--- src/lib.rt:90:9
 same-length : tie.Need-same-length
 same-length c = search needs
 
--- src/lib.rt:90:9
 same-length-2 : tie.Need-same-length-2
 same-length-2 c = search needs
 
--- src/lib.rt:90:9
 returns : tie.Need-returns
 returns c = search needs
 
--- src/lib.rt:92:21
 refused-requires : tie.Need-refused-requires
 refused-requires c κs = search needs
 
--- src/lib.rt:86:1
 same-length-3 : tie.Need-same-length-3
 same-length-3 c = search needs
 
--- src/lib.rt:86:1
 returns-2 : tie.Need-returns-2
 returns-2 c =
     let a = c .before .before .before .before .before .before .before .args in

@@ -11,62 +11,50 @@ use Rattle.begin.proofs.write.Reads as write-reads
 use Rattle.finite.proofs.first_infinite.Reads as first-infinite-reads
 use Rattle.heading.proofs.layout.Reads as layout-reads
 
--- src/lib.rt:71:9
 layout-requires : tie.Need-layout-requires
 layout-requires c κs =
     let s = c .before .before .before .before in
     fits (s .args .h .now) _ (s .pre) .long
 
--- src/lib.rt:74:32
 refused-requires : tie.Need-refused-requires
 refused-requires c κs = search needs
 
--- src/lib.rt:74:9
 same-length : tie.Need-same-length
 same-length c = search needs
 
--- src/lib.rt:74:9
 returns : tie.Need-returns
 returns c =
     let s = c .before .before .before .before .before .before .before in
     let a = s .args in
     wrong-length (a .h .now) (a .w .now) (a .theta .now) (s .pre) _ (c .before .before .layout .ensures) (c .before .if1 .taken) _ (c .refused .ensures)
 
--- src/lib.rt:76:9
 first-infinite-requires : tie.Need-first-infinite-requires
 first-infinite-requires c κs = search needs
 
--- src/lib.rt:78:32
 refused-requires-2 : tie.Need-refused-requires-2
 refused-requires-2 c κs = search needs
 
--- src/lib.rt:78:9
 same-length-2 : tie.Need-same-length-2
 same-length-2 c = search needs
 
--- src/lib.rt:78:9
 returns-2 : tie.Need-returns-2
 returns-2 c =
     let s = c .before .before .before .before .before .before .before .before .before in
     let a = s .args in
     not-finite (a .h .now) (a .w .now) (a .theta .now) (s .pre) _ (c .before .before .before .before .layout .ensures) (c .before .before .before .if1 .left) _ (c .before .before .first-infinite .ensures) (c .before .if2 .taken) _ (c .refused2 .ensures)
 
--- src/lib.rt:80:5
 write-requires : tie.Need-write-requires
 write-requires c κs =
     let s = c .before .before .before .before .before .before .before .before .before .before in
     let a = s .args in
     ready (a .h .now) (a .w .now) (a .theta .now) (s .pre) _ (c .before .before .before .before .before .layout .ensures) (c .before .before .before .before .if1 .left) _ (c .before .before .before .first-infinite .ensures)
 
--- src/lib.rt:67:1
 same-length-3 : tie.Need-same-length-3
 same-length-3 c = search needs
 
--- src/lib.rt:67:1
 same-length-4 : tie.Need-same-length-4
 same-length-4 c = search needs
 
--- src/lib.rt:67:1
 returns-3 : tie.Need-returns-3
 returns-3 c =
     let s = c .before .before .before .before .before .before .before .before .before .before .before .before .before .before .before in

@@ -13,31 +13,25 @@ use Rattle.begin_writes.proofs.under_way.Reads as under-way-reads
 use Rattle.begin_writes.proofs.write_doubles.Reads as write-doubles-reads
 use Rattle.heading_writer.proofs.write_progress.Reads as write-progress-reads
 
--- src/lib.rt:62:5
 write-doubles-requires : tie.Need-write-doubles-requires
 write-doubles-requires c κs = search needs
 
--- src/lib.rt:63:32
 under-way-requires : tie.Need-under-way-requires
 under-way-requires c κs =
     let s = c .before .before .before .before .before .before .before .before in
     few-blocks (s .args .y) (s .pre .1)
 
--- src/lib.rt:63:5
 write-progress-requires : tie.Need-write-progress-requires
 write-progress-requires c κs =
     let s = c .before .before .before .before .before .before .before .before .before in
     (s .pre .0, subst SmallProgress (sym (c .under-way .ensures)) (under-way-small (s .args .y .k) (few-blocks (s .args .y) (s .pre .1))))
 
--- src/lib.rt:58:1
 same-length : tie.Need-same-length
 same-length c = search needs
 
--- src/lib.rt:58:1
 same-length-2 : tie.Need-same-length-2
 same-length-2 c = search needs
 
--- src/lib.rt:58:1
 returns : tie.Need-returns
 returns c =
     let s = c .before .before .before .before .before .before .before .before .before .before .before .before in

@@ -10,11 +10,9 @@ use Rattle.begin_writes.proofs.under_way.Reads as reads
 use Rattle.begin_writes.proofs.under_way.Lts as lts
 use Rattle.progress.proofs.step_count.Reads as step-count-reads
 
--- src/lib.rt:36:9
 step-count-requires : tie.Need-step-count-requires
 step-count-requires c κs = search needs
 
--- src/lib.rt:32:1
 returns : tie.Need-returns
 returns c =
     ap (λ (n : ℕ). record { state = UnderWay; left = n; stages = replicate 45 0 }) (c .step-count .ensures)

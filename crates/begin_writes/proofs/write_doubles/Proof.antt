@@ -14,47 +14,38 @@ use Rattle.places.proofs.theta_at.Reads as theta-at-reads
 use Rattle.run_copies.proofs.put.Reads as put-reads
 use Rattle.starting.proofs.start_blocks.Reads as start-blocks-reads
 
--- src/lib.rt:49:9
 theta-at-requires : tie.Need-theta-at-requires
 theta-at-requires c κs = search needs
 
--- src/lib.rt:50:9
 sum-at-requires : tie.Need-sum-at-requires
 sum-at-requires c κs = search needs
 
--- src/lib.rt:52:22
 add-put : tie.Need-add-put
 add-put c =
     let s = c .before .before .before .before .before in
     omega (arith, s .pre .1, s .pre .2, c .before .before .theta-at .ensures, theta-inside (s .args .y), doubles-small (s .args .y) (s .pre .0))
 
--- src/lib.rt:52:5
 put-requires : tie.Need-put-requires
 put-requires c κs =
     let s = c .before .before .before .before .before in
     (omega arith, omega (arith, s .pre .1, s .pre .2, c .before .before .theta-at .ensures, theta-inside (s .args .y)), omega arith)
 
--- src/lib.rt:53:5
 start-blocks-requires : tie.Need-start-blocks-requires
 start-blocks-requires c κs = search needs
 
--- src/lib.rt:54:5
 mul-w : tie.Need-mul-w
 mul-w c =
     let s = c .before .before .before .before .before .before .before .before .before .before .before .before in
     omega (arith, s .pre .2, c .before .before .before .before .before .before .before .before .before .theta-at .ensures, c .before .before .before .before .before .before .before .before .sum-at .ensures, theta-inside (s .args .y), doubles-small (s .args .y) (s .pre .0))
 
--- src/lib.rt:54:5
 slice-write-w : tie.Need-slice-write-w
 slice-write-w c =
     let s = c .before .before .before .before .before .before .before .before .before .before .before .before in
     omega (arith, s .pre .2, c .before .before .before .before .before .before .before .before .before .theta-at .ensures, c .before .before .before .before .before .before .before .before .sum-at .ensures, theta-inside (s .args .y), doubles-small (s .args .y) (s .pre .0))
 
--- src/lib.rt:45:1
 same-length : tie.Need-same-length
 same-length c = simp length-set (omega arith)
 
--- src/lib.rt:45:1
 returns : tie.Need-returns
 returns c =
     let s = c .before .before .before .before .before .before .before .before .before .before .before .before in

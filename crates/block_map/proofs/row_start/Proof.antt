@@ -16,49 +16,40 @@ Inv-loop j y before sum₀ i₀ sum i = (before ≡ getD (y .order) j 0) × (bef
 abbrev μ-loop : tie.MeasureT-loop
 μ-loop j y before sum₀ i₀ sum i = before - i
 
--- src/lib.rt:47:18
 mul-before : tie.Need-mul-before Inv-loop μ-loop
 mul-before c =
     let s = c in
     omega (arith, is-lawful (s .args .t1) (s .pre .0) .blocks .1)
 
--- src/lib.rt:47:18
 element-copy-out-before : tie.Need-element-copy-out-before Inv-loop μ-loop
 element-copy-out-before c = omega (arith, is-lawful (c .args .t1) (c .pre .0) .blocks .1)
 
--- src/lib.rt:50:5
 loop-holds : tie.Need-loop-holds Inv-loop μ-loop
 loop-holds c =
     let s = c .before in
     (refl, omega (arith, order-below (s .args .t1) (s .pre .0) (s .args .j) (s .pre .1), is-lawful (s .args .t1) (s .pre .0) .blocks .1), omega arith, sum-none (sheetLevels (s .args .t1) (s .args .t1 .k)))
 
--- src/lib.rt:51:16
 sheet-levels-requires : tie.Need-sheet-levels-requires Inv-loop μ-loop
 sheet-levels-requires c κs = c .before .before .before .pre .0
 
--- src/lib.rt:51:9
 add-sum : tie.Need-add-sum Inv-loop μ-loop
 add-sum c =
     let s = c .before .before .before .before in
     let l = c .before .before .loop in
     omega (arith, l .inv .3, rows-small (s .args .t1) (s .pre .0) (l .i), c .sheet-levels .ensures, levels-small (s .args .t1) (s .pre .0) (l .i))
 
--- src/lib.rt:52:9
 add-i : tie.Need-add-i Inv-loop μ-loop
 add-i c = omega arith
 
--- src/lib.rt:50:5
 loop-less : tie.Need-loop-less Inv-loop μ-loop
 loop-less c = omega arith
 
--- src/lib.rt:50:5
 loop-again : tie.Need-loop-again Inv-loop μ-loop
 loop-again c =
     let a = c .before .before .before .before .args in
     let l = c .before .before .loop in
     (refl, l .inv .1, omega arith, sum-more (sheetLevels (a .t1) (a .t1 .k)) (l .i) (l .sum) (c .sheet-levels .result) (l .inv .3) (c .sheet-levels .ensures))
 
--- src/lib.rt:43:1
 returns : tie.Need-returns Inv-loop μ-loop
 returns c =
     let a = c .before .before .before .args in

@@ -15,46 +15,36 @@ Inv-loop i y k m₀ s₀ m s = (k ≡ y .k) × (k ≤ 8) × (s ≤ k) × (m ≡ 
 abbrev μ-loop : tie.MeasureT-loop
 μ-loop i y k m₀ s₀ m s = k - s
 
--- src/lib.rt:35:5
 loop-holds : tie.Need-loop-holds Inv-loop μ-loop
 loop-holds c = (refl, is-lawful (c .args .t1) (c .pre) .blocks .1, omega arith, sheet-none (c .args .t1) (c .args .i))
 
--- src/lib.rt:36:20
 mul-choose : tie.Need-mul-choose Inv-loop μ-loop
 mul-choose c = search needs
 
--- src/lib.rt:36:20
 element-copy-out-choose : tie.Need-element-copy-out-choose Inv-loop μ-loop
 element-copy-out-choose c = omega arith
 
--- src/lib.rt:36:37
 mul-choose-2 : tie.Need-mul-choose-2 Inv-loop μ-loop
 mul-choose-2 c = search needs
 
--- src/lib.rt:36:37
 element-copy-out-choose-2 : tie.Need-element-copy-out-choose-2 Inv-loop μ-loop
 element-copy-out-choose-2 c = omega arith
 
--- src/lib.rt:36:9
 choose-requires : tie.Need-choose-requires Inv-loop μ-loop
 choose-requires c κs = search needs
 
--- src/lib.rt:37:9
 add-s : tie.Need-add-s Inv-loop μ-loop
 add-s c = omega arith
 
--- src/lib.rt:35:5
 loop-less : tie.Need-loop-less Inv-loop μ-loop
 loop-less c = omega arith
 
--- src/lib.rt:35:5
 loop-again : tie.Need-loop-again Inv-loop μ-loop
 loop-again c =
     let a = c .before .before .before .before .before .args in
     let l = c .before .before .before .before .loop in
     (refl, omega arith, omega arith, sheet-more (a .t1) (a .i) (l .s) (l .m) (c .choose .result) (l .inv .3) (c .choose .ensures))
 
--- src/lib.rt:28:1
 returns : tie.Need-returns Inv-loop μ-loop
 returns c =
     let a = c .before .before .args in

@@ -5,17 +5,14 @@ use borrow.Author.Needs.{needs}
 use Rattle.block_map.proofs.within.Statement.{statement}
 use Rattle.block_map.proofs.within.Tie as tie
 
--- src/lib.rt:121:9
 returns : tie.Need-returns
 returns c =
     let a = c .before .args in
     rw (lt-leb (a .first) (a .x) (omega arith))
 
--- src/lib.rt:123:9
 add-result : tie.Need-add-result
 add-result c = search needs
 
--- src/lib.rt:116:1
 returns-2 : tie.Need-returns-2
 returns-2 c =
     let a = c .before .args in

@@ -7,21 +7,17 @@ use borrow.Author.Needs.{needs}
 use Rattle.block_sizes.proofs.all_cells.Statement.{statement}
 use Rattle.block_sizes.proofs.all_cells.Tie as tie
 
--- src/lib.rt:136:5
 cells-before-requires : tie.Need-cells-before-requires
 cells-before-requires c κs = search needs
 
--- src/lib.rt:136:41
 size-of-requires : tie.Need-size-of-requires
 size-of-requires c κs = search needs
 
--- src/lib.rt:136:5
 add-result : tie.Need-add-result
 add-result c =
     let s = c .before .before in
     omega (arith, last-ends (sizesOf (s .args .y) (s .args .loaded)) (s .args .y .k), cells-small (s .args .y) (s .pre) (s .args .loaded), c .before .cells-before .ensures, c .size-of .ensures)
 
--- src/lib.rt:132:1
 returns : tie.Need-returns
 returns c =
     let s = c .before .before in

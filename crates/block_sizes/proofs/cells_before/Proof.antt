@@ -11,11 +11,9 @@ use borrow.Author.Needs.{needs}
 use Rattle.block_sizes.proofs.cells_before.Statement.{statement}
 use Rattle.block_sizes.proofs.cells_before.Tie as tie
 
--- src/lib.rt:125:13
 factor-cells-requires : tie.Need-factor-cells-requires
 factor-cells-requires c κs = search needs
 
--- src/lib.rt:125:13
 returns : tie.Need-returns
 returns c =
     let a = c .before .before .before .before .args in
@@ -25,15 +23,12 @@ returns c =
     (subst (λ (x : ℕ). before (sizesOf (a .y) (a .loaded)) (targets (a .y .k)) x (a .j) ≡ cellsOf (sizesOf (a .y) (a .loaded)) (factors (a .j))) (sym e)
     (before-factor (sizesOf (a .y) (a .loaded)) (a .y .k) (a .j) (omega arith)))
 
--- src/lib.rt:128:5
 factor-cells-requires-2 : tie.Need-factor-cells-requires-2
 factor-cells-requires-2 c κs = search needs
 
--- src/lib.rt:128:36
 pair-cells-requires : tie.Need-pair-cells-requires
 pair-cells-requires c κs = search needs
 
--- src/lib.rt:128:5
 add-result : tie.Need-add-result
 add-result c =
     let s = c .before .before .before in
@@ -46,11 +41,9 @@ add-result c =
       c .pair-cells .ensures,
     )
 
--- src/lib.rt:128:63
 row-cells-requires : tie.Need-row-cells-requires
 row-cells-requires c κs = search needs
 
--- src/lib.rt:128:5
 add-result-2 : tie.Need-add-result-2
 add-result-2 c =
     let s = c .before .before .before .before in
@@ -65,7 +58,6 @@ add-result-2 c =
       c .row-cells .ensures,
     )
 
--- src/lib.rt:119:1
 returns-2 : tie.Need-returns-2
 returns-2 c =
     let s = c .before .before .before .before in

@@ -14,17 +14,14 @@ Inv-loop y loaded n cells₀ j₀ cells j = (j ≤ n) × (cells ≡ cellsOf (siz
 abbrev μ-loop : tie.MeasureT-loop
 μ-loop y loaded n cells₀ j₀ cells j = n - j
 
--- src/lib.rt:83:5
 loop-holds : tie.Need-loop-holds Inv-loop μ-loop
 loop-holds c = (omega arith, factors-none (c .args .y) (c .args .loaded))
 
--- src/lib.rt:84:18
 size-of-requires : tie.Need-size-of-requires Inv-loop μ-loop
 size-of-requires c κs =
     let s = c .before .before in
     (s .pre .0, omega arith, omega arith)
 
--- src/lib.rt:84:9
 add-cells : tie.Need-add-cells Inv-loop μ-loop
 add-cells c =
     let s = c .before .before .before in
@@ -33,22 +30,18 @@ add-cells c =
     let b = block-small (s .args .y) (s .pre .0) (s .args .loaded) (l .j) (l .j) (omega arith) (omega arith) in
     omega (arith, few-blocks (s .args .y) (s .pre .0), l .inv .1, c .size-of .ensures)
 
--- src/lib.rt:85:9
 add-j : tie.Need-add-j Inv-loop μ-loop
 add-j c = omega arith
 
--- src/lib.rt:83:5
 loop-less : tie.Need-loop-less Inv-loop μ-loop
 loop-less c = omega arith
 
--- src/lib.rt:83:5
 loop-again : tie.Need-loop-again Inv-loop μ-loop
 loop-again c =
     let s = c .before .before .before in
     let l = c .before .before .loop in
     (omega arith, factors-more (s .args .y) (s .args .loaded) (l .j) (l .cells) (c .size-of .result) (l .inv .1) (c .size-of .ensures))
 
--- src/lib.rt:77:1
 returns : tie.Need-returns Inv-loop μ-loop
 returns c =
     let l = c .before .loop in

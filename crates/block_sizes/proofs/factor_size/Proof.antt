@@ -9,36 +9,30 @@ use Rattle.block_sizes.proofs.Sizes.{few-blocks, few-levels, product-sm
 use Rattle.block_sizes.proofs.factor_size.Statement.{statement}
 use Rattle.block_sizes.proofs.factor_size.Tie as tie
 
--- src/lib.rt:25:9
 levels-of-requires : tie.Need-levels-of-requires
 levels-of-requires c κs = omega (arith, few-blocks (c .args .y) (c .pre .0))
 
--- src/lib.rt:27:9
 returns : tie.Need-returns
 returns c =
     let s = c .before .before in
     c .before .levels-of .ensures ∙ sym (kind-diagonal (s .args .y) (s .pre .0) (s .args .loaded) (s .args .j) (s .pre .1) (inl (c .if1 .taken)))
 
--- src/lib.rt:30:9
 returns-2 : tie.Need-returns-2
 returns-2 c =
     let s = c .before .before .before in
     c .before .before .levels-of .ensures ∙ sym (kind-diagonal (s .args .y) (s .pre .0) (s .args .loaded) (s .args .j) (s .pre .1) (inr (inl (c .if2 .taken))))
 
--- src/lib.rt:34:13
 returns-3 : tie.Need-returns-3
 returns-3 c =
     let s = c .before .before .before .before .before in
     c .before .before .before .before .levels-of .ensures
     ∙ sym (kind-diagonal (s .args .y) (s .pre .0) (s .args .loaded) (s .args .j) (s .pre .1) (inr (inr (c .before .if3 .taken, c .if4 .taken))))
 
--- src/lib.rt:37:10
 add-result : tie.Need-add-result
 add-result c =
     let s = c .before .before .before .before in
     omega (arith, c .before .before .before .levels-of .ensures, few-levels (s .args .y) (s .pre .0) (s .args .j) (s .pre .1))
 
--- src/lib.rt:37:5
 mul-result : tie.Need-mul-result
 mul-result c =
     let s = c .before .before .before .before in
@@ -47,7 +41,6 @@ mul-result c =
     let g = few-levels (s .args .y) (s .pre .0) (s .args .j) (s .pre .1) in
     omega (arith, product-small m (m + 1) (omega (arith, h, g)) (omega (arith, h, g)))
 
--- src/lib.rt:21:1
 returns-4 : tie.Need-returns-4
 returns-4 c =
     let s = c .before .before .before .before in

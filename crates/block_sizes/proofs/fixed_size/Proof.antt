@@ -7,19 +7,16 @@ use Rattle.block_sizes.proofs.Sizes.{few-blocks, few-effects, few-level
 use Rattle.block_sizes.proofs.fixed_size.Statement.{statement}
 use Rattle.block_sizes.proofs.fixed_size.Tie as tie
 
--- src/lib.rt:57:17
 add-result : tie.Need-add-result
 add-result c =
     let s = c .before .before .before in
     omega (arith, few-effects (s .args .y) (s .pre .0))
 
--- src/lib.rt:57:29
 add-result-2 : tie.Need-add-result-2
 add-result-2 c =
     let s = c .before .before .before .before in
     omega (arith, few-effects (s .args .y) (s .pre .0))
 
--- src/lib.rt:57:16
 mul-result : tie.Need-mul-result
 mul-result c =
     let s = c .before .before .before .before in
@@ -27,25 +24,21 @@ mul-result c =
     let h = few-effects (s .args .y) (s .pre .0) in
     omega (arith, product-small (p + 1) (p + 2) (omega (arith, h)) (omega (arith, h)))
 
--- src/lib.rt:57:9
 returns : tie.Need-returns
 returns c =
     let s = c .before .before .before .before in
     sym (kind-last (s .args .y) (s .pre .0) (s .args .loaded)) ∙ ap (sizesOf (s .args .y) (s .args .loaded) (s .args .y .k)) (sym (c .before .before .if1 .taken))
 
--- src/lib.rt:59:6
 add-result-3 : tie.Need-add-result-3
 add-result-3 c =
     let s = c .before .before .before in
     omega (arith, few-effects (s .args .y) (s .pre .0))
 
--- src/lib.rt:59:17
 levels-of-requires : tie.Need-levels-of-requires
 levels-of-requires c κs =
     let s = c .before .before .before in
     omega (arith, few-blocks (s .args .y) (s .pre .0), below (s .args .j) (s .args .y .k) (s .pre .1) (c .before .if1 .left))
 
--- src/lib.rt:59:5
 mul-result-2 : tie.Need-mul-result-2
 mul-result-2 c =
     let s = c .before .before .before .before in
@@ -55,7 +48,6 @@ mul-result-2 c =
     let g = few-levels (s .args .y) (s .pre .0) (s .args .j) (below (s .args .j) (s .args .y .k) (s .pre .1) (c .before .before .if1 .left)) in
     omega (arith, product-small (p + 1) m (omega (arith, h)) (omega (arith, g, c .levels-of .ensures)))
 
--- src/lib.rt:52:1
 returns-2 : tie.Need-returns-2
 returns-2 c =
     let s = c .before .before .before .before in

@@ -14,17 +14,14 @@ Inv-loop y loaded n cells₀ i₀ cells i = (i ≤ n) × (cells ≡ cellsOf (siz
 abbrev μ-loop : tie.MeasureT-loop
 μ-loop y loaded n cells₀ i₀ cells i = n - i
 
--- src/lib.rt:111:5
 loop-holds : tie.Need-loop-holds Inv-loop μ-loop
 loop-holds c = (omega arith, pairs-none (c .args .y) (c .args .loaded))
 
--- src/lib.rt:112:18
 row-cells-requires : tie.Need-row-cells-requires Inv-loop μ-loop
 row-cells-requires c κs =
     let s = c .before .before in
     (s .pre .0, omega arith, omega arith)
 
--- src/lib.rt:112:9
 add-cells : tie.Need-add-cells Inv-loop μ-loop
 add-cells c =
     let s = c .before .before .before in
@@ -33,22 +30,18 @@ add-cells c =
     let b = across-small (s .args .y) (s .pre .0) (s .args .loaded) (l .i) (l .i) (omega arith) (omega arith) in
     omega (arith, few-blocks (s .args .y) (s .pre .0), l .inv .1, c .row-cells .ensures)
 
--- src/lib.rt:113:9
 add-i : tie.Need-add-i Inv-loop μ-loop
 add-i c = omega arith
 
--- src/lib.rt:111:5
 loop-less : tie.Need-loop-less Inv-loop μ-loop
 loop-less c = omega arith
 
--- src/lib.rt:111:5
 loop-again : tie.Need-loop-again Inv-loop μ-loop
 loop-again c =
     let s = c .before .before .before in
     let l = c .before .before .loop in
     (omega arith, pairs-more (s .args .y) (s .args .loaded) (l .i) (l .cells) (c .row-cells .result) (l .inv .1) (c .row-cells .ensures))
 
--- src/lib.rt:105:1
 returns : tie.Need-returns Inv-loop μ-loop
 returns c =
     let l = c .before .loop in

@@ -7,29 +7,24 @@ use Rattle.block_sizes.proofs.Sizes.{few-blocks, few-levels, product-sm
 use Rattle.block_sizes.proofs.pair_size.Statement.{statement}
 use Rattle.block_sizes.proofs.pair_size.Tie as tie
 
--- src/lib.rt:46:9
 levels-of-requires : tie.Need-levels-of-requires
 levels-of-requires c κs = search needs
 
--- src/lib.rt:46:9
 returns : tie.Need-returns
 returns c =
     let s = c .before .before in
     c .levels-of .ensures ∙ sym (kind-sparse (s .args .y) (s .pre .0) (s .args .loaded) (s .args .i) (s .args .j) (s .pre .1) (s .pre .2) (c .before .if1 .taken))
 
--- src/lib.rt:48:5
 levels-of-requires-2 : tie.Need-levels-of-requires-2
 levels-of-requires-2 c κs =
     let s = c .before in
     omega (arith, few-blocks (s .args .y) (s .pre .0))
 
--- src/lib.rt:48:23
 levels-of-requires-3 : tie.Need-levels-of-requires-3
 levels-of-requires-3 c κs =
     let s = c .before .before in
     omega (arith, few-blocks (s .args .y) (s .pre .0))
 
--- src/lib.rt:48:5
 mul-result : tie.Need-mul-result
 mul-result c =
     let s = c .before .before .before in
@@ -37,7 +32,6 @@ mul-result c =
     let b = few-levels (s .args .y) (s .pre .0) (s .args .j) (omega arith) in
     omega (arith, product-small (c .before .levels-of2 .result) (c .levels-of3 .result) (omega (arith, a, c .before .levels-of2 .ensures)) (omega (arith, b, c .levels-of3 .ensures)))
 
--- src/lib.rt:41:1
 returns-2 : tie.Need-returns-2
 returns-2 c =
     let s = c .before .before .before in

@@ -6,31 +6,25 @@ use borrow.Author.Needs.{needs}
 use Rattle.block_sizes.proofs.size_of.Statement.{statement}
 use Rattle.block_sizes.proofs.size_of.Tie as tie
 
--- src/lib.rt:68:9
 fixed-size-requires : tie.Need-fixed-size-requires
 fixed-size-requires c κs = search needs
 
--- src/lib.rt:68:9
 returns : tie.Need-returns
 returns c =
     let s = c .before .before .before in
     c .fixed-size .ensures ∙ ap (λ (x : ℕ). sizesOf (s .args .y) (s .args .loaded) x (s .args .j)) (sym (c .before .if1 .taken))
 
--- src/lib.rt:71:9
 factor-size-requires : tie.Need-factor-size-requires
 factor-size-requires c κs = search needs
 
--- src/lib.rt:71:9
 returns-2 : tie.Need-returns-2
 returns-2 c =
     let s = c .before .before .before .before in
     c .factor-size .ensures ∙ ap (λ (x : ℕ). sizesOf (s .args .y) (s .args .loaded) x (s .args .j)) (sym (c .before .if2 .taken))
 
--- src/lib.rt:73:5
 pair-size-requires : tie.Need-pair-size-requires
 pair-size-requires c κs = search needs
 
--- src/lib.rt:63:1
 returns-3 : tie.Need-returns-3
 returns-3 c = search needs
 

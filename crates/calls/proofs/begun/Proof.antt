@@ -1,9 +1,13 @@
--- `calls::begun` meets its contract.
 use lib.ListN.{length-take}
 use native.Mathlib.Omega.{arith}
 use borrow.Author.Needs.{needs}
 use Rattle.calls.proofs.begun.Statement.{statement}
 use Rattle.calls.proofs.begun.Tie as tie
+use Rattle.calls.proofs.begun.Reads as reads
+use Rattle.calls.proofs.begun.Lts as lts
+use Rattle.begin.proofs.begin.Reads as begin-reads
+use Rattle.call_list.proofs.told.of_answer.Reads as of-answer-reads
+use Rattle.word_list.proofs.size.Reads as size-reads
 
 element-copy-out-size : tie.Need-element-copy-out-size
 element-copy-out-size c = search needs

@@ -1,9 +1,13 @@
--- `calls::profiled` meets its contract.
 use lib.ListN.{length-take}
 use native.Mathlib.Omega.{arith}
 use borrow.Author.Needs.{needs}
 use Rattle.calls.proofs.profiled.Statement.{statement}
 use Rattle.calls.proofs.profiled.Tie as tie
+use Rattle.calls.proofs.profiled.Reads as reads
+use Rattle.calls.proofs.profiled.Lts as lts
+use Rattle.call_list.proofs.told.of_deviance.Reads as of-deviance-reads
+use Rattle.profile_deviance.proofs.profile_deviance.Reads as profile-deviance-reads
+use Rattle.word_list.proofs.size.Reads as size-reads
 
 element-copy-out-size : tie.Need-element-copy-out-size
 element-copy-out-size c = search needs

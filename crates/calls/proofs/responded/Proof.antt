@@ -1,9 +1,13 @@
--- `calls::responded` meets its contract.
 use lib.ListN.{length-take}
 use native.Mathlib.Omega.{arith}
 use borrow.Author.Needs.{needs}
 use Rattle.calls.proofs.responded.Statement.{statement}
 use Rattle.calls.proofs.responded.Tie as tie
+use Rattle.calls.proofs.responded.Reads as reads
+use Rattle.calls.proofs.responded.Lts as lts
+use Rattle.call_list.proofs.told.of_answer.Reads as of-answer-reads
+use Rattle.response.proofs.replace_response.Reads as replace-response-reads
+use Rattle.word_list.proofs.size.Reads as size-reads
 
 element-copy-out-size : tie.Need-element-copy-out-size
 element-copy-out-size c = search needs

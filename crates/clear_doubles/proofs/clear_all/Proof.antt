@@ -9,23 +9,18 @@ use borrow.Author.Needs.{needs}
 use Rattle.clear_doubles.proofs.clear_all.Statement.{statement}
 use Rattle.clear_doubles.proofs.clear_all.Tie as tie
 
--- src/lib.rt:27:20
 sum-at-requires : tie.Need-sum-at-requires
 sum-at-requires c κs = search needs
 
--- src/lib.rt:27:20
 add-clear : tie.Need-add-clear
 add-clear c = search needs
 
--- src/lib.rt:27:5
 clear-requires : tie.Need-clear-requires
 clear-requires c κs = search needs
 
--- src/lib.rt:23:1
 same-length : tie.Need-same-length
 same-length c = search needs
 
--- src/lib.rt:23:1
 returns : tie.Need-returns
 returns c =
     let a = c .before .before .before .before .before .before .args in

@@ -12,45 +12,35 @@ use Rattle.axpy_products.proofs.less_products.Reads as less-products-reads
 use Rattle.run_quotients.proofs.over.Reads as over-reads
 use Rattle.run_copies.proofs.read.Reads as read-reads
 
--- src/lib.rt:69:30
 add-read : tie.Need-add-read
 add-read c = search needs
 
--- src/lib.rt:69:5
 read-requires : tie.Need-read-requires
 read-requires c κs = search needs
 
--- src/lib.rt:70:5
 less-products-requires : tie.Need-less-products-requires
 less-products-requires c κs =
     let a = c .before .before .before .before .before .before .before .before .before .args in
     omega (arith, start-dense 1 (a .c))
 
--- src/lib.rt:71:15
 add-p : tie.Need-add-p
 add-p c = search needs
 
--- src/lib.rt:71:13
 mul-p : tie.Need-mul-p
 mul-p c = search needs
 
--- src/lib.rt:71:13
 slice-read-p : tie.Need-slice-read-p
 slice-read-p c = search needs
 
--- src/lib.rt:72:5
 over-requires : tie.Need-over-requires
 over-requires c κs = search needs
 
--- src/lib.rt:56:1
 same-length : tie.Need-same-length
 same-length c = search needs
 
--- src/lib.rt:56:1
 same-length-2 : tie.Need-same-length-2
 same-length-2 c = search needs
 
--- src/lib.rt:56:1
 returns : tie.Need-returns
 returns c =
     let a = c .before .before .before .before .before .before .before .before .before .before .before .before .before .before .before .before .before .before .args in

@@ -32,59 +32,49 @@ Inv-loop w₀ off rows cols l end acc₀ c₀ to₀ row₀ w acc c to row =
 abbrev μ-loop : tie.MeasureT-loop
 μ-loop w₀ off rows cols l end acc₀ c₀ to₀ row₀ w acc c to row = cols - c
 
--- src/lib.rt:81:21
 mul-end : tie.Need-mul-end Inv-loop μ-loop
 mul-end c =
     let a = c .before .args in
     omega (arith, start-dense (a .rows) (a .cols))
 
--- src/lib.rt:81:15
 add-end : tie.Need-add-end Inv-loop μ-loop
 add-end c =
     let a = c .before .args in
     omega (arith, start-dense (a .rows) (a .cols))
 
--- src/lib.rt:86:5
 loop-holds : tie.Need-loop-holds Inv-loop μ-loop
 unfolding start
 loop-holds c =
     let a = c .before .args in
     (omega arith, refl, omega arith, omega (arith, start-dense (a .rows) (a .cols)), refl, refl, begun (a .off) (dense (a .rows)) (λ x r. solved ieee (forward ieee (block (a .off) (columns (a .rows) (a .cols)) (a .w .now) r) (block (a .l) (packed (a .cols)) (a .w .now)) (a .cols)) x) (a .w .now) (a .cols) (omega arith))
 
--- src/lib.rt:87:25
 slice-aggregate-solve-column : tie.Need-slice-aggregate-solve-column Inv-loop μ-loop
 slice-aggregate-solve-column c = search needs
 
--- src/lib.rt:87:9
 solve-column-requires : tie.Need-solve-column-requires Inv-loop μ-loop
 solve-column-requires c κs =
     let a = c .before .before .before .before .before .args in
     let l = c .before .before .before .loop in
     omega (arith, start-below (dense (a .rows)) (l .c) (a .cols) (omega arith), start-below triangle (l .c) (a .cols) (omega arith))
 
--- src/lib.rt:88:9
 add-c : tie.Need-add-c Inv-loop μ-loop
 add-c c = search needs
 
--- src/lib.rt:89:9
 add-to : tie.Need-add-to Inv-loop μ-loop
 add-to c =
     let a = c .before .before .before .before .before .before .before .before .before .args in
     let l = c .before .before .before .before .before .before .before .loop in
     omega (arith, start-below (dense (a .rows)) (l .c) (a .cols) (omega arith), start-below triangle (l .c) (a .cols) (omega arith))
 
--- src/lib.rt:90:9
 add-row : tie.Need-add-row Inv-loop μ-loop
 add-row c =
     let a = c .before .before .before .before .before .before .before .before .before .args in
     let l = c .before .before .before .before .before .before .before .loop in
     omega (arith, start-below (dense (a .rows)) (l .c) (a .cols) (omega arith), start-below triangle (l .c) (a .cols) (omega arith))
 
--- src/lib.rt:86:5
 loop-less : tie.Need-loop-less Inv-loop μ-loop
 loop-less c = search needs
 
--- src/lib.rt:86:5
 loop-again : tie.Need-loop-again Inv-loop μ-loop
 unfolding start
 loop-again c =
@@ -95,11 +85,9 @@ loop-again c =
     (a .off + l .to) (l .row) (omega arith) (l .inv .2) (c .before .before .before .solve-column .ensures) in
     (omega arith, rw add-one (omega arith), rw add-one (omega arith), omega arith, omega arith, omega arith, rw add-one t)
 
--- src/lib.rt:76:1
 same-length : tie.Need-same-length Inv-loop μ-loop
 same-length c = search needs
 
--- src/lib.rt:76:1
 returns : tie.Need-returns Inv-loop μ-loop
 unfolding fill
 returns c =

@@ -10,23 +10,18 @@ use Rattle.deviance.proofs.of_workspace.Reads as of-workspace-reads
 use Rattle.deviance.proofs.refused.Reads as refused-reads
 use Rattle.headed.proofs.is_headed.Reads as is-headed-reads
 
--- src/lib.rt:114:8
 is-headed-requires : tie.Need-is-headed-requires
 is-headed-requires c κs = search needs
 
--- src/lib.rt:115:9
 of-workspace-requires : tie.Need-of-workspace-requires
 of-workspace-requires c κs = sym (c .before .is-headed .ensures) ∙ c .if1 .taken
 
--- src/lib.rt:115:9
 returns : tie.Need-returns
 returns c = search needs
 
--- src/lib.rt:117:23
 refused-requires : tie.Need-refused-requires
 refused-requires c κs = search needs
 
--- src/lib.rt:111:1
 returns-2 : tie.Need-returns-2
 returns-2 c = let a = c .before .before .before .before .before .args in not-headed (a .h .now) (a .w .now) (a .reml) (sym (c .before .before .is-headed .ensures) ∙ c .before .if1 .left) _ (c .refused .ensures)
 

@@ -16,35 +16,27 @@ use Rattle.deviance_tail.proofs.tail.Reads as tail-reads
 use Rattle.heading.proofs.layout.Reads as layout-reads
 use Rattle.heading.proofs.progress.Reads as progress-reads
 
--- src/lib.rt:101:9
 layout-requires : tie.Need-layout-requires
 layout-requires c κs = let s = c .before .before in fits (s .args .h .now) _ (s .pre) .long
 
--- src/lib.rt:102:9
 progress-requires : tie.Need-progress-requires
 progress-requires c κs = let s = c .before .before .before in fits (s .args .h .now) _ (s .pre) .long
 
--- src/lib.rt:104:8
 is-finished-requires : tie.Need-is-finished-requires
 is-finished-requires c κs = search needs
 
--- src/lib.rt:105:27
 log-determinant-requires : tie.Need-log-determinant-requires
 log-determinant-requires c κs = let s = c .before .before .before .before .before .before in workspace (s .args .h .now) (s .args .w .now) (s .args .reml) (s .pre) _ (c .before .before .before .layout .ensures)
 
--- src/lib.rt:105:9
 tail-requires : tie.Need-tail-requires
 tail-requires c κs = let s = c .before .before .before .before .before .before .before in workspace (s .args .h .now) (s .args .w .now) (s .args .reml) (s .pre) _ (c .before .before .before .before .layout .ensures)
 
--- src/lib.rt:105:9
 returns : tie.Need-returns
 returns c = let s = c .before .before .before .before .before .before .before .before in finished (s .args .h .now) (s .args .w .now) (s .args .reml) (s .pre) _ (c .before .before .before .is-finished .ensures ∙ ap (λ (g : Progress). isFinished (g .state)) (c .before .before .before .before .progress .ensures)) (c .before .before .if1 .taken) _ _ _ (c .before .before .before .before .before .layout .ensures) (c .before .log-determinant .ensures) (c .tail .ensures)
 
--- src/lib.rt:107:23
 refused-requires : tie.Need-refused-requires
 refused-requires c κs = search needs
 
--- src/lib.rt:97:1
 returns-2 : tie.Need-returns-2
 returns-2 c = let s = c .before .before .before .before .before .before .before in not-finished (s .args .h .now) (s .args .w .now) (s .args .reml) (s .pre) _ (c .before .before .is-finished .ensures ∙ ap (λ (g : Progress). isFinished (g .state)) (c .before .before .before .progress .ensures)) (c .before .if1 .left) _ (c .refused .ensures)
 

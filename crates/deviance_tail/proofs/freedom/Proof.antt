@@ -8,23 +8,18 @@ use Rattle.deviance_tail.proofs.freedom.Tie as tie
 use Rattle.deviance_tail.proofs.freedom.Reads as reads
 use Rattle.deviance_tail.proofs.freedom.Lts as lts
 
--- src/lib.rt:55:17
 int-to-float-result : tie.Need-int-to-float-result
 int-to-float-result c = let s = c .before .before in whole (s .args .y .n) (omega (arith, is-lawful (s .args .y) (s .pre) .readings .1))
 
--- src/lib.rt:55:32
 int-to-float-result-2 : tie.Need-int-to-float-result-2
 int-to-float-result-2 c = let s = c .before .before .before in whole (s .args .y .p) (omega (arith, is-lawful (s .args .y) (s .pre) .effects .1))
 
--- src/lib.rt:55:9
 returns : tie.Need-returns
 returns c = rw (c .before .before .if1 .taken) refl
 
--- src/lib.rt:57:5
 int-to-float-result-3 : tie.Need-int-to-float-result-3
 int-to-float-result-3 c = let s = c .before .before in whole (s .args .y .n) (omega (arith, is-lawful (s .args .y) (s .pre) .readings .1))
 
--- src/lib.rt:50:1
 returns-2 : tie.Need-returns-2
 returns-2 c = rw (c .before .if1 .left) refl
 

@@ -9,31 +9,24 @@ use Rattle.deviance_tail.proofs.last_pivot.Lts as lts
 use Rattle.places.proofs.working_at.Reads as working-at-reads
 use Rattle.triangle_cells.proofs.row_start.Reads as row-start-reads
 
--- src/lib.rt:66:7
 working-at-requires : tie.Need-working-at-requires
 working-at-requires c κs = search needs
 
--- src/lib.rt:66:41
 row-start-requires : tie.Need-row-start-requires
 row-start-requires c κs = let s = c .before .before in omega (arith, few-effects (s .args .y) _ (s .pre .0) (s .pre .1))
 
--- src/lib.rt:66:7
 add-result : tie.Need-add-result
 add-result c = let s = c .before .before .before in record { fits = omega (arith, last-place (s .args .y) _ (s .pre .0) (s .pre .1) _ _ (c .before .working-at .ensures) (c .row-start .ensures) .1) }
 
--- src/lib.rt:66:7
 add-result-2 : tie.Need-add-result-2
 add-result-2 c = let s = c .before .before .before in record { fits = omega (arith, last-place (s .args .y) _ (s .pre .0) (s .pre .1) _ _ (c .before .working-at .ensures) (c .row-start .ensures) .1) }
 
--- src/lib.rt:66:5
 mul-result : tie.Need-mul-result
 mul-result c = let s = c .before .before .before in record { fits = omega (arith, last-place (s .args .y) _ (s .pre .0) (s .pre .1) _ _ (c .before .working-at .ensures) (c .row-start .ensures) .1) }
 
--- src/lib.rt:66:5
 shared-slice-read-result : tie.Need-shared-slice-read-result
 shared-slice-read-result c = let s = c .before .before .before .before in last-place (s .args .y) _ (s .pre .0) (s .pre .1) _ _ (c .before .before .working-at .ensures) (c .before .row-start .ensures) .0
 
--- src/lib.rt:61:1
 returns : tie.Need-returns
 returns c = let s = c .before .before .before .before in pivot-read (s .args .y) (s .args .w .now) (s .pre .1) _ _ (c .before .before .working-at .ensures) (c .before .row-start .ensures)
 

@@ -7,19 +7,15 @@ use Rattle.deviance_tail.proofs.log_determinant.Reads as reads
 use Rattle.deviance_tail.proofs.log_determinant.Lts as lts
 use Rattle.places.proofs.sum_at.Reads as sum-at-reads
 
--- src/lib.rt:46:13
 sum-at-requires : tie.Need-sum-at-requires
 sum-at-requires c κs = search needs
 
--- src/lib.rt:46:11
 mul-result : tie.Need-mul-result
 mul-result c = search needs
 
--- src/lib.rt:46:11
 shared-slice-read-result : tie.Need-shared-slice-read-result
 shared-slice-read-result c = search needs
 
--- src/lib.rt:42:1
 returns : tie.Need-returns
 returns c = let s = c .before .before .before in sum-read (s .args .y) (s .args .w .now) (s .pre .1) _ (c .before .sum-at .ensures)
 

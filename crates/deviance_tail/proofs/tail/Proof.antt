@@ -9,23 +9,18 @@ use Rattle.deviance_tail.proofs.freedom.Reads as freedom-reads
 use Rattle.deviance_tail.proofs.last_pivot.Reads as last-pivot-reads
 use Rattle.deviance_tail.proofs.value.Reads as value-reads
 
--- src/lib.rt:87:9
 last-pivot-requires : tie.Need-last-pivot-requires
 last-pivot-requires c κs = search needs
 
--- src/lib.rt:89:9
 freedom-requires : tie.Need-freedom-requires
 freedom-requires c κs = search needs
 
--- src/lib.rt:91:9
 returns : tie.Need-returns
 returns c = let a = c .before .before .before .before .args in no-scale (a .y) (a .w .now) (a .logdet) (a .reml) _ _ (c .before .before .last-pivot .ensures) (c .before .freedom .ensures) (c .if1 .taken)
 
--- src/lib.rt:93:21
 value-requires : tie.Need-value-requires
 value-requires c κs = search needs
 
--- src/lib.rt:83:1
 returns-2 : tie.Need-returns-2
 returns-2 c = let a = c .before .before .before .before .before .args in scaled (a .y) (a .w .now) (a .logdet) (a .reml) _ _ (c .before .before .before .last-pivot .ensures) (c .before .before .freedom .ensures) _ (c .before .if1 .left) (c .value .ensures)
 

@@ -12,28 +12,22 @@ use Rattle.logarithm.proofs.ln.Reads as ln-reads
 use Rattle.places.proofs.working_at.Reads as working-at-reads
 use Rattle.block_logs.proofs.log_pivots.Reads as log-pivots-reads
 
--- src/lib.rt:74:32
 float-from-bits-ln : tie.Need-float-from-bits-ln
 unfolding nanBits
 float-from-bits-ln c = tt
 
--- src/lib.rt:74:18
 ln-requires : tie.Need-ln-requires
 ln-requires c κs = search needs
 
--- src/lib.rt:76:13
 working-at-requires : tie.Need-working-at-requires
 working-at-requires c κs = search needs
 
--- src/lib.rt:77:27
 log-pivots-requires : tie.Need-log-pivots-requires
 log-pivots-requires c κs = let s = c .before .before .before .before in (omega (arith, few-effects (s .args .y) _ (s .pre .0) (s .pre .1)), first-rows (s .args .y) _ (s .pre .0) (s .pre .1) _ (c .working-at .ensures))
 
--- src/lib.rt:77:9
 returns : tie.Need-returns
 returns c = let a = c .before .before .before .before .before .args in value-reml (a .y) (a .w .now) (a .d) (a .s) (a .logdet) _ (c .before .before .before .ln .ensures) (a .reml) _ _ (c .before .before .if1 .taken) (c .before .working-at .ensures) (c .log-pivots .ensures)
 
--- src/lib.rt:70:1
 returns-2 : tie.Need-returns-2
 returns-2 c = let a = c .before .before .before .args in value-ml (a .y) (a .w .now) (a .d) (a .s) (a .logdet) _ (c .before .ln .ensures) (a .reml) (c .if1 .left)
 

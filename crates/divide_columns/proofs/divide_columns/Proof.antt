@@ -30,69 +30,58 @@ Inv-loop w₀ off rows cols pivots end c₀ to₀ w c to =
 abbrev μ-loop : tie.MeasureT-loop
 μ-loop w₀ off rows cols pivots end c₀ to₀ w c to = cols - c
 
--- src/lib.rt:44:21
 mul-end : tie.Need-mul-end Inv-loop μ-loop
 mul-end c =
     let a = c .before .args in
     omega (arith, start-dense (a .rows) (a .cols))
 
--- src/lib.rt:44:15
 add-end : tie.Need-add-end Inv-loop μ-loop
 add-end c =
     let a = c .before .args in
     omega (arith, start-dense (a .rows) (a .cols))
 
--- src/lib.rt:47:5
 loop-holds : tie.Need-loop-holds Inv-loop μ-loop
 unfolding start
 loop-holds c =
     let a = c .before .args in
     (omega arith, refl, omega (arith, start-dense (a .rows) (a .cols)), refl, begun (a .off) (dense (a .rows)) (λ x r. divide ieee (block (a .off) (columns (a .rows) (a .cols)) (a .w .now)) (λ y. block (a .pivots) (diagonal (a .cols)) (a .w .now) y y) r x) (a .w .now) (a .cols) (omega arith))
 
--- src/lib.rt:48:19
 add-p : tie.Need-add-p Inv-loop μ-loop
 add-p c =
     let a = c .before .before .before .args in
     let l = c .before .loop in
     omega (arith, start-below (dense (a .rows)) (l .c) (a .cols) (omega arith), start-single (a .cols))
 
--- src/lib.rt:48:17
 mul-p : tie.Need-mul-p Inv-loop μ-loop
 mul-p c =
     let a = c .before .before .before .args in
     let l = c .before .loop in
     omega (arith, start-below (dense (a .rows)) (l .c) (a .cols) (omega arith), start-single (a .cols))
 
--- src/lib.rt:48:17
 slice-read-p : tie.Need-slice-read-p Inv-loop μ-loop
 slice-read-p c =
     let a = c .before .before .before .before .args in
     let l = c .before .before .loop in
     omega (arith, start-below (dense (a .rows)) (l .c) (a .cols) (omega arith), start-single (a .cols))
 
--- src/lib.rt:49:9
 divide-requires : tie.Need-divide-requires Inv-loop μ-loop
 divide-requires c κs =
     let a = c .before .before .before .before .before .args in
     let l = c .before .before .before .loop in
     omega (arith, start-below (dense (a .rows)) (l .c) (a .cols) (omega arith))
 
--- src/lib.rt:50:9
 add-c : tie.Need-add-c Inv-loop μ-loop
 add-c c = search needs
 
--- src/lib.rt:51:9
 add-to : tie.Need-add-to Inv-loop μ-loop
 add-to c =
     let a = c .before .before .before .before .before .before .before .before .args in
     let l = c .before .before .before .before .before .before .loop in
     omega (arith, start-below (dense (a .rows)) (l .c) (a .cols) (omega arith))
 
--- src/lib.rt:47:5
 loop-less : tie.Need-loop-less Inv-loop μ-loop
 loop-less c = search needs
 
--- src/lib.rt:47:5
 loop-again : tie.Need-loop-again Inv-loop μ-loop
 unfolding start
 loop-again c =
@@ -103,11 +92,9 @@ loop-again c =
     (a .off + l .to) (omega arith) (c .before .before .divide .ensures) in
     (omega arith, rw add-one (omega arith), omega arith, omega arith, rw add-one t)
 
--- src/lib.rt:39:1
 same-length : tie.Need-same-length Inv-loop μ-loop
 same-length c = search needs
 
--- src/lib.rt:39:1
 returns : tie.Need-returns Inv-loop μ-loop
 unfolding fill
 returns c =

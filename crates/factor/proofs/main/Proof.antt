@@ -1,6 +1,7 @@
 -- `factor::main`: what is written are the first bytes of the output.
 use mathlib.Core.Path.{sym}
 use lib.Seq.{length-take-le}
+use native.Mathlib.Omega.{arith}
 use borrow.Author.Needs.{needs}
 use Rattle.factor.proofs.main.Statement.{statement}
 use Rattle.factor.proofs.main.Tie as tie
@@ -29,10 +30,10 @@ factor-requires : tie.Need-factor-requires
 factor-requires c κs = search needs
 
 array-share-prefix-out : tie.Need-array-share-prefix-out
-array-share-prefix-out c = search needs
+array-share-prefix-out c = omega (arith, c .before .factor .ensures .0)
 
 slice-aggregate-write-all : tie.Need-slice-aggregate-write-all
-slice-aggregate-write-all c = sym (length-take-le _ _ (search needs))
+slice-aggregate-write-all c = sym (length-take-le _ _ (omega (arith, c .before .before .factor .ensures .0)))
 
 write-all-requires : tie.Need-write-all-requires
 write-all-requires c κs = search needs

@@ -36,7 +36,7 @@ same-length-3 c = search needs
 returns : tie.Need-returns
 returns c =
     let a = c .before .before .before .before .before .before .before .before .before .before .before .before .before .before .before .before .args in
-    answered (λ (x : Answer). afterLoad x (space (now (a .h)) (now (a .w))) (a .z .counts .k) (now (a .s)) (a .z)) _ _ _ _ (c .before .before .before .before .before .before .before .before .before .before .enum-told .given .1) (c .before .before .before .before .before .before .put-theta .ensures)
+    answered (λ (x : Answer). afterLoad x (space (now (a .h)) (now (a .w))) (a .z .counts .k) (now (a .s)) (a .z)) _ _ _ _ _ (c .before .before .before .before .before .before .before .before .before .before .enum-told .given .1) (c .before .before .before .before .before .before .put-theta .ensures)
 
 same-length-4 : tie.Need-same-length-4
 same-length-4 c = search needs
@@ -44,7 +44,7 @@ same-length-4 c = search needs
 returns-2 : tie.Need-returns-2
 returns-2 c =
     let a = c .before .before .before .before .before .before .before .before .before .before .before .args in
-    answered (λ (x : Answer). afterLoad x (space (now (a .h)) (now (a .w))) (a .z .counts .k) (now (a .s)) (a .z)) _ _ _ _ (c .before .before .before .before .before .a .given .1) (c .before .before .put-refusal .ensures)
+    answered (λ (x : Answer). afterLoad x (space (now (a .h)) (now (a .w))) (a .z .counts .k) (now (a .s)) (a .z)) _ _ _ _ _ (c .before .before .before .before .before .a .given .1) (c .before .before .put-refusal .ensures)
 
 pub put-loaded-spec : {M : Type 1} → statement M
 put-loaded-spec =

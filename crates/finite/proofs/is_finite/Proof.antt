@@ -6,17 +6,14 @@ use Rattle.finite.proofs.is_finite.Tie as tie
 use Rattle.finite.proofs.is_finite.Reads as reads
 use Rattle.finite.proofs.is_finite.Lts as lts
 
--- src/lib.rt:11:10
 float-from-bits-result : tie.Need-float-from-bits-result
 unfolding nanBits
 float-from-bits-result c = tt
 
--- src/lib.rt:11:50
 float-from-bits-result-2 : tie.Need-float-from-bits-result-2
 unfolding nanBits
 float-from-bits-result-2 c = tt
 
--- src/lib.rt:8:1
 returns : tie.Need-returns
 returns c = between (c .args .x)
 

@@ -23,92 +23,70 @@ Inv-loop v to w p rows z p1 p2 p3 s₀ s1₀ s2₀ s3₀ r₀ s s1 s2 s3 r =
 abbrev μ-loop : tie.MeasureT-loop
 μ-loop v to w p rows z p1 p2 p3 s₀ s1₀ s2₀ s3₀ r₀ s s1 s2 s3 r = rows - r
 
--- src/lib.rt:67:14
 add-p1 : tie.Need-add-p1 Inv-loop μ-loop
 add-p1 c = search needs
 
--- src/lib.rt:68:14
 add-p2 : tie.Need-add-p2 Inv-loop μ-loop
 add-p2 c = search needs
 
--- src/lib.rt:69:14
 add-p3 : tie.Need-add-p3 Inv-loop μ-loop
 add-p3 c = search needs
 
--- src/lib.rt:75:5
 loop-holds : tie.Need-loop-holds Inv-loop μ-loop
 unfolding along ofBits
 loop-holds c = (omega arith, refl, refl, refl, refl)
 
--- src/lib.rt:76:19
 add-f : tie.Need-add-f Inv-loop μ-loop
 add-f c = search needs
 
--- src/lib.rt:76:17
 mul-f : tie.Need-mul-f Inv-loop μ-loop
 mul-f c = search needs
 
--- src/lib.rt:76:17
 slice-read-f : tie.Need-slice-read-f Inv-loop μ-loop
 slice-read-f c = search needs
 
--- src/lib.rt:77:19
 add-s : tie.Need-add-s Inv-loop μ-loop
 add-s c = search needs
 
--- src/lib.rt:77:17
 mul-s : tie.Need-mul-s Inv-loop μ-loop
 mul-s c = search needs
 
--- src/lib.rt:77:17
 shared-slice-read-s : tie.Need-shared-slice-read-s Inv-loop μ-loop
 shared-slice-read-s c = search needs
 
--- src/lib.rt:78:21
 add-s1 : tie.Need-add-s1 Inv-loop μ-loop
 add-s1 c = search needs
 
--- src/lib.rt:78:19
 mul-s1 : tie.Need-mul-s1 Inv-loop μ-loop
 mul-s1 c = search needs
 
--- src/lib.rt:78:19
 shared-slice-read-s1 : tie.Need-shared-slice-read-s1 Inv-loop μ-loop
 shared-slice-read-s1 c = search needs
 
--- src/lib.rt:79:21
 add-s2 : tie.Need-add-s2 Inv-loop μ-loop
 add-s2 c = search needs
 
--- src/lib.rt:79:19
 mul-s2 : tie.Need-mul-s2 Inv-loop μ-loop
 mul-s2 c = search needs
 
--- src/lib.rt:79:19
 shared-slice-read-s2 : tie.Need-shared-slice-read-s2 Inv-loop μ-loop
 shared-slice-read-s2 c = search needs
 
--- src/lib.rt:80:21
 add-s3 : tie.Need-add-s3 Inv-loop μ-loop
 add-s3 c = search needs
 
--- src/lib.rt:80:19
 mul-s3 : tie.Need-mul-s3 Inv-loop μ-loop
 mul-s3 c = search needs
 
--- src/lib.rt:80:19
 shared-slice-read-s3 : tie.Need-shared-slice-read-s3 Inv-loop μ-loop
 shared-slice-read-s3 c = search needs
 
--- src/lib.rt:81:9
 add-r : tie.Need-add-r Inv-loop μ-loop
 add-r c = search needs
 
--- src/lib.rt:75:5
 loop-less : tie.Need-loop-less Inv-loop μ-loop
 loop-less c = search needs
 
--- src/lib.rt:75:5
 loop-again : tie.Need-loop-again Inv-loop μ-loop
 loop-again c =
     let a = c .before .before .before .before .before .before .before .args in
@@ -120,99 +98,75 @@ loop-again c =
       rw add-one (sum-more (a .w .now) (a .p + a .rows + a .rows + a .rows) (a .v .now) (a .z) (l .r) (l .s3) (l .inv .4)),
     )
 
--- src/lib.rt:83:13
 mul-v : tie.Need-mul-v Inv-loop μ-loop
 mul-v c = search needs
 
--- src/lib.rt:83:13
 slice-read-v : tie.Need-slice-read-v Inv-loop μ-loop
 slice-read-v c = search needs
 
--- src/lib.rt:83:5
 mul-v-2 : tie.Need-mul-v-2 Inv-loop μ-loop
 mul-v-2 c = search needs
 
--- src/lib.rt:83:5
 slice-write-v : tie.Need-slice-write-v Inv-loop μ-loop
 slice-write-v c = search needs
 
--- src/lib.rt:84:19
 add-v : tie.Need-add-v Inv-loop μ-loop
 add-v c = search needs
 
--- src/lib.rt:84:17
 mul-v-3 : tie.Need-mul-v-3 Inv-loop μ-loop
 mul-v-3 c = search needs
 
--- src/lib.rt:84:17
 slice-read-v-2 : tie.Need-slice-read-v-2 Inv-loop μ-loop
 slice-read-v-2 c = simp length-set (omega arith)
 
--- src/lib.rt:84:7
 add-v-2 : tie.Need-add-v-2 Inv-loop μ-loop
 add-v-2 c = search needs
 
--- src/lib.rt:84:5
 mul-v-4 : tie.Need-mul-v-4 Inv-loop μ-loop
 mul-v-4 c = search needs
 
--- src/lib.rt:84:5
 slice-write-v-2 : tie.Need-slice-write-v-2 Inv-loop μ-loop
 slice-write-v-2 c = simp length-set (omega arith)
 
--- src/lib.rt:85:19
 add-v-3 : tie.Need-add-v-3 Inv-loop μ-loop
 add-v-3 c = search needs
 
--- src/lib.rt:85:17
 mul-v-5 : tie.Need-mul-v-5 Inv-loop μ-loop
 mul-v-5 c = search needs
 
--- src/lib.rt:85:17
 slice-read-v-3 : tie.Need-slice-read-v-3 Inv-loop μ-loop
 slice-read-v-3 c = simp length-set (omega arith)
 
--- src/lib.rt:85:7
 add-v-4 : tie.Need-add-v-4 Inv-loop μ-loop
 add-v-4 c = search needs
 
--- src/lib.rt:85:5
 mul-v-6 : tie.Need-mul-v-6 Inv-loop μ-loop
 mul-v-6 c = search needs
 
--- src/lib.rt:85:5
 slice-write-v-3 : tie.Need-slice-write-v-3 Inv-loop μ-loop
 slice-write-v-3 c = simp length-set (omega arith)
 
--- src/lib.rt:86:19
 add-v-5 : tie.Need-add-v-5 Inv-loop μ-loop
 add-v-5 c = search needs
 
--- src/lib.rt:86:17
 mul-v-7 : tie.Need-mul-v-7 Inv-loop μ-loop
 mul-v-7 c = search needs
 
--- src/lib.rt:86:17
 slice-read-v-4 : tie.Need-slice-read-v-4 Inv-loop μ-loop
 slice-read-v-4 c = simp length-set (omega arith)
 
--- src/lib.rt:86:7
 add-v-6 : tie.Need-add-v-6 Inv-loop μ-loop
 add-v-6 c = search needs
 
--- src/lib.rt:86:5
 mul-v-8 : tie.Need-mul-v-8 Inv-loop μ-loop
 mul-v-8 c = search needs
 
--- src/lib.rt:86:5
 slice-write-v-4 : tie.Need-slice-write-v-4 Inv-loop μ-loop
 slice-write-v-4 c = simp length-set (omega arith)
 
--- src/lib.rt:63:1
 same-length : tie.Need-same-length Inv-loop μ-loop
 same-length c = search needs
 
--- src/lib.rt:63:1
 returns : tie.Need-returns Inv-loop μ-loop
 returns c =
     let a = c .before .before .before .before .before .before .args in

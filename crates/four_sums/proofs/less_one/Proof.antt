@@ -21,71 +21,55 @@ Inv-loop v to w p rows z s₀ r₀ s r = (r ≤ rows) × (s ≡ columnSum w p v 
 abbrev μ-loop : tie.MeasureT-loop
 μ-loop v to w p rows z s₀ r₀ s r = rows - r
 
--- src/lib.rt:55:5
 loop-holds : tie.Need-loop-holds Inv-loop μ-loop
 unfolding along ofBits
 loop-holds c = (omega arith, refl)
 
--- src/lib.rt:56:19
 add-s : tie.Need-add-s Inv-loop μ-loop
 add-s c = search needs
 
--- src/lib.rt:56:17
 mul-s : tie.Need-mul-s Inv-loop μ-loop
 mul-s c = search needs
 
--- src/lib.rt:56:17
 shared-slice-read-s : tie.Need-shared-slice-read-s Inv-loop μ-loop
 shared-slice-read-s c = search needs
 
--- src/lib.rt:56:30
 add-s-2 : tie.Need-add-s-2 Inv-loop μ-loop
 add-s-2 c = search needs
 
--- src/lib.rt:56:28
 mul-s-2 : tie.Need-mul-s-2 Inv-loop μ-loop
 mul-s-2 c = search needs
 
--- src/lib.rt:56:28
 slice-read-s : tie.Need-slice-read-s Inv-loop μ-loop
 slice-read-s c = search needs
 
--- src/lib.rt:57:9
 add-r : tie.Need-add-r Inv-loop μ-loop
 add-r c = search needs
 
--- src/lib.rt:55:5
 loop-less : tie.Need-loop-less Inv-loop μ-loop
 loop-less c = search needs
 
--- src/lib.rt:55:5
 loop-again : tie.Need-loop-again Inv-loop μ-loop
 loop-again c =
     let a = c .before .before .before .before .args in
     let l = c .before .before .before .loop in
     (omega arith, rw add-one (sum-more (a .w .now) (a .p) (a .v .now) (a .z) (l .r) (l .s) (l .inv .1)))
 
--- src/lib.rt:59:13
 mul-v : tie.Need-mul-v Inv-loop μ-loop
 mul-v c = search needs
 
--- src/lib.rt:59:13
 slice-read-v : tie.Need-slice-read-v Inv-loop μ-loop
 slice-read-v c = search needs
 
--- src/lib.rt:59:5
 mul-v-2 : tie.Need-mul-v-2 Inv-loop μ-loop
 mul-v-2 c = search needs
 
--- src/lib.rt:59:5
 slice-write-v : tie.Need-slice-write-v Inv-loop μ-loop
 slice-write-v c = search needs
 
--- src/lib.rt:49:1
 same-length : tie.Need-same-length Inv-loop μ-loop
 same-length c = search needs
 
--- src/lib.rt:49:1
 returns : tie.Need-returns Inv-loop μ-loop
 returns c =
     let a = c .before .before .before .args in

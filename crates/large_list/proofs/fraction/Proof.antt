@@ -6,15 +6,12 @@ use Rattle.large_list.proofs.fraction.Tie as tie
 use Rattle.large_list.proofs.fraction.Reads as reads
 use Rattle.large_list.proofs.fraction.Lts as lts
 
--- src/lib.rt:33:6
 mul-result : tie.Need-mul-result
 mul-result c = search needs
 
--- src/lib.rt:33:5
 int-to-float-result : tie.Need-int-to-float-result
 int-to-float-result c = whole _ (omega arith)
 
--- src/lib.rt:32:1
 returns : tie.Need-returns
 returns c = search needs
 

@@ -9,33 +9,26 @@ use Rattle.places.proofs.working_at.Reads as working-at-reads
 use Rattle.schur_last.proofs.subtract_last.Reads as subtract-last-reads
 use Rattle.working_blocks.proofs.rows_of.Reads as rows-of-reads
 
--- src/lib.rt:26:9
 working-at-requires : tie.Need-working-at-requires
 working-at-requires c κs = search needs
 
--- src/lib.rt:27:9
 working-at-requires-2 : tie.Need-working-at-requires-2
 working-at-requires-2 c κs = search needs
 
--- src/lib.rt:28:9
 rows-of-requires : tie.Need-rows-of-requires
 rows-of-requires c κs = search needs
 
--- src/lib.rt:29:9
 rows-of-requires-2 : tie.Need-rows-of-requires-2
 rows-of-requires-2 c κs = search needs
 
--- src/lib.rt:30:5
 subtract-last-requires : tie.Need-subtract-last-requires
 subtract-last-requires c κs =
     let s = c .before .before .before .before .before .before in
     last-ready (s .args .y) (s .pre .0) _ (s .pre .1) (s .args .x) _ _ _ _ (s .pre .2) (c .before .before .before .before .working-at .ensures) (c .before .before .before .working-at2 .ensures) (c .before .before .rows-of .ensures) (c .before .rows-of2 .ensures)
 
--- src/lib.rt:22:1
 same-length : tie.Need-same-length
 same-length c = search needs
 
--- src/lib.rt:22:1
 returns : tie.Need-returns
 returns c =
     let s = c .before .before .before .before .before .before .before .before .before in

@@ -10,37 +10,29 @@ use Rattle.places.proofs.working_at.Reads as working-at-reads
 use Rattle.rank_diagonal.proofs.rank_sub_diagonal.Reads as rank-sub-diagonal-reads
 use Rattle.working_blocks.proofs.rows_of.Reads as rows-of-reads
 
--- src/lib.rt:50:9
 working-at-requires : tie.Need-working-at-requires
 working-at-requires c κs = search needs
 
--- src/lib.rt:51:9
 working-at-requires-2 : tie.Need-working-at-requires-2
 working-at-requires-2 c κs = search needs
 
--- src/lib.rt:52:9
 loaded-at-requires : tie.Need-loaded-at-requires
 loaded-at-requires c κs = search needs
 
--- src/lib.rt:53:9
 rows-of-requires : tie.Need-rows-of-requires
 rows-of-requires c κs = search needs
 
--- src/lib.rt:54:9
 rows-of-requires-2 : tie.Need-rows-of-requires-2
 rows-of-requires-2 c κs = search needs
 
--- src/lib.rt:55:5
 rank-sub-diagonal-requires : tie.Need-rank-sub-diagonal-requires
 rank-sub-diagonal-requires c κs =
     let s = c .before .before .before .before .before .before .before in
     diagonal-ready (s .args .y) (s .pre .0) _ (s .pre .1) _ _ _ _ _ (s .pre .2) (s .pre .3) (s .pre .4) (c .before .before .before .before .before .working-at .ensures) (c .before .before .before .before .working-at2 .ensures) (c .before .before .before .loaded-at .ensures) (c .before .before .rows-of .ensures) (c .before .rows-of2 .ensures)
 
--- src/lib.rt:46:1
 same-length : tie.Need-same-length
 same-length c = search needs
 
--- src/lib.rt:46:1
 returns : tie.Need-returns
 returns c =
     let s = c .before .before .before .before .before .before .before .before .before .before in

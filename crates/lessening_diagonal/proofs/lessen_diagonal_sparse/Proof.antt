@@ -11,37 +11,29 @@ use Rattle.places.proofs.working_at.Reads as working-at-reads
 use Rattle.rank_diagonal_sparse.proofs.rank_sub_diagonal_sparse.Reads as rank-sub-diagonal-sparse-reads
 use Rattle.working_blocks.proofs.rows_of.Reads as rows-of-reads
 
--- src/lib.rt:63:9
 working-at-requires : tie.Need-working-at-requires
 working-at-requires c κs = search needs
 
--- src/lib.rt:64:9
 working-at-requires-2 : tie.Need-working-at-requires-2
 working-at-requires-2 c κs = search needs
 
--- src/lib.rt:65:9
 loaded-at-requires : tie.Need-loaded-at-requires
 loaded-at-requires c κs = search needs
 
--- src/lib.rt:66:9
 rows-of-requires : tie.Need-rows-of-requires
 rows-of-requires c κs = search needs
 
--- src/lib.rt:67:9
 rows-of-requires-2 : tie.Need-rows-of-requires-2
 rows-of-requires-2 c κs = search needs
 
--- src/lib.rt:68:5
 rank-sub-diagonal-sparse-requires : tie.Need-rank-sub-diagonal-sparse-requires
 rank-sub-diagonal-sparse-requires c κs =
     let s = c .before .before .before .before .before .before .before .before in
     entries-ready (s .args .y) (s .pre .0) _ (s .pre .1) (s .pre .2) (s .pre .3) _ _ _ _ _ _ (s .pre .4) (c .before .before .before .before .before .working-at .ensures) (c .before .before .before .before .working-at2 .ensures) (c .before .before .before .loaded-at .ensures) (c .before .before .rows-of .ensures) (c .before .rows-of2 .ensures)
 
--- src/lib.rt:59:1
 same-length : tie.Need-same-length
 same-length c = search needs
 
--- src/lib.rt:59:1
 returns : tie.Need-returns
 returns c =
     let s = c .before .before .before .before .before .before .before .before .before .before .before in

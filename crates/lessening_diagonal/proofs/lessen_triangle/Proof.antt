@@ -9,33 +9,26 @@ use Rattle.places.proofs.working_at.Reads as working-at-reads
 use Rattle.rank_dense.proofs.rank_sub.Reads as rank-sub-reads
 use Rattle.working_blocks.proofs.rows_of.Reads as rows-of-reads
 
--- src/lib.rt:38:9
 working-at-requires : tie.Need-working-at-requires
 working-at-requires c κs = search needs
 
--- src/lib.rt:39:9
 working-at-requires-2 : tie.Need-working-at-requires-2
 working-at-requires-2 c κs = search needs
 
--- src/lib.rt:40:9
 rows-of-requires : tie.Need-rows-of-requires
 rows-of-requires c κs = search needs
 
--- src/lib.rt:41:9
 rows-of-requires-2 : tie.Need-rows-of-requires-2
 rows-of-requires-2 c κs = search needs
 
--- src/lib.rt:42:5
 rank-sub-requires : tie.Need-rank-sub-requires
 rank-sub-requires c κs =
     let s = c .before .before .before .before .before .before in
     triangle-ready (s .args .y) (s .pre .0) _ (s .pre .1) (s .args .j) (s .args .x) _ _ _ _ (s .pre .2) (s .pre .3) (s .pre .4) (c .before .before .before .before .working-at .ensures) (c .before .before .before .working-at2 .ensures) (c .before .before .rows-of .ensures) (c .before .rows-of2 .ensures)
 
--- src/lib.rt:34:1
 same-length : tie.Need-same-length
 same-length c = search needs
 
--- src/lib.rt:34:1
 returns : tie.Need-returns
 returns c =
     let s = c .before .before .before .before .before .before .before .before .before in

@@ -14,35 +14,27 @@ Inv-loop n m t₀ i₀ t i = Summed m n t i
 abbrev μ-loop : tie.MeasureT-loop
 μ-loop n m t₀ i₀ t i = n - i
 
--- src/lib.rt:71:5
 loop-holds : tie.Need-loop-holds Inv-loop μ-loop
 loop-holds c = summed-start _ _
 
--- src/lib.rt:72:14
 mul-t : tie.Need-mul-t Inv-loop μ-loop
 mul-t c = search needs
 
--- src/lib.rt:72:14
 array-read-t : tie.Need-array-read-t Inv-loop μ-loop
 array-read-t c = search needs
 
--- src/lib.rt:72:9
 add-t : tie.Need-add-t Inv-loop μ-loop
 add-t c = record { fits = search summed-fits }
 
--- src/lib.rt:73:9
 add-i : tie.Need-add-i Inv-loop μ-loop
 add-i c = search needs
 
--- src/lib.rt:71:5
 loop-less : tie.Need-loop-less Inv-loop μ-loop
 loop-less c = search needs
 
--- src/lib.rt:71:5
 loop-again : tie.Need-loop-again Inv-loop μ-loop
 loop-again c = search summed-more
 
--- src/lib.rt:65:1
 returns : tie.Need-returns Inv-loop μ-loop
 returns c = summed-done (c .before .loop .inv) (omega arith)
 

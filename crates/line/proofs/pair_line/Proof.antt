@@ -1,6 +1,11 @@
 -- `line::pair_line`: field by field, as defined.
 use borrow.Author.Needs.{needs}
-use Rattle.sheet.specs.Line.{pairLine}
+use Prim.Native.Nat.{ℕ}
+use mathlib.Core.Path.{_≡_}
+use mathlib.Core.List.{List}
+use Rattle.sheet.specs.declared.Field.{Field}
+use Rattle.sheet.specs.declared.Line.{Line}
+use Rattle.sheet.specs.Line.{pairLine, tab, tagTo, numberTo, wordTo}
 use Rattle.line.proofs.pair_line.Statement.{statement}
 use Rattle.line.proofs.pair_line.Tie as tie
 use Rattle.line.proofs.pair_line.Reads as reads
@@ -21,9 +26,15 @@ number-requires-2 c κs = search needs
 word-requires : tie.Need-word-requires
 word-requires c κs = search needs
 
-returns : tie.Need-returns
+pair : (t s : List ℕ) (at : ℕ) (o a b w : Field) → o ≡ tagTo t s at → a ≡ numberTo tab s (o .next) → b ≡ numberTo tab s (a .next) → w ≡ wordTo s (b .next) → _≡_ {A = Line} (record { first = a .value; second = b .value; word = w .value; next = w .next }) (pairLine t s at)
 unfolding pairLine
-returns c = cc
+pair t s at o a b w e f g h = cc
+
+returns : tie.Need-returns
+returns c =
+    let a = c .before .before .before .before .before .before .args in
+    pair (a .t .now) (a .s .now) (a .at) (c .before .before .before .tag .result) (c .before .before .number .result) (c .before .number2 .result) (c .word .result)
+    (c .before .before .before .tag .ensures) (c .before .before .number .ensures) (c .before .number2 .ensures) (c .word .ensures)
 
 pub pair-line-spec : {M : Type 1} → statement M
 pair-line-spec =

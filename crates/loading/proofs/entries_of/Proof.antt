@@ -5,49 +5,39 @@ use borrow.Author.Needs.{needs}
 use Rattle.loading.proofs.entries_of.Statement.{statement}
 use Rattle.loading.proofs.entries_of.Tie as tie
 
--- src/lib.rt:35:15
 add-result : tie.Need-add-result
 add-result c = search needs
 
--- src/lib.rt:35:25
 mul-result : tie.Need-mul-result
 mul-result c = search needs
 
--- src/lib.rt:35:15
 add-result-2 : tie.Need-add-result-2
 add-result-2 c = search needs
 
--- src/lib.rt:35:15
 add-result-3 : tie.Need-add-result-3
 add-result-3 c = search needs
 
--- src/lib.rt:35:50
 add-result-4 : tie.Need-add-result-4
 add-result-4 c = search needs
 
--- src/lib.rt:35:43
 mul-result-2 : tie.Need-mul-result-2
 mul-result-2 c =
     let s = c .before .before .before .before .before in
     omega (arith, product-of (s .args .y .p) (s .pre .1))
 
--- src/lib.rt:35:15
 add-result-5 : tie.Need-add-result-5
 add-result-5 c =
     let s = c .before .before .before .before .before in
     omega (arith, s .pre .2, product-of (s .args .y .p) (s .pre .1), grid-of (s .args .y .q) (s .args .y .p) (s .pre .0) (s .pre .1))
 
--- src/lib.rt:35:15
 add-result-6 : tie.Need-add-result-6
 add-result-6 c =
     let s = c .before .before .before .before .before .before in
     omega (arith, s .pre .2, product-of (s .args .y .p) (s .pre .1), grid-of (s .args .y .q) (s .args .y .p) (s .pre .0) (s .pre .1))
 
--- src/lib.rt:35:5
 sub-result : tie.Need-sub-result
 sub-result c = search needs
 
--- src/lib.rt:31:1
 returns : tie.Need-returns
 returns c = search needs
 

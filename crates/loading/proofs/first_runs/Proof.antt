@@ -10,7 +10,6 @@ use borrow.Author.Needs.{needs}
 use Rattle.loading.proofs.first_runs.Statement.{statement}
 use Rattle.loading.proofs.first_runs.Tie as tie
 
--- src/lib.rt:43:43
 entries-of-requires : tie.Need-entries-of-requires
 entries-of-requires c κs =
     let st = c .before .before in
@@ -18,7 +17,6 @@ entries-of-requires c κs =
     let r = st .pre .0 in
     (few-q (now (a .s)) (a .z) (a .y) r, few-p (now (a .s)) (a .z) (a .y) r, few-k (now (a .s)) (a .z) (a .y) r, lines-left (now (a .s)) (a .z) (a .y) r)
 
--- src/lib.rt:43:5
 scatter-requires : tie.Need-scatter-requires
 scatter-requires c κs =
     let st = c .before .before .before .before in
@@ -30,7 +28,6 @@ scatter-requires c κs =
       subst (λ (n : ℕ). EachLine FiniteWord (lineOf Zz (now (a .s))) n (a .z .zz)) (sym (zz-count (now (a .s)) (a .z) (a .y) r (c .before .entries-of .result) (c .before .entries-of .ensures))) (zz-lines (now (a .s)) (a .z) (a .y) r),
     )
 
--- src/lib.rt:44:43
 mul-scatter : tie.Need-mul-scatter
 mul-scatter c =
     let st = c .before .before .before .before .before .before .before .before in
@@ -38,7 +35,6 @@ mul-scatter c =
     let r = st .pre .0 in
     omega (arith, grid-of (a .y .q) (a .y .p) (few-q (now (a .s)) (a .z) (a .y) r) (few-p (now (a .s)) (a .z) (a .y) r))
 
--- src/lib.rt:44:5
 scatter-requires-2 : tie.Need-scatter-requires-2
 scatter-requires-2 c κs =
     let st = c .before .before .before .before .before .before .before .before .before in
@@ -50,7 +46,6 @@ scatter-requires-2 c κs =
       subst (λ (n : ℕ). EachLine FiniteWord (lineOf Zx (now (a .s))) n (a .z .zx)) (sym (zx-count (now (a .s)) (a .z) (a .y) r)) (zx-lines (now (a .s)) (a .z) (a .y) r),
     )
 
--- src/lib.rt:45:5
 scatter-requires-3 : tie.Need-scatter-requires-3
 scatter-requires-3 c κs =
     let st = c .before .before .before .before .before .before .before .before .before .before .before .before .before in
@@ -62,11 +57,9 @@ scatter-requires-3 c κs =
       subst (λ (n : ℕ). EachLine FiniteWord (lineOf Zy (now (a .s))) n (a .z .zy)) (sym (zy-count (now (a .s)) (a .z) (a .y) r)) (zy-lines (now (a .s)) (a .z) (a .y) r),
     )
 
--- src/lib.rt:39:1
 same-length : tie.Need-same-length
 same-length c = search needs
 
--- src/lib.rt:39:1
 returns : tie.Need-returns
 returns c =
     let st = c .before .before .before .before .before .before .before .before .before .before .before .before .before .before .before .before in

@@ -10,7 +10,6 @@ use borrow.Author.Needs.{needs}
 use Rattle.loading.proofs.last_runs.Statement.{statement}
 use Rattle.loading.proofs.last_runs.Tie as tie
 
--- src/lib.rt:53:27
 add-triangle : tie.Need-add-triangle
 add-triangle c =
     let st = c .before .before .before in
@@ -18,7 +17,6 @@ add-triangle c =
     let r = st .pre .0 in
     omega (arith, few-p (now (a .s)) (a .z) (a .y) r)
 
--- src/lib.rt:53:20
 mul-triangle : tie.Need-mul-triangle
 mul-triangle c =
     let st = c .before .before .before .before in
@@ -26,7 +24,6 @@ mul-triangle c =
     let r = st .pre .0 in
     omega (arith, product-of (a .y .p) (few-p (now (a .s)) (a .z) (a .y) r))
 
--- src/lib.rt:54:5
 scatter-requires : tie.Need-scatter-requires
 scatter-requires c κs =
     let st = c .before .before .before .before .before in
@@ -38,7 +35,6 @@ scatter-requires c κs =
       subst (λ (n : ℕ). EachLine FiniteWord (lineOf Xx (now (a .s))) n (a .z .xx)) (sym (xx-count (now (a .s)) (a .z) (a .y) r)) (xx-lines (now (a .s)) (a .z) (a .y) r),
     )
 
--- src/lib.rt:55:5
 scatter-requires-2 : tie.Need-scatter-requires-2
 scatter-requires-2 c κs =
     let st = c .before .before .before .before .before .before .before .before .before in
@@ -50,7 +46,6 @@ scatter-requires-2 c κs =
       subst (λ (n : ℕ). EachLine FiniteWord (lineOf Xy (now (a .s))) n (a .z .xy)) (sym (xy-count (now (a .s)) (a .z) (a .y) r)) (xy-lines (now (a .s)) (a .z) (a .y) r),
     )
 
--- src/lib.rt:56:40
 add-scatter : tie.Need-add-scatter
 add-scatter c =
     let st = c .before .before .before .before .before .before .before .before .before .before .before .before .before in
@@ -58,7 +53,6 @@ add-scatter c =
     let r = st .pre .0 in
     omega (arith, few-p (now (a .s)) (a .z) (a .y) r, product-of (a .y .p) (few-p (now (a .s)) (a .z) (a .y) r))
 
--- src/lib.rt:56:5
 scatter-requires-3 : tie.Need-scatter-requires-3
 scatter-requires-3 c κs =
     let st = c .before .before .before .before .before .before .before .before .before .before .before .before .before .before in
@@ -70,11 +64,9 @@ scatter-requires-3 c κs =
       yy-lines (now (a .s)) (a .z) (a .y) r,
     )
 
--- src/lib.rt:49:1
 same-length : tie.Need-same-length
 same-length c = search needs
 
--- src/lib.rt:49:1
 returns : tie.Need-returns
 returns c =
     let st = c .before .before .before .before .before .before .before .before .before .before .before .before .before .before .before .before .before in

@@ -6,33 +6,27 @@ use borrow.Author.Needs.{needs}
 use Rattle.loading.proofs.load_numbers.Statement.{statement}
 use Rattle.loading.proofs.load_numbers.Tie as tie
 
--- src/lib.rt:64:9
 map-of-requires : tie.Need-map-of-requires
 map-of-requires c κs =
     let st = c .before .before in
     let a = st .args in
     ready-lawful (now (a .s)) (a .z) (a .y) (st .pre .0)
 
--- src/lib.rt:65:5
 clear-all-requires : tie.Need-clear-all-requires
 clear-all-requires c κs =
     let st = c .before .before .before .before in
     let a = st .args in
     (ready-lawful (now (a .s)) (a .z) (a .y) (st .pre .0), st .pre .1)
 
--- src/lib.rt:66:5
 first-runs-requires : tie.Need-first-runs-requires
 first-runs-requires c κs = search needs
 
--- src/lib.rt:67:5
 last-runs-requires : tie.Need-last-runs-requires
 last-runs-requires c κs = search needs
 
--- src/lib.rt:60:1
 same-length : tie.Need-same-length
 same-length c = search needs
 
--- src/lib.rt:60:1
 returns : tie.Need-returns
 returns c =
     let st = c .before .before .before .before .before .before .before .before .before .before .before .before .before .before .before in

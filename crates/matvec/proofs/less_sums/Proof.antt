@@ -12,31 +12,24 @@ use Rattle.axpy_products.proofs.add_products.Reads as add-products-reads
 use Rattle.run_copies.proofs.clear.Reads as clear-reads
 use Rattle.runs.proofs.less.Reads as less-reads
 
--- src/lib.rt:25:5
 clear-requires : tie.Need-clear-requires
 clear-requires c κs = search needs
 
--- src/lib.rt:26:5
 add-products-requires : tie.Need-add-products-requires
 add-products-requires c κs = omega (arith, start-dense 1 (c .before .before .before .before .before .before .before .before .before .args .cols))
 
--- src/lib.rt:27:24
 add-less : tie.Need-add-less
 add-less c = search needs
 
--- src/lib.rt:27:5
 less-requires : tie.Need-less-requires
 less-requires c κs = search needs
 
--- src/lib.rt:12:1
 same-length : tie.Need-same-length
 same-length c = search needs
 
--- src/lib.rt:12:1
 same-length-2 : tie.Need-same-length-2
 same-length-2 c = search needs
 
--- src/lib.rt:12:1
 returns : tie.Need-returns
 returns c =
     let a = c .before .before .before .before .before .before .before .before .before .before .before .before .before .before .before .before .before .args in

@@ -22,29 +22,24 @@ Inv-loop v₀ off cols z rows w a c₀ p₀ v c p =
 abbrev μ-loop : tie.MeasureT-loop
 μ-loop v₀ off cols z rows w a c₀ p₀ v c p = cols - c
 
--- src/lib.rt:126:5
 loop-holds : tie.Need-loop-holds Inv-loop μ-loop
 unfolding start
 loop-holds c =
     let a = c .before .before .args in
     (omega arith, omega arith, refl, made-none (a .off) (a .cols) (columnLess (a .off) (a .a) (a .rows) (a .z) (a .w .now) (a .v .now)) (a .v .now) (omega arith))
 
--- src/lib.rt:127:30
 add-less-some : tie.Need-add-less-some Inv-loop μ-loop
 add-less-some c = search needs
 
--- src/lib.rt:127:54
 sub-less-some : tie.Need-sub-less-some Inv-loop μ-loop
 sub-less-some c = search needs
 
--- src/lib.rt:127:13
 less-some-requires : tie.Need-less-some-requires Inv-loop μ-loop
 less-some-requires c κs =
     let a = c .before .before .before .before .before .args in
     let l = c .before .before .loop in
     omega (arith, left-fits (a .a) (a .rows) (l .c) (a .cols) (l .p) (length (a .w .now)) (omega arith) (omega arith) (omega arith))
 
--- src/lib.rt:128:14
 mul-p : tie.Need-mul-p Inv-loop μ-loop
 mul-p c =
     let a = c .before .before .before .before .before .before .before .before .args in
@@ -52,7 +47,6 @@ mul-p c =
     let s = c .before .before .less-some in
     omega (arith, next-start (a .a) (a .rows) (l .c) (s .result) (a .cols) (l .p) (length (a .w .now)) (omega arith) (omega arith) (omega arith))
 
--- src/lib.rt:128:9
 add-p : tie.Need-add-p Inv-loop μ-loop
 add-p c =
     let a = c .before .before .before .before .before .before .before .before .args in
@@ -60,15 +54,12 @@ add-p c =
     let s = c .before .before .less-some in
     omega (arith, next-start (a .a) (a .rows) (l .c) (s .result) (a .cols) (l .p) (length (a .w .now)) (omega arith) (omega arith) (omega arith))
 
--- src/lib.rt:129:9
 add-c : tie.Need-add-c Inv-loop μ-loop
 add-c c = search needs
 
--- src/lib.rt:126:5
 loop-less : tie.Need-loop-less Inv-loop μ-loop
 loop-less c = search needs
 
--- src/lib.rt:126:5
 loop-again : tie.Need-loop-again Inv-loop μ-loop
 loop-again c =
     let a = c .before .before .before .before .before .before .before .before .args in
@@ -81,11 +72,9 @@ loop-again c =
           (a .off + l .c) (l .p) refl (l .inv .1) (l .v) _ (l .inv .3) (s .ensures .2),
     )
 
--- src/lib.rt:111:1
 same-length : tie.Need-same-length Inv-loop μ-loop
 same-length c = search needs
 
--- src/lib.rt:111:1
 returns : tie.Need-returns Inv-loop μ-loop
 returns c =
     let a = c .before .before .before .before .args in

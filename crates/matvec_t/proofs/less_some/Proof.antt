@@ -10,31 +10,25 @@ use Rattle.matvec_t.proofs.less_some.Lts as lts
 use Rattle.four_sums.proofs.less_four.Reads as less-four-reads
 use Rattle.four_sums.proofs.less_one.Reads as less-one-reads
 
--- src/lib.rt:103:9
 less-one-requires : tie.Need-less-one-requires
 less-one-requires c κs =
     let a = c .before .before .before .before .args in
     omega (arith, one-fits (a .p) (a .rows) (a .left) (length (a .w .now)) (omega arith) (omega arith))
 
--- src/lib.rt:104:9
 same-length : tie.Need-same-length
 same-length c = search needs
 
--- src/lib.rt:104:9
 returns : tie.Need-returns
 returns c = search needs
 
--- src/lib.rt:106:5
 less-four-requires : tie.Need-less-four-requires
 less-four-requires c κs =
     let a = c .before .before .before .before .args in
     omega (arith, four-fit (a .p) (a .rows) (a .left) (length (a .w .now)) (omega arith) (omega arith))
 
--- src/lib.rt:90:1
 same-length-2 : tie.Need-same-length-2
 same-length-2 c = search needs
 
--- src/lib.rt:90:1
 returns-2 : tie.Need-returns-2
 returns-2 c = search needs
 

@@ -1,41 +1,34 @@
--- `numbers::print_groups` meets its contract.
 use borrow.Author.Needs.{needs}
-use Prim.Native.Nat.{_≤_, _-_}
+use Prim.Native.Nat.{_-_}
 use Rattle.numbers.proofs.print_groups.Statement.{statement}
 use Rattle.numbers.proofs.print_groups.Tie as tie
+use Rattle.numbers.proofs.print_groups.Reads as reads
+use Rattle.numbers.proofs.print_groups.Lts as lts
+use Rattle.numbers.proofs.print_group.Reads as print-group-reads
 
 abbrev Inv-loop : tie.InvT-loop
-Inv-loop seen agreed place₀ place = place ≤ 14
+Inv-loop m g₀ g = Unit
 
 abbrev μ-loop : tie.MeasureT-loop
-μ-loop seen agreed place₀ place = 14 - place
+μ-loop m g₀ g = 14 - g
 
 loop-holds : tie.Need-loop-holds Inv-loop μ-loop
 loop-holds c = search needs
 
-print-function-requires : tie.Need-print-function-requires Inv-loop μ-loop
-print-function-requires c κs = search needs
+add-print-group : tie.Need-add-print-group Inv-loop μ-loop
+add-print-group c = search needs
+
+mul-print-group : tie.Need-mul-print-group Inv-loop μ-loop
+mul-print-group c = search needs
+
+element-copy-out-print-group : tie.Need-element-copy-out-print-group Inv-loop μ-loop
+element-copy-out-print-group c = search needs
 
 print-group-requires : tie.Need-print-group-requires Inv-loop μ-loop
 print-group-requires c κs = search needs
 
-mul-print-counts : tie.Need-mul-print-counts Inv-loop μ-loop
-mul-print-counts c = search needs
-
-array-read-print-counts : tie.Need-array-read-print-counts Inv-loop μ-loop
-array-read-print-counts c = search needs
-
-mul-print-counts-2 : tie.Need-mul-print-counts-2 Inv-loop μ-loop
-mul-print-counts-2 c = search needs
-
-array-read-print-counts-2 : tie.Need-array-read-print-counts-2 Inv-loop μ-loop
-array-read-print-counts-2 c = search needs
-
-print-counts-requires : tie.Need-print-counts-requires Inv-loop μ-loop
-print-counts-requires c κs = search needs
-
-add-place : tie.Need-add-place Inv-loop μ-loop
-add-place c = search needs
+add-g : tie.Need-add-g Inv-loop μ-loop
+add-g c = search needs
 
 loop-less : tie.Need-loop-less Inv-loop μ-loop
 loop-less c = search needs
@@ -53,14 +46,11 @@ print-groups-spec =
     Inv-loop
     μ-loop
     loop-holds
-    print-function-requires
+    add-print-group
+    mul-print-group
+    element-copy-out-print-group
     print-group-requires
-    mul-print-counts
-    array-read-print-counts
-    mul-print-counts-2
-    array-read-print-counts-2
-    print-counts-requires
-    add-place
+    add-g
     loop-less
     loop-again
     returns)

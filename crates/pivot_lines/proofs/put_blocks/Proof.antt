@@ -17,13 +17,11 @@ Inv-loop y w out₀ k at₀ j₀ out at j = BlocksPut y w out₀ j at out
 abbrev μ-loop : tie.MeasureT-loop
 μ-loop y w out₀ k at₀ j₀ out at j = k + 1 - j
 
--- src/lib.rt:40:5
 loop-holds : tie.Need-loop-holds Inv-loop μ-loop
 loop-holds c =
     let a = c .before .before .args in
     blocks-none (a .y) (now (a .w)) (now (a .out))
 
--- src/lib.rt:41:9
 put-rows-requires : tie.Need-put-rows-requires Inv-loop μ-loop
 put-rows-requires c κs =
     let st = c .before .before .before .before .before in
@@ -31,28 +29,23 @@ put-rows-requires c κs =
     let b = blocks-room (a .y) (now (a .w)) (now (a .out)) (st .pre .0) (st .pre .1) (st .pre .2) (st .pre .3) _ _ _ (c .before .before .loop .inv) (c .before .loop-test .taken) in
     (st .pre .0, st .pre .1, c .before .loop-test .taken, b .0, b .1)
 
--- src/lib.rt:42:9
 add-j : tie.Need-add-j Inv-loop μ-loop
 add-j c =
     let st = c .before .before .before .before .before .before .before .before in
     record { fits = omega (arith, is-lawful (st .args .y) (st .pre .0) .blocks .1, c .before .before .before .before .loop-test .taken) }
 
--- src/lib.rt:40:5
 loop-less : tie.Need-loop-less Inv-loop μ-loop
 loop-less c = search needs
 
--- src/lib.rt:40:5
 loop-again : tie.Need-loop-again Inv-loop μ-loop
 loop-again c =
     let st = c .before .before .before .before .before .before .before .before in
     let a = st .args in
     blocks-next (a .y) (now (a .w)) (now (a .out)) (st .pre .0) (st .pre .1) (st .pre .2) (st .pre .3) _ _ _ (c .before .before .before .before .before .loop .inv) (c .before .before .before .before .loop-test .taken) _ _ (c .before .before .put-rows .ensures)
 
--- src/lib.rt:33:1
 same-length : tie.Need-same-length Inv-loop μ-loop
 same-length c = search needs
 
--- src/lib.rt:33:1
 returns : tie.Need-returns Inv-loop μ-loop
 returns c =
     let st = c .before .before .before .before in

@@ -12,13 +12,11 @@ use Rattle.pivot_lines.proofs.put_pivots.Lts as lts
 use Rattle.heading.proofs.layout.Reads as layout-reads
 use Rattle.pivot_lines.proofs.put_blocks.Reads as put-blocks-reads
 
--- src/lib.rt:52:16
 layout-requires : tie.Need-layout-requires
 layout-requires c κs =
     let st = c .before .before .before in
     fits (now (st .args .h)) (length (now (st .args .w))) (st .pre .0) .long
 
--- src/lib.rt:52:5
 put-blocks-requires : tie.Need-put-blocks-requires
 put-blocks-requires c κs =
     let st = c .before .before .before .before .before in
@@ -28,11 +26,9 @@ put-blocks-requires c κs =
     let e = c .before .layout .ensures in
     (fits-lawful h w _ e fit, fits-room h w _ e fit, st .pre .1, st .pre .2)
 
--- src/lib.rt:48:1
 same-length : tie.Need-same-length
 same-length c = search needs
 
--- src/lib.rt:48:1
 returns : tie.Need-returns
 returns c =
     let a = c .before .before .before .before .before .before .before .before .args in

@@ -18,45 +18,36 @@ Inv-loop y w j out₀ from n at₀ r₀ out at r = RowsPut y w j from out₀ r a
 abbrev μ-loop : tie.MeasureT-loop
 μ-loop y w j out₀ from n at₀ r₀ out at r = n - r
 
--- src/lib.rt:21:9
 rows-of-requires : tie.Need-rows-of-requires Inv-loop μ-loop
 rows-of-requires c κs = search needs
 
--- src/lib.rt:24:5
 loop-holds : tie.Need-loop-holds Inv-loop μ-loop
 loop-holds c =
     let st = c .before .before .before in
     let a = st .args in
     rows-none (a .y) (now (a .w)) (a .j) (a .from) (now (a .out)) (st .pre .0) (st .pre .2) (st .pre .3) (st .pre .4)
 
--- src/lib.rt:25:13
 read-pivot-requires : tie.Need-read-pivot-requires Inv-loop μ-loop
 read-pivot-requires c κs = search needs
 
--- src/lib.rt:26:9
 put-pivot-requires : tie.Need-put-pivot-requires Inv-loop μ-loop
 put-pivot-requires c κs = search needs
 
--- src/lib.rt:27:9
 add-r : tie.Need-add-r Inv-loop μ-loop
 add-r c = search needs
 
--- src/lib.rt:24:5
 loop-less : tie.Need-loop-less Inv-loop μ-loop
 loop-less c = search needs
 
--- src/lib.rt:24:5
 loop-again : tie.Need-loop-again Inv-loop μ-loop
 loop-again c =
     let st = c .before .before .before .before .before .before .before .before .before .before in
     let a = st .args in
     rows-next (a .y) (now (a .w)) (a .j) (a .from) (now (a .out)) (st .pre .0) (st .pre .2) (st .pre .3) (st .pre .4) _ _ _ (c .before .before .before .before .before .before .loop .inv) (omega (arith, c .before .before .before .before .before .before .before .rows-of .ensures, c .before .before .before .before .before .loop-test .taken)) _ _ _ (c .before .before .before .before .read-pivot .ensures) (c .before .before .put-pivot .ensures)
 
--- src/lib.rt:17:1
 same-length : tie.Need-same-length Inv-loop μ-loop
 same-length c = search needs
 
--- src/lib.rt:17:1
 returns : tie.Need-returns Inv-loop μ-loop
 returns c =
     let st = c .before .before .before .before .before in

@@ -7,31 +7,24 @@ use Rattle.pivot_places.proofs.pivot_place.Reads as reads
 use Rattle.pivot_places.proofs.pivot_place.Lts as lts
 use Rattle.triangle_cells.proofs.row_start.Reads as row-start-reads
 
--- src/lib.rt:85:16
 row-start-requires : tie.Need-row-start-requires
 row-start-requires c κs = let s = c .before .before in omega (arith, few-last (s .args .y) (s .pre .0) (s .args .j) (s .pre .1) (c .if1 .taken), s .pre .2)
 
--- src/lib.rt:85:16
 add-result : tie.Need-add-result
 add-result c = let s = c .before .before .before in record { fits = omega (arith, few-last (s .args .y) (s .pre .0) (s .args .j) (s .pre .1) (c .before .if1 .taken), s .pre .2, start-small (s .args .r) _ (omega (arith, few-last (s .args .y) (s .pre .0) (s .args .j) (s .pre .1) (c .before .if1 .taken), s .pre .2)) (c .row-start .ensures)) }
 
--- src/lib.rt:85:9
 returns : tie.Need-returns
 returns c = let s = c .before .before .before in in-last (s .args .y) (s .args .j) (s .args .r) (s .pre .2) _ (c .before .if1 .taken) (c .row-start .ensures)
 
--- src/lib.rt:88:9
 returns-2 : tie.Need-returns-2
 returns-2 c = let s = c .before .before .before .before in in-diagonal (s .args .y) (s .args .j) (s .args .r) (s .pre .2) (c .before .before .if1 .left) (c .if2 .taken)
 
--- src/lib.rt:90:5
 row-start-requires-2 : tie.Need-row-start-requires-2
 row-start-requires-2 c κs = let s = c .before .before .before .before in omega (arith, few-packed (s .args .y) (s .pre .0) (s .args .j) (s .pre .1) (c .before .before .if1 .left) (c .if2 .left), s .pre .2)
 
--- src/lib.rt:90:5
 add-result-2 : tie.Need-add-result-2
 add-result-2 c = let s = c .before .before .before .before .before in record { fits = omega (arith, few-packed (s .args .y) (s .pre .0) (s .args .j) (s .pre .1) (c .before .before .before .if1 .left) (c .before .if2 .left), s .pre .2, start-small (s .args .r) _ (omega (arith, few-packed (s .args .y) (s .pre .0) (s .args .j) (s .pre .1) (c .before .before .before .if1 .left) (c .before .if2 .left), s .pre .2)) (c .row-start2 .ensures)) }
 
--- src/lib.rt:79:1
 returns-3 : tie.Need-returns-3
 returns-3 c = let s = c .before .before .before .before .before in in-packed (s .args .y) (s .args .j) (s .args .r) (s .pre .2) (c .before .before .before .if1 .left) _ (c .before .if2 .left) (c .row-start2 .ensures)
 

@@ -9,27 +9,21 @@ use Rattle.pivot_places.proofs.read_pivot.Lts as lts
 use Rattle.places.proofs.working_at.Reads as working-at-reads
 use Rattle.pivot_places.proofs.pivot_place.Reads as pivot-place-reads
 
--- src/lib.rt:98:7
 working-at-requires : tie.Need-working-at-requires
 working-at-requires c κs = search needs
 
--- src/lib.rt:98:37
 pivot-place-requires : tie.Need-pivot-place-requires
 pivot-place-requires c κs = search needs
 
--- src/lib.rt:98:7
 add-result : tie.Need-add-result
 add-result c = let s = c .before .before .before in record { fits = omega (arith, pivot-place (s .args .y) _ (s .pre .0) (s .pre .1) (s .args .j) (s .args .r) (s .pre .2) (s .pre .3) _ _ (c .before .working-at .ensures) (c .pivot-place .ensures) .1) }
 
--- src/lib.rt:98:5
 mul-result : tie.Need-mul-result
 mul-result c = let s = c .before .before .before in record { fits = omega (arith, pivot-place (s .args .y) _ (s .pre .0) (s .pre .1) (s .args .j) (s .args .r) (s .pre .2) (s .pre .3) _ _ (c .before .working-at .ensures) (c .pivot-place .ensures) .1) }
 
--- src/lib.rt:98:5
 shared-slice-read-result : tie.Need-shared-slice-read-result
 shared-slice-read-result c = let s = c .before .before .before .before in pivot-place (s .args .y) _ (s .pre .0) (s .pre .1) (s .args .j) (s .args .r) (s .pre .2) (s .pre .3) _ _ (c .before .before .working-at .ensures) (c .before .pivot-place .ensures) .0
 
--- src/lib.rt:94:1
 returns : tie.Need-returns
 returns c = let s = c .before .before .before .before in pivot-read (s .args .y) (s .args .w .now) (s .pre .1) (s .args .j) (s .args .r) (s .pre .2) (s .pre .3) (s .pre .0) _ _ (c .before .before .working-at .ensures) (c .before .pivot-place .ensures)
 

@@ -10,19 +10,15 @@ use Rattle.pivot_places.proofs.rows.Reads as reads
 use Rattle.pivot_places.proofs.rows.Lts as lts
 use Rattle.sorted_blocks.proofs.level.Reads as level-reads
 
--- src/lib.rt:73:16
 add-result : tie.Need-add-result
 add-result c = let s = c .before .before .before in record { fits = omega (arith, is-lawful (s .args .y) (s .pre .0) .effects .1) }
 
--- src/lib.rt:73:9
 returns : tie.Need-returns
 returns c = let a = c .before .before .before .args in sym (last-rows (a .y) (a .j) (c .before .if1 .taken))
 
--- src/lib.rt:75:5
 level-requires : tie.Need-level-requires
 level-requires c κs = let s = c .before .before in omega (arith, below (s .args .j) (s .args .y .k) (s .pre .1) (c .if1 .left), is-lawful (s .args .y) (s .pre .0) .blocks .1)
 
--- src/lib.rt:68:1
 returns-2 : tie.Need-returns-2
 returns-2 c = let a = c .before .before .before .args in c .level .ensures ∙ sym (other-rows (a .y) (a .j) (c .before .if1 .left))
 

@@ -4,11 +4,9 @@ use borrow.Author.Needs.{needs}
 use Rattle.places.proofs.loaded_at.Statement.{statement}
 use Rattle.places.proofs.loaded_at.Tie as tie
 
--- src/lib.rt:144:5
 cells-before-requires : tie.Need-cells-before-requires
 cells-before-requires c κs = search needs
 
--- src/lib.rt:140:1
 returns : tie.Need-returns
 unfolding loadedAt
 returns c = c .cells-before .ensures

@@ -7,21 +7,17 @@ use borrow.Author.Needs.{needs}
 use Rattle.places.proofs.sum_at.Statement.{statement}
 use Rattle.places.proofs.sum_at.Tie as tie
 
--- src/lib.rt:168:6
 all-cells-requires : tie.Need-all-cells-requires
 all-cells-requires c κs = search needs
 
--- src/lib.rt:168:6
 add-result : tie.Need-add-result
 add-result c =
     let s = c .before .before in
     omega (arith, few-blocks (s .args .y) (s .pre), cells-small (s .args .y) (s .pre) true, c .before .all-cells .ensures)
 
--- src/lib.rt:168:33
 all-cells-requires-2 : tie.Need-all-cells-requires-2
 all-cells-requires-2 c κs = search needs
 
--- src/lib.rt:168:6
 add-result-2 : tie.Need-add-result-2
 add-result-2 c =
     let s = c .before .before .before in
@@ -34,7 +30,6 @@ add-result-2 c =
       c .all-cells2 .ensures,
     )
 
--- src/lib.rt:164:1
 returns : tie.Need-returns
 unfolding sumAt loadedLength
 returns c = omega (arith, c .before .before .all-cells .ensures, c .all-cells2 .ensures)

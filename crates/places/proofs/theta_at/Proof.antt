@@ -4,11 +4,9 @@ use borrow.Author.Needs.{needs}
 use Rattle.places.proofs.theta_at.Statement.{statement}
 use Rattle.places.proofs.theta_at.Tie as tie
 
--- src/lib.rt:152:5
 all-cells-requires : tie.Need-all-cells-requires
 all-cells-requires c κs = search needs
 
--- src/lib.rt:148:1
 returns : tie.Need-returns
 unfolding loadedLength
 returns c = c .all-cells .ensures

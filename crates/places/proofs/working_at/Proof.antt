@@ -9,21 +9,17 @@ use borrow.Author.Needs.{needs}
 use Rattle.places.proofs.working_at.Statement.{statement}
 use Rattle.places.proofs.working_at.Tie as tie
 
--- src/lib.rt:160:6
 all-cells-requires : tie.Need-all-cells-requires
 all-cells-requires c κs = search needs
 
--- src/lib.rt:160:6
 add-result : tie.Need-add-result
 add-result c =
     let s = c .before .before in
     omega (arith, few-blocks (s .args .y) (s .pre .0), cells-small (s .args .y) (s .pre .0) true, c .before .all-cells .ensures)
 
--- src/lib.rt:160:33
 cells-before-requires : tie.Need-cells-before-requires
 cells-before-requires c κs = search needs
 
--- src/lib.rt:160:6
 add-result-2 : tie.Need-add-result-2
 add-result-2 c =
     let s = c .before .before .before in
@@ -38,7 +34,6 @@ add-result-2 c =
       c .cells-before .ensures,
     )
 
--- src/lib.rt:156:1
 returns : tie.Need-returns
 unfolding workingAt loadedLength
 returns c = omega (arith, c .before .before .all-cells .ensures, c .cells-before .ensures)

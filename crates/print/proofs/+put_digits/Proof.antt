@@ -23,7 +23,6 @@ abbrev put-digits-below : ℕ → In 1 put-digits-kinds.ps
 put-digits-below t =
     and 1 put-digits-kinds.ps (falls 1 put-digits-kinds.ps _<_ μ-put-digits t) put-digits.Pre
 
--- src/lib.rt:57:39
 put-digits-cast-put-byte : (t : ℕ) → put-digits-lts.Need-cast-put-byte (
   put-byte-reads.Asked,
   put-byte-reads.Learnt,
@@ -32,7 +31,6 @@ put-digits-cast-put-byte : (t : ℕ) → put-digits-lts.Need-cast-put-byte (
 ) (put-digits-at t) put-digits.Post
 put-digits-cast-put-byte t c = search needs
 
--- src/lib.rt:57:34
 put-digits-add-put-byte : (t : ℕ) → put-digits-lts.Need-add-put-byte (
   put-byte-reads.Asked,
   put-byte-reads.Learnt,
@@ -41,7 +39,6 @@ put-digits-add-put-byte : (t : ℕ) → put-digits-lts.Need-add-put-byte (
 ) (put-digits-at t) put-digits.Post
 put-digits-add-put-byte t c = search needs
 
--- src/lib.rt:57:9
 put-digits-put-byte-requires : (t : ℕ) → put-digits-lts.Need-put-byte-requires (
   put-byte-reads.Asked,
   put-byte-reads.Learnt,
@@ -50,7 +47,6 @@ put-digits-put-byte-requires : (t : ℕ) → put-digits-lts.Need-put-byte-requir
 ) (put-digits-at t) put-digits.Post
 put-digits-put-byte-requires t c κs = let e = digits-one _ (c .before .if1 .taken) in search needs
 
--- src/lib.rt:57:9
 put-digits-same-length : (t : ℕ) → put-digits-lts.Need-same-length (
   put-byte-reads.Asked,
   put-byte-reads.Learnt,
@@ -59,7 +55,6 @@ put-digits-same-length : (t : ℕ) → put-digits-lts.Need-same-length (
 ) (put-digits-at t) put-digits.Post
 put-digits-same-length t c = search needs
 
--- src/lib.rt:57:9
 put-digits-returns : (t : ℕ) → put-digits-lts.Need-returns (
   put-byte-reads.Asked,
   put-byte-reads.Learnt,
@@ -69,7 +64,6 @@ put-digits-returns : (t : ℕ) → put-digits-lts.Need-returns (
 put-digits-returns t c =
     digits-one-put _ (c .before .before .before .before .before .before .args .x) _ (c .before .before .before .before .if1 .taken) (c .before .before .put-byte .ensures)
 
--- src/lib.rt:59:9
 put-digits-put-digits-requires : (t : ℕ) → put-digits-lts.Need-put-digits-requires (
   put-byte-reads.Asked,
   put-byte-reads.Learnt,
@@ -80,7 +74,6 @@ put-digits-put-digits-requires t c κs =
     let s = c .before .before .before in
     (omega arith, omega (arith, s .pre .1, digits-more (s .args .x) (omega arith) (omega arith)))
 
--- src/lib.rt:60:30
 put-digits-cast-put-byte-2 : (t : ℕ) → put-digits-lts.Need-cast-put-byte-2 (
   put-byte-reads.Asked,
   put-byte-reads.Learnt,
@@ -89,7 +82,6 @@ put-digits-cast-put-byte-2 : (t : ℕ) → put-digits-lts.Need-cast-put-byte-2 (
 ) (put-digits-at t) put-digits.Post
 put-digits-cast-put-byte-2 t c = search needs
 
--- src/lib.rt:60:25
 put-digits-add-put-byte-2 : (t : ℕ) → put-digits-lts.Need-add-put-byte-2 (
   put-byte-reads.Asked,
   put-byte-reads.Learnt,
@@ -98,7 +90,6 @@ put-digits-add-put-byte-2 : (t : ℕ) → put-digits-lts.Need-add-put-byte-2 (
 ) (put-digits-at t) put-digits.Post
 put-digits-add-put-byte-2 t c = search needs
 
--- src/lib.rt:60:5
 put-digits-put-byte-requires-2 : (t : ℕ) → put-digits-lts.Need-put-byte-requires-2 (
   put-byte-reads.Asked,
   put-byte-reads.Learnt,
@@ -109,7 +100,6 @@ put-digits-put-byte-requires-2 t c κs =
     let s = c .before .before .before .before .before .before .before in
     omega (arith, s .pre .1, digits-more (s .args .x) (omega arith) (omega arith))
 
--- src/lib.rt:52:1
 put-digits-same-length-2 : (t : ℕ) → put-digits-lts.Need-same-length-2 (
   put-byte-reads.Asked,
   put-byte-reads.Learnt,
@@ -118,7 +108,6 @@ put-digits-same-length-2 : (t : ℕ) → put-digits-lts.Need-same-length-2 (
 ) (put-digits-at t) put-digits.Post
 put-digits-same-length-2 t c = search needs
 
--- src/lib.rt:52:1
 put-digits-returns-2 : (t : ℕ) → put-digits-lts.Need-returns-2 (
   put-byte-reads.Asked,
   put-byte-reads.Learnt,

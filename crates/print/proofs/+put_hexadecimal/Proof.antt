@@ -32,7 +32,6 @@ put-hexadecimal-below t =
     (falls 1 put-hexadecimal-kinds.ps _<_ μ-put-hexadecimal t)
     put-hexadecimal.Pre
 
--- src/lib.rt:85:9
 put-hexadecimal-returns : (t : ℕ) → put-hexadecimal-lts.Need-returns (
   put-hexadecimal-below t,
   put-hexadecimal.Post,
@@ -45,7 +44,6 @@ put-hexadecimal-returns t c =
     let a = c .before .before .args in
     hexadecimal-none-put (a .at) (a .n) (a .x) (a .out .now) (c .if1 .taken)
 
--- src/lib.rt:87:41
 put-hexadecimal-sub-put-hexadecimal : (t : ℕ) → put-hexadecimal-lts.Need-sub-put-hexadecimal (
   put-hexadecimal-below t,
   put-hexadecimal.Post,
@@ -56,7 +54,6 @@ put-hexadecimal-sub-put-hexadecimal : (t : ℕ) → put-hexadecimal-lts.Need-sub
 ) (put-hexadecimal-at t) put-hexadecimal.Post
 put-hexadecimal-sub-put-hexadecimal t c = search needs
 
--- src/lib.rt:87:9
 put-hexadecimal-put-hexadecimal-requires :
     (t : ℕ) → put-hexadecimal-lts.Need-put-hexadecimal-requires (
       put-hexadecimal-below t,
@@ -69,7 +66,6 @@ put-hexadecimal-put-hexadecimal-requires :
 put-hexadecimal-put-hexadecimal-requires t c κs =
     (omega arith, omega (arith, c .before .before .before .pre .1))
 
--- src/lib.rt:88:25
 put-hexadecimal-hex-digit-requires : (t : ℕ) → put-hexadecimal-lts.Need-hex-digit-requires (
   put-hexadecimal-below t,
   put-hexadecimal.Post,
@@ -80,7 +76,6 @@ put-hexadecimal-hex-digit-requires : (t : ℕ) → put-hexadecimal-lts.Need-hex-
 ) (put-hexadecimal-at t) put-hexadecimal.Post
 put-hexadecimal-hex-digit-requires t c κs = omega arith
 
--- src/lib.rt:88:5
 put-hexadecimal-put-byte-requires : (t : ℕ) → put-hexadecimal-lts.Need-put-byte-requires (
   put-hexadecimal-below t,
   put-hexadecimal.Post,
@@ -91,7 +86,6 @@ put-hexadecimal-put-byte-requires : (t : ℕ) → put-hexadecimal-lts.Need-put-b
 ) (put-hexadecimal-at t) put-hexadecimal.Post
 put-hexadecimal-put-byte-requires t c κs = omega (arith, c .before .before .before .before .before .before .before .before .pre .1)
 
--- src/lib.rt:80:1
 put-hexadecimal-same-length : (t : ℕ) → put-hexadecimal-lts.Need-same-length (
   put-hexadecimal-below t,
   put-hexadecimal.Post,
@@ -102,7 +96,6 @@ put-hexadecimal-same-length : (t : ℕ) → put-hexadecimal-lts.Need-same-length
 ) (put-hexadecimal-at t) put-hexadecimal.Post
 put-hexadecimal-same-length t c = search needs
 
--- src/lib.rt:80:1
 put-hexadecimal-returns-2 : (t : ℕ) → put-hexadecimal-lts.Need-returns-2 (
   put-hexadecimal-below t,
   put-hexadecimal.Post,

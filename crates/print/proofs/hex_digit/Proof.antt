@@ -6,27 +6,21 @@ use Rattle.print.proofs.hex_digit.Tie as tie
 use Rattle.print.proofs.hex_digit.Reads as reads
 use Rattle.print.proofs.hex_digit.Lts as lts
 
--- src/lib.rt:76:22
 cast-result : tie.Need-cast-result
 cast-result c = search needs
 
--- src/lib.rt:76:17
 add-result : tie.Need-add-result
 add-result c = search needs
 
--- src/lib.rt:76:44
 cast-result-2 : tie.Need-cast-result-2
 cast-result-2 c = search needs
 
--- src/lib.rt:76:39
 add-result-2 : tie.Need-add-result-2
 add-result-2 c = search needs
 
--- src/lib.rt:72:1
 returns : tie.Need-returns
 returns c = hex-low _ (c .if1 .taken)
 
--- src/lib.rt:72:1
 returns-2 : tie.Need-returns-2
 returns-2 c = hex-high _ (c .if1 .left)
 

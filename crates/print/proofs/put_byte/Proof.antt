@@ -7,19 +7,15 @@ use Rattle.print.proofs.put_byte.Tie as tie
 use Rattle.print.proofs.put_byte.Reads as reads
 use Rattle.print.proofs.put_byte.Lts as lts
 
--- src/lib.rt:34:5
 slice-write-out : tie.Need-slice-write-out
 slice-write-out c = search needs
 
--- src/lib.rt:35:5
 add-result : tie.Need-add-result
 add-result c = search needs
 
--- src/lib.rt:30:1
 same-length : tie.Need-same-length
 same-length c = search needs
 
--- src/lib.rt:30:1
 returns : tie.Need-returns
 returns c = (refl, byte-put _ _ _ (c .pre))
 

@@ -8,15 +8,12 @@ use Rattle.print.proofs.put_number.Reads as reads
 use Rattle.print.proofs.put_number.Lts as lts
 use Rattle.print.proofs.put_digits.Reads as put-digits-reads
 
--- src/lib.rt:68:5
 put-digits-requires : tie.Need-put-digits-requires
 put-digits-requires c κs = omega (arith, number-length (c .before .before .args .x))
 
--- src/lib.rt:64:1
 same-length : tie.Need-same-length
 same-length c = search needs
 
--- src/lib.rt:64:1
 returns : tie.Need-returns
 returns c = search needs
 

@@ -12,53 +12,43 @@ use Rattle.print.proofs.put_number.Reads as put-number-reads
 use Rattle.print.proofs.put_text.Reads as put-text-reads
 use Rattle.print.proofs.put_word.Reads as put-word-reads
 
--- src/lib.rt:104:31
 slice-aggregate-put-text : tie.Need-slice-aggregate-put-text
 slice-aggregate-put-text c = search needs
 
--- src/lib.rt:104:9
 put-text-requires : tie.Need-put-text-requires
 put-text-requires c κs = search needs
 
--- src/lib.rt:105:9
 put-number-requires : tie.Need-put-number-requires
 put-number-requires c κs = search needs
 
--- src/lib.rt:106:9
 put-byte-requires : tie.Need-put-byte-requires
 put-byte-requires c κs =
     let a = c .before .before .before .before .before .before .before .before .before .before .before .args in
     omega (arith, number-length (a .block))
 
--- src/lib.rt:107:9
 put-number-requires-2 : tie.Need-put-number-requires-2
 put-number-requires-2 c κs =
     let a = c .before .before .before .before .before .before .before .before .before .before .before .before .before .before .before .args in
     omega (arith, number-length (a .block))
 
--- src/lib.rt:108:9
 put-byte-requires-2 : tie.Need-put-byte-requires-2
 put-byte-requires-2 c κs =
     let a = c .before .before .before .before .before .before .before .before .before .before .before .before .before .before .before .before .before .before .before .args in
     omega (arith, number-length (a .block), number-length (a .row))
 
--- src/lib.rt:109:9
 put-word-requires : tie.Need-put-word-requires
 put-word-requires c κs =
     let a = c .before .before .before .before .before .before .before .before .before .before .before .before .before .before .before .before .before .before .before .before .before .before .before .args in
     omega (arith, number-length (a .block), number-length (a .row))
 
--- src/lib.rt:110:5
 put-byte-requires-3 : tie.Need-put-byte-requires-3
 put-byte-requires-3 c κs =
     let a = c .before .before .before .before .before .before .before .before .before .before .before .before .before .before .before .before .before .before .before .before .before .before .before .before .before .before .before .args in
     omega (arith, number-length (a .block), number-length (a .row))
 
--- src/lib.rt:100:1
 same-length : tie.Need-same-length
 same-length c = search needs
 
--- src/lib.rt:100:1
 returns : tie.Need-returns
 returns c =
     let s = c .before .before .before .before .before .before .before .before .before .before .before .before .before .before .before .before .before .before .before .before .before .before .before .before .before .before .before .before .before .before in

@@ -1,7 +1,7 @@
 -- `print_lines::put_refused`: the parts of the line, one behind the other.
 use native.Mathlib.Omega.{arith}
 use Rattle.print.proofs.Numbers.{number-length}
-use Rattle.print_lines.proofs.Lines.{refused-put}
+use Rattle.print_lines.proofs.Lines.{refused-long, refused-put}
 use borrow.Author.Needs.{needs}
 use Rattle.print_lines.proofs.put_refused.Statement.{statement}
 use Rattle.print_lines.proofs.put_refused.Tie as tie
@@ -11,60 +11,51 @@ use Rattle.print.proofs.put_byte.Reads as put-byte-reads
 use Rattle.print.proofs.put_number.Reads as put-number-reads
 use Rattle.print.proofs.put_text.Reads as put-text-reads
 
--- src/lib.rt:118:31
 slice-aggregate-put-text : tie.Need-slice-aggregate-put-text
 slice-aggregate-put-text c = search needs
 
--- src/lib.rt:118:9
 put-text-requires : tie.Need-put-text-requires
 put-text-requires c κs = search needs
 
--- src/lib.rt:119:9
 put-number-requires : tie.Need-put-number-requires
 put-number-requires c κs = search needs
 
--- src/lib.rt:120:9
 put-byte-requires : tie.Need-put-byte-requires
 put-byte-requires c κs =
     let a = c .before .before .before .before .before .before .before .before .before .before .before .args in
     omega (arith, number-length (a .number))
 
--- src/lib.rt:121:9
 put-number-requires-2 : tie.Need-put-number-requires-2
 put-number-requires-2 c κs =
     let a = c .before .before .before .before .before .before .before .before .before .before .before .before .before .before .before .args in
     omega (arith, number-length (a .number))
 
--- src/lib.rt:122:9
 put-byte-requires-2 : tie.Need-put-byte-requires-2
 put-byte-requires-2 c κs =
     let a = c .before .before .before .before .before .before .before .before .before .before .before .before .before .before .before .before .before .before .before .args in
     omega (arith, number-length (a .number), number-length (a .first))
 
--- src/lib.rt:123:9
 put-number-requires-3 : tie.Need-put-number-requires-3
 put-number-requires-3 c κs =
     let a = c .before .before .before .before .before .before .before .before .before .before .before .before .before .before .before .before .before .before .before .before .before .before .before .args in
     omega (arith, number-length (a .number), number-length (a .first))
 
--- src/lib.rt:124:5
 put-byte-requires-3 : tie.Need-put-byte-requires-3
 put-byte-requires-3 c κs =
     let a = c .before .before .before .before .before .before .before .before .before .before .before .before .before .before .before .before .before .before .before .before .before .before .before .before .before .before .before .args in
     omega (arith, number-length (a .number), number-length (a .first), number-length (a .second))
 
--- src/lib.rt:114:1
 same-length : tie.Need-same-length
 same-length c = search needs
 
--- src/lib.rt:114:1
 returns : tie.Need-returns
 returns c =
     let s = c .before .before .before .before .before .before .before .before .before .before .before .before .before .before .before .before .before .before .before .before .before .before .before .before .before .before .before .before .before .before in
     let a = s .args in
-    refused-put (a .at) (a .number) (a .first) (a .second) (a .out .now) (s .pre)
+    let p = refused-put (a .at) (a .number) (a .first) (a .second) (a .out .now) (s .pre)
     (c .before .before .before .before .before .before .before .before .before .before .before .before .before .before .before .before .before .before .before .before .before .before .before .before .before .before .put-text .ensures) (c .before .before .before .before .before .before .before .before .before .before .before .before .before .before .before .before .before .before .before .before .before .before .put-number .ensures) (c .before .before .before .before .before .before .before .before .before .before .before .before .before .before .before .before .before .before .put-byte .ensures)
-    (c .before .before .before .before .before .before .before .before .before .before .before .before .before .before .put-number2 .ensures) (c .before .before .before .before .before .before .before .before .before .before .put-byte2 .ensures) (c .before .before .before .before .before .before .put-number3 .ensures) (c .before .before .put-byte3 .ensures)
+    (c .before .before .before .before .before .before .before .before .before .before .before .before .before .before .put-number2 .ensures) (c .before .before .before .before .before .before .before .before .before .before .put-byte2 .ensures) (c .before .before .before .before .before .before .put-number3 .ensures) (c .before .before .put-byte3 .ensures) in
+    (omega (arith, p .0, refused-long (a .number) (a .first) (a .second)), p)
 
 pub put-refused-spec : {M : Type 1} → statement M
 put-refused-spec =

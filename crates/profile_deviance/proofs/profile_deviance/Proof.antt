@@ -11,47 +11,36 @@ use Rattle.heading.proofs.layout.Reads as layout-reads
 use Rattle.update_in_order.proofs.update.Reads as update-reads
 use Rattle.profile_deviance.proofs.without_value.Reads as without-value-reads
 
--- src/lib.rt:168:9
 update-requires : tie.Need-update-requires
 update-requires c κs = search needs
 
--- src/lib.rt:169:24
 enum-known-u : tie.Need-enum-known-u
 enum-known-u c = search needs
 
--- src/lib.rt:170:9
 without-value-requires : tie.Need-without-value-requires
 without-value-requires c κs = search needs
 
--- src/lib.rt:170:9
 same-length : tie.Need-same-length
 same-length c = search needs
 
--- src/lib.rt:170:9
 same-length-2 : tie.Need-same-length-2
 same-length-2 c = search needs
 
--- src/lib.rt:170:9
 returns : tie.Need-returns
 returns c = let a = c .before .before .before .before .before .before .before .before .before .before .before .before .args in no-value (a .h .now) (a .w .now) (a .theta .now) (a .reml) _ _ _ (c .before .before .before .before .before .before .update .ensures) (c .before .match .keys2) _ (c .without-value .ensures)
 
--- src/lib.rt:172:20
 layout-requires : tie.Need-layout-requires
 layout-requires c κs = let a = c .before .before .before .before .before .before .before .before .before .before .before .before .before .before .args in value-ready (a .h .now) (a .w .now) (a .theta .now) (a .reml) _ _ _ (c .before .before .before .before .before .before .before .before .update .ensures) _ (c .before .before .u .given .1) (search needs) (search needs) _ refl .0
 
--- src/lib.rt:172:5
 tail-requires : tie.Need-tail-requires
 tail-requires c κs = let a = c .before .before .before .before .before .before .before .before .before .before .before .before .before .before .before .before .args in let k = value-ready (a .h .now) (a .w .now) (a .theta .now) (a .reml) _ _ _ (c .before .before .before .before .before .before .before .before .before .before .update .ensures) _ (c .before .before .before .before .u .given .1) (search needs) (search needs) _ (c .before .layout .ensures) in (k .1, k .2)
 
--- src/lib.rt:165:1
 same-length-3 : tie.Need-same-length-3
 same-length-3 c = search needs
 
--- src/lib.rt:165:1
 same-length-4 : tie.Need-same-length-4
 same-length-4 c = search needs
 
--- src/lib.rt:165:1
 returns-2 : tie.Need-returns-2
 returns-2 c = let a = c .before .before .before .before .before .before .before .before .before .before .before .before .before .before .before .before .before .args in value-done (a .h .now) (a .w .now) (a .theta .now) (a .reml) _ _ _ (c .before .before .before .before .before .before .before .before .before .before .before .update .ensures) _ (c .before .before .before .before .before .u .given .1) _ (c .before .before .layout .ensures) _ (c .tail .ensures)
 

@@ -7,27 +7,21 @@ use Rattle.profile_deviance.proofs.without_value.Tie as tie
 use Rattle.profile_deviance.proofs.without_value.Reads as reads
 use Rattle.profile_deviance.proofs.without_value.Lts as lts
 
--- src/lib.rt:157:30
 enum-told : tie.Need-enum-told
 enum-told c = search needs
 
--- src/lib.rt:158:24
 enum-known-u : tie.Need-enum-known-u
 enum-known-u c = search needs
 
--- src/lib.rt:159:26
 enum-known-u-2 : tie.Need-enum-known-u-2
 enum-known-u-2 c = search needs
 
--- src/lib.rt:153:1
 returns : tie.Need-returns
 returns c = search needs
 
--- src/lib.rt:153:1
 returns-2 : tie.Need-returns-2
 returns-2 c = ap withoutValue (sym (c .before .u .given .1))
 
--- src/lib.rt:153:1
 returns-3 : tie.Need-returns-3
 returns-3 c = ap withoutValue (sym (c .before .u2 .given .1))
 

@@ -10,11 +10,9 @@ use Rattle.progress.proofs.idle.Reads as reads
 use Rattle.progress.proofs.idle.Lts as lts
 use Rattle.progress.proofs.step_count.Reads as step-count-reads
 
--- src/lib.rt:23:9
 step-count-requires : tie.Need-step-count-requires
 step-count-requires c κs = search needs
 
--- src/lib.rt:19:1
 returns : tie.Need-returns
 returns c = ap (λ (n : ℕ). record { state = Idle; left = n; stages = replicate 45 0 }) (c .step-count .ensures)
 

@@ -7,27 +7,21 @@ use Rattle.progress.proofs.step_count.Tie as tie
 use Rattle.progress.proofs.step_count.Reads as reads
 use Rattle.progress.proofs.step_count.Lts as lts
 
--- src/lib.rt:15:6
 add-result : tie.Need-add-result
 add-result c = search needs
 
--- src/lib.rt:15:16
 add-result-2 : tie.Need-add-result-2
 add-result-2 c = search needs
 
--- src/lib.rt:15:5
 mul-result : tie.Need-mul-result
 mul-result c = omega (arith, pair-small (c .args .k) (c .pre))
 
--- src/lib.rt:15:26
 add-result-3 : tie.Need-add-result-3
 add-result-3 c = search needs
 
--- src/lib.rt:15:5
 mul-result-2 : tie.Need-mul-result-2
 mul-result-2 c = omega (arith, triple-small (c .args .k) (c .pre))
 
--- src/lib.rt:11:1
 returns : tie.Need-returns
 returns c = step-count (c .args .k) (c .pre)
 

@@ -28,60 +28,49 @@ Inv-loop w₀ off rows a inner end acc₀ r₀ to₀ w acc r to =
 abbrev μ-loop : tie.MeasureT-loop
 μ-loop w₀ off rows a inner end acc₀ r₀ to₀ w acc r to = rows - r
 
--- src/lib.rt:88:29
 add-end : tie.Need-add-end Inv-loop μ-loop
 add-end c = search needs
 
--- src/lib.rt:88:21
 mul-end : tie.Need-mul-end Inv-loop μ-loop
 mul-end c =
     let a = c .before .args in
     omega (arith, start-triangle (a .rows))
 
--- src/lib.rt:88:15
 add-end-2 : tie.Need-add-end-2 Inv-loop μ-loop
 add-end-2 c =
     let a = c .before .args in
     omega (arith, start-triangle (a .rows))
 
--- src/lib.rt:92:5
 loop-holds : tie.Need-loop-holds Inv-loop μ-loop
 unfolding start
 loop-holds c =
     let a = c .before .args in
     (omega arith, refl, omega (arith, start-triangle (a .rows)), refl, refl, begun (a .off) triangle (lessSquares (a .off) (a .rows) (a .a) (a .inner) (a .w .now)) (a .w .now) (a .rows) (omega arith))
 
--- src/lib.rt:93:25
 slice-aggregate-subtract-run : tie.Need-slice-aggregate-subtract-run Inv-loop μ-loop
 slice-aggregate-subtract-run c = search needs
 
--- src/lib.rt:93:49
 add-subtract-run : tie.Need-add-subtract-run Inv-loop μ-loop
 add-subtract-run c = search needs
 
--- src/lib.rt:93:9
 subtract-run-requires : tie.Need-subtract-run-requires Inv-loop μ-loop
 subtract-run-requires c κs =
     let a = c .before .before .before .before .before .args in
     let l = c .before .before .before .loop in
     omega (arith, start-below triangle (l .r) (a .rows) (omega arith))
 
--- src/lib.rt:94:9
 add-r : tie.Need-add-r Inv-loop μ-loop
 add-r c = search needs
 
--- src/lib.rt:95:9
 add-to : tie.Need-add-to Inv-loop μ-loop
 add-to c =
     let a = c .before .before .before .before .before .before .before .before .before .args in
     let l = c .before .before .before .before .before .before .before .loop in
     omega (arith, start-below triangle (l .r) (a .rows) (omega arith))
 
--- src/lib.rt:92:5
 loop-less : tie.Need-loop-less Inv-loop μ-loop
 loop-less c = search needs
 
--- src/lib.rt:92:5
 loop-again : tie.Need-loop-again Inv-loop μ-loop
 unfolding start
 loop-again c =
@@ -97,11 +86,9 @@ loop-again c =
     (c .before .before .before .subtract-run .ensures) in
     (omega arith, rw add-one (omega arith), omega arith, omega arith, omega arith, rw add-one t)
 
--- src/lib.rt:83:1
 same-length : tie.Need-same-length Inv-loop μ-loop
 same-length c = search needs
 
--- src/lib.rt:83:1
 returns : tie.Need-returns Inv-loop μ-loop
 unfolding fill
 returns c =

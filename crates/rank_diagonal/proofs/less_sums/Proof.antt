@@ -10,19 +10,15 @@ use Rattle.rank_diagonal.proofs.less_sums.Reads as reads
 use Rattle.rank_diagonal.proofs.less_sums.Lts as lts
 use Rattle.runs.proofs.less.Reads as less-reads
 
--- src/lib.rt:35:23
 add-less : tie.Need-add-less
 add-less c = search needs
 
--- src/lib.rt:35:5
 less-requires : tie.Need-less-requires
 less-requires c κs = search needs
 
--- src/lib.rt:31:1
 same-length : tie.Need-same-length
 same-length c = search needs
 
--- src/lib.rt:31:1
 returns : tie.Need-returns
 returns c =
     let a = c .before .before .before .before .before .before .args in

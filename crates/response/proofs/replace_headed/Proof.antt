@@ -12,51 +12,41 @@ use Rattle.response_faults.proofs.length_fault.Reads as length-fault-reads
 use Rattle.response_faults.proofs.word_fault.Reads as word-fault-reads
 use Rattle.response.proofs.write.Reads as write-reads
 
--- src/lib.rt:90:9
 layout-requires : tie.Need-layout-requires
 layout-requires c κs =
     let s = c .before .before .before .before .before .before in
     fits (s .args .h .now) _ (s .pre) .long
 
--- src/lib.rt:91:9
 length-fault-requires : tie.Need-length-fault-requires
 length-fault-requires c κs = search needs
 
--- src/lib.rt:92:9
 word-fault-requires : tie.Need-word-fault-requires
 word-fault-requires c κs = search needs
 
--- src/lib.rt:93:9
 first-of-requires : tie.Need-first-of-requires
 first-of-requires c κs = search needs
 
--- src/lib.rt:95:9
 same-length : tie.Need-same-length
 same-length c = search needs
 
--- src/lib.rt:95:9
 returns : tie.Need-returns
 returns c =
     let s = c .before .before .before .before .before .before .before .before .before .before .before .before in
     let a = s .args in
     list-refused (a .h .now) (a .w .now) (a .zty .now) (a .xty .now) (a .yty .now) (s .pre) _ (c .before .before .before .before .before .layout .ensures) _ _ _ (c .before .before .before .before .length-fault .ensures) (c .before .before .before .word-fault .ensures) (c .before .before .first-of .ensures) (c .if1 .taken)
 
--- src/lib.rt:97:5
 write-requires : tie.Need-write-requires
 write-requires c κs =
     let s = c .before .before .before .before .before .before .before .before .before .before .before .before .before .before in
     let a = s .args in
     ready (a .h .now) (a .w .now) (a .zty .now) (a .xty .now) (a .yty .now) (s .pre) _ (c .before .before .before .before .before .before .before .layout .ensures) _ _ _ (c .before .before .before .before .before .before .length-fault .ensures) (c .before .before .before .before .before .word-fault .ensures) (c .before .before .before .before .first-of .ensures) (c .before .before .if1 .left)
 
--- src/lib.rt:86:1
 same-length-2 : tie.Need-same-length-2
 same-length-2 c = search needs
 
--- src/lib.rt:86:1
 same-length-3 : tie.Need-same-length-3
 same-length-3 c = search needs
 
--- src/lib.rt:86:1
 returns-2 : tie.Need-returns-2
 returns-2 c =
     let s = c .before .before .before .before .before .before .before .before .before .before .before .before .before .before .before .before .before .before .before in

@@ -10,35 +10,27 @@ use Rattle.headed.proofs.is_headed.Reads as is-headed-reads
 use Rattle.response_faults.proofs.refused.Reads as refused-reads
 use Rattle.response.proofs.replace_headed.Reads as replace-headed-reads
 
--- src/lib.rt:106:8
 is-headed-requires : tie.Need-is-headed-requires
 is-headed-requires c κs = search needs
 
--- src/lib.rt:107:9
 replace-headed-requires : tie.Need-replace-headed-requires
 replace-headed-requires c κs = sym (c .before .before .before .is-headed .ensures) ∙ c .before .before .if1 .taken
 
--- src/lib.rt:107:9
 same-length : tie.Need-same-length
 same-length c = search needs
 
--- src/lib.rt:107:9
 same-length-2 : tie.Need-same-length-2
 same-length-2 c = search needs
 
--- src/lib.rt:107:9
 returns : tie.Need-returns
 returns c = search needs
 
--- src/lib.rt:109:21
 refused-requires : tie.Need-refused-requires
 refused-requires c κs = search needs
 
--- src/lib.rt:103:1
 same-length-3 : tie.Need-same-length-3
 same-length-3 c = search needs
 
--- src/lib.rt:103:1
 returns-2 : tie.Need-returns-2
 returns-2 c =
     let a = c .before .before .before .before .before .before .before .before .before .args in

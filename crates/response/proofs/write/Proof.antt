@@ -13,31 +13,25 @@ use Rattle.heading_writer.proofs.write_progress.Reads as write-progress-reads
 use Rattle.progress.proofs.idle.Reads as idle-reads
 use Rattle.response_rows.proofs.write_response.Reads as write-response-reads
 
--- src/lib.rt:81:5
 write-response-requires : tie.Need-write-response-requires
 write-response-requires c κs = search needs
 
--- src/lib.rt:82:32
 idle-requires : tie.Need-idle-requires
 idle-requires c κs =
     let s = c .before .before .before .before .before .before .before .before .before .before in
     is-lawful (s .args .y) (s .pre .1) .blocks .1
 
--- src/lib.rt:82:5
 write-progress-requires : tie.Need-write-progress-requires
 write-progress-requires c κs =
     let s = c .before .before .before .before .before .before .before .before .before .before .before in
     (s .pre .0, subst SmallProgress (sym (c .idle .ensures)) (idle-small (s .args .y .k) (is-lawful (s .args .y) (s .pre .1) .blocks .1)))
 
--- src/lib.rt:77:1
 same-length : tie.Need-same-length
 same-length c = search needs
 
--- src/lib.rt:77:1
 same-length-2 : tie.Need-same-length-2
 same-length-2 c = search needs
 
--- src/lib.rt:77:1
 returns : tie.Need-returns
 returns c =
     let s = c .before .before .before .before .before .before .before .before .before .before .before .before .before .before in

@@ -6,11 +6,9 @@ use Rattle.response_faults.proofs.first_of.Tie as tie
 use Rattle.response_faults.proofs.first_of.Reads as reads
 use Rattle.response_faults.proofs.first_of.Lts as lts
 
--- src/lib.rt:71:9
 returns : tie.Need-returns
 returns c = rw (eq-eqb (c .before .before .args .a .number) 0 (c .if1 .taken)) refl
 
--- src/lib.rt:67:1
 returns-2 : tie.Need-returns-2
 returns-2 c = rw (ne-eqb (c .before .before .args .a .number) 0 (c .if1 .left)) refl
 

@@ -8,41 +8,33 @@ use Rattle.response_faults.proofs.length_fault.Reads as reads
 use Rattle.response_faults.proofs.length_fault.Lts as lts
 use Rattle.response_faults.proofs.refused.Reads as refused-reads
 
--- src/lib.rt:38:17
 refused-requires : tie.Need-refused-requires
 refused-requires c κs = search needs
 
--- src/lib.rt:38:17
 returns : tie.Need-returns
 returns c =
     let a = c .before .before .before .before .before .before .args in
     c .refused .ensures ∙ rw (eq-eqb (a .zty) (a .y .q) (c .before .before .before .before .if1 .taken), eq-eqb (a .xty) (a .y .p) (c .before .before .if2 .taken), eq-eqb (a .yty) 1 (c .before .if3 .taken)) refl
 
--- src/lib.rt:40:13
 refused-requires-2 : tie.Need-refused-requires-2
 refused-requires-2 c κs = search needs
 
--- src/lib.rt:40:13
 returns-2 : tie.Need-returns-2
 returns-2 c =
     let a = c .before .before .before .before .before .before .args in
     c .refused2 .ensures ∙ rw (eq-eqb (a .zty) (a .y .q) (c .before .before .before .before .if1 .taken), eq-eqb (a .xty) (a .y .p) (c .before .before .if2 .taken), ne-eqb (a .yty) 1 (c .before .if3 .left)) refl
 
--- src/lib.rt:42:9
 refused-requires-3 : tie.Need-refused-requires-3
 refused-requires-3 c κs = search needs
 
--- src/lib.rt:42:9
 returns-3 : tie.Need-returns-3
 returns-3 c =
     let a = c .before .before .before .before .before .args in
     c .refused3 .ensures ∙ rw (eq-eqb (a .zty) (a .y .q) (c .before .before .before .if1 .taken), ne-eqb (a .xty) (a .y .p) (c .before .if2 .left)) refl
 
--- src/lib.rt:44:5
 refused-requires-4 : tie.Need-refused-requires-4
 refused-requires-4 c κs = search needs
 
--- src/lib.rt:32:1
 returns-4 : tie.Need-returns-4
 returns-4 c =
     let a = c .before .before .before .args in

@@ -9,47 +9,36 @@ use Rattle.response_faults.proofs.word_fault.Lts as lts
 use Rattle.finite.proofs.first_infinite.Reads as first-infinite-reads
 use Rattle.response_faults.proofs.refused.Reads as refused-reads
 
--- src/lib.rt:51:9
 first-infinite-requires : tie.Need-first-infinite-requires
 first-infinite-requires c κs = search needs
 
--- src/lib.rt:53:9
 refused-requires : tie.Need-refused-requires
 refused-requires c κs = search needs
 
--- src/lib.rt:53:9
 returns : tie.Need-returns
 returns c = c .refused .ensures ∙ rw (found (c .before .before .first-infinite .ensures) (c .before .if1 .taken)) refl
 
--- src/lib.rt:55:9
 first-infinite-requires-2 : tie.Need-first-infinite-requires-2
 first-infinite-requires-2 c κs = search needs
 
--- src/lib.rt:57:9
 refused-requires-2 : tie.Need-refused-requires-2
 refused-requires-2 c κs = search needs
 
--- src/lib.rt:57:9
 returns-2 : tie.Need-returns-2
 returns-2 c = c .refused2 .ensures ∙ rw (not-found (c .before .before .before .before .first-infinite .ensures) (c .before .before .before .if1 .left), found (c .before .before .first-infinite2 .ensures) (c .before .if2 .taken)) refl
 
--- src/lib.rt:59:9
 first-infinite-requires-3 : tie.Need-first-infinite-requires-3
 first-infinite-requires-3 c κs = search needs
 
--- src/lib.rt:61:9
 refused-requires-3 : tie.Need-refused-requires-3
 refused-requires-3 c κs = search needs
 
--- src/lib.rt:61:9
 returns-3 : tie.Need-returns-3
 returns-3 c = c .refused3 .ensures ∙ rw (not-found (c .before .before .before .before .before .before .first-infinite .ensures) (c .before .before .before .before .before .if1 .left), not-found (c .before .before .before .before .first-infinite2 .ensures) (c .before .before .before .if2 .left), found (c .before .before .first-infinite3 .ensures) (c .before .if3 .taken)) refl
 
--- src/lib.rt:63:5
 refused-requires-4 : tie.Need-refused-requires-4
 refused-requires-4 c κs = search needs
 
--- src/lib.rt:48:1
 returns-4 : tie.Need-returns-4
 returns-4 c = c .refused4 .ensures ∙ rw (not-found (c .before .before .before .before .before .before .first-infinite .ensures) (c .before .before .before .before .before .if1 .left), not-found (c .before .before .before .before .first-infinite2 .ensures) (c .before .before .before .if2 .left), not-found (c .before .before .first-infinite3 .ensures) (c .before .if3 .left)) refl
 

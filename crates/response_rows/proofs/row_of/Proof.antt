@@ -6,15 +6,12 @@ use Rattle.response_rows.proofs.row_of.Tie as tie
 use Rattle.response_rows.proofs.row_of.Reads as reads
 use Rattle.response_rows.proofs.row_of.Lts as lts
 
--- src/lib.rt:42:5
 mul-result : tie.Need-mul-result
 mul-result c = let b = few-blocks (c .before .args .y) (c .before .pre .0) in omega arith
 
--- src/lib.rt:42:5
 array-read-result : tie.Need-array-read-result
 array-read-result c = let b = few-blocks (c .before .args .y) (c .before .pre .0) in omega arith
 
--- src/lib.rt:37:1
 returns : tie.Need-returns
 returns c = c .before .pre .1 .first (c .before .args .j) (c .before .pre .2)
 

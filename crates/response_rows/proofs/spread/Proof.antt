@@ -17,62 +17,49 @@ Inv-loop w₀ to step n l at c₀ w c = (c ≤ n) × (w ≡ strided to step c (f
 abbrev μ-loop : tie.MeasureT-loop
 μ-loop w₀ to step n l at c₀ w c = n - c
 
--- src/lib.rt:19:5
 loop-holds : tie.Need-loop-holds Inv-loop μ-loop
 loop-holds c = (omega arith, strided-none _ _ _ _, refl)
 
--- src/lib.rt:20:30
 add-w : tie.Need-add-w Inv-loop μ-loop
 add-w c = search needs
 
--- src/lib.rt:20:28
 mul-w : tie.Need-mul-w Inv-loop μ-loop
 mul-w c = search needs
 
--- src/lib.rt:20:28
 shared-slice-read-w : tie.Need-shared-slice-read-w Inv-loop μ-loop
 shared-slice-read-w c = search needs
 
--- src/lib.rt:20:16
 mul-w-2 : tie.Need-mul-w-2 Inv-loop μ-loop
 mul-w-2 c =
     let h = c .before .before .before .pre .1 (c .before .before .loop .c) (c .before .loop-test .taken) in search needs
 
--- src/lib.rt:20:11
 add-w-2 : tie.Need-add-w-2 Inv-loop μ-loop
 add-w-2 c =
     let h = c .before .before .before .pre .1 (c .before .before .loop .c) (c .before .loop-test .taken) in search needs
 
--- src/lib.rt:20:9
 mul-w-3 : tie.Need-mul-w-3 Inv-loop μ-loop
 mul-w-3 c =
     let h = c .before .before .before .pre .1 (c .before .before .loop .c) (c .before .loop-test .taken) in search needs
 
--- src/lib.rt:20:9
 slice-write-w : tie.Need-slice-write-w Inv-loop μ-loop
 slice-write-w c =
     let h = c .before .before .before .pre .1 (c .before .before .loop .c) (c .before .loop-test .taken) in search needs
 
--- src/lib.rt:21:9
 add-c : tie.Need-add-c Inv-loop μ-loop
 add-c c = search needs
 
--- src/lib.rt:19:5
 loop-less : tie.Need-loop-less Inv-loop μ-loop
 loop-less c = search needs
 
--- src/lib.rt:19:5
 loop-again : tie.Need-loop-again Inv-loop μ-loop
 loop-again c =
     let s = c .before .before .before in
     let l = c .before .before .loop in
     (omega arith, strided-more (s .args .to) (s .args .step) _ (s .args .w .now) (l .c) (l .w) (l .inv .1), simp length-set (l .inv .2))
 
--- src/lib.rt:14:1
 same-length : tie.Need-same-length Inv-loop μ-loop
 same-length c = search needs
 
--- src/lib.rt:14:1
 returns : tie.Need-returns Inv-loop μ-loop
 returns c =
     let l = c .before .loop in

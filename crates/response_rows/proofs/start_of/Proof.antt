@@ -6,23 +6,18 @@ use Rattle.response_rows.proofs.start_of.Tie as tie
 use Rattle.response_rows.proofs.start_of.Reads as reads
 use Rattle.response_rows.proofs.start_of.Lts as lts
 
--- src/lib.rt:33:8
 mul-result : tie.Need-mul-result
 mul-result c = let b = few-blocks (c .before .args .y) (c .before .pre .0) in omega arith
 
--- src/lib.rt:33:8
 add-result : tie.Need-add-result
 add-result c = let b = few-blocks (c .before .args .y) (c .before .pre .0) in omega arith
 
--- src/lib.rt:33:5
 mul-result-2 : tie.Need-mul-result-2
 mul-result-2 c = let b = few-blocks (c .before .args .y) (c .before .pre .0) in omega arith
 
--- src/lib.rt:33:5
 array-read-result : tie.Need-array-read-result
 array-read-result c = let b = few-blocks (c .before .args .y) (c .before .pre .0) in omega arith
 
--- src/lib.rt:27:1
 returns : tie.Need-returns
 returns c = c .before .pre .1 .at (c .before .args .y .k) (c .before .args .j) (c .before .pre .2) (omega arith)
 

@@ -12,43 +12,35 @@ use Rattle.response_rows.proofs.row_of.Reads as row-of-reads
 use Rattle.response_rows.proofs.spread.Reads as spread-reads
 use Rattle.response_rows.proofs.start_of.Reads as start-of-reads
 
--- src/lib.rt:60:14
 start-of-requires : tie.Need-start-of-requires
 start-of-requires c κs = search needs
 
--- src/lib.rt:60:14
 add-to : tie.Need-add-to
 add-to c =
     let s = c .before .before .before in
     omega (arith, first-within (s .args .y) (s .pre .0) (s .args .j) (s .pre .2), c .start-of .ensures)
 
--- src/lib.rt:61:9
 levels-of-requires : tie.Need-levels-of-requires
 levels-of-requires c κs =
     let s = c .before .before .before in
     omega (arith, few-blocks (s .args .y) (s .pre .0))
 
--- src/lib.rt:62:9
 row-of-requires : tie.Need-row-of-requires
 row-of-requires c κs = search needs
 
--- src/lib.rt:63:19
 add-spread : tie.Need-add-spread
 add-spread c =
     let s = c .before .before .before .before .before .before in
     omega (arith, is-lawful (s .args .y) (s .pre .0) .effects .1)
 
--- src/lib.rt:63:5
 spread-requires : tie.Need-spread-requires
 spread-requires c κs =
     let s = c .before .before .before .before .before .before in
     block-fits (s .args .y) (s .pre .0) _ _ (s .pre .3) (s .args .j) _ _ _ (s .pre .2) (c .before .before .before .start-of .ensures) (c .before .before .levels-of .ensures) (c .before .row-of .ensures) (s .pre .4)
 
--- src/lib.rt:55:1
 same-length : tie.Need-same-length
 same-length c = search needs
 
--- src/lib.rt:55:1
 returns : tie.Need-returns
 returns c =
     let s = c .before .before .before .before .before .before .before .before .before in

@@ -19,38 +19,31 @@ Inv-loop y m w₀ zty k j₀ w j = (j ≤ y .k) × (w ≡ fixedRows y zty j w₀
 abbrev μ-loop : tie.MeasureT-loop
 μ-loop y m w₀ zty k j₀ w j = y .k - j
 
--- src/lib.rt:73:5
 loop-holds : tie.Need-loop-holds Inv-loop μ-loop
 loop-holds c = (omega arith, rows-none _ _ _, refl)
 
--- src/lib.rt:74:9
 write-block-requires : tie.Need-write-block-requires Inv-loop μ-loop
 write-block-requires c κs =
     let s = c .before .before .before .before .before in
     (s .pre .0, s .pre .1, c .before .loop-test .taken, omega (arith, s .pre .2, c .before .before .loop .inv .2), s .pre .3)
 
--- src/lib.rt:75:9
 add-j : tie.Need-add-j Inv-loop μ-loop
 add-j c =
     let s = c .before .before .before .before .before .before .before .before in
     omega (arith, few-blocks (s .args .y) (s .pre .0), c .before .before .before .before .before .loop .inv .0, c .before .before .before .before .loop-test .taken)
 
--- src/lib.rt:73:5
 loop-less : tie.Need-loop-less Inv-loop μ-loop
 loop-less c = omega (arith, c .before .before .before .before .loop-test .taken)
 
--- src/lib.rt:73:5
 loop-again : tie.Need-loop-again Inv-loop μ-loop
 loop-again c =
     let s = c .before .before .before .before .before .before .before .before in
     let l = c .before .before .before .before .before .loop in
     (omega (arith, c .before .before .before .before .loop-test .taken), rows-more (s .args .y) (s .args .zty .now) _ (l .j) _ _ (l .inv .1) (c .before .before .write-block .ensures), ap length (c .before .before .write-block .ensures) ∙ length-row (s .args .y) (s .args .zty .now) (s .args .w .now) (l .j) _ ∙ l .inv .2)
 
--- src/lib.rt:67:1
 same-length : tie.Need-same-length Inv-loop μ-loop
 same-length c = c .before .loop .inv .2
 
--- src/lib.rt:67:1
 returns : tie.Need-returns Inv-loop μ-loop
 returns c =
     let a = c .before .before .before .before .args in

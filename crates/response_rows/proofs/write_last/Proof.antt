@@ -12,50 +12,41 @@ use Rattle.response_rows.proofs.write_last.Lts as lts
 use Rattle.response_rows.proofs.spread.Reads as spread-reads
 use Rattle.response_rows.proofs.start_of.Reads as start-of-reads
 
--- src/lib.rt:85:14
 start-of-requires : tie.Need-start-of-requires
 start-of-requires c κs = search needs
 
--- src/lib.rt:85:50
 add-to : tie.Need-add-to
 add-to c = search needs
 
--- src/lib.rt:85:45
 mul-to : tie.Need-mul-to
 mul-to c =
     let s = c .before .before .before .before in
     omega (arith, product-small (s .args .y) (s .pre .0))
 
--- src/lib.rt:85:14
 add-to-2 : tie.Need-add-to-2
 add-to-2 c =
     let s = c .before .before .before .before in
     omega (arith, last-fits (s .args .y) (s .pre .0) _ _ (s .pre .2) (c .start-of .ensures) 0 (omega arith))
 
--- src/lib.rt:86:5
 spread-requires : tie.Need-spread-requires
 spread-requires c κs =
     let s = c .before .before .before .before .before in
     (omega (arith, s .pre .3), λ x l. omega (arith, last-fits (s .args .y) (s .pre .0) _ _ (s .pre .2) (c .before .start-of .ensures) x (omega arith)))
 
--- src/lib.rt:87:15
 add-spread : tie.Need-add-spread
 add-spread c =
     let s = c .before .before .before .before .before .before .before .before .before in
     omega (arith, last-fits (s .args .y) (s .pre .0) _ _ (s .pre .2) (c .before .before .before .before .before .start-of .ensures) (s .args .y .p) (omega arith))
 
--- src/lib.rt:87:5
 spread-requires-2 : tie.Need-spread-requires-2
 spread-requires-2 c κs =
     let s = c .before .before .before .before .before .before .before .before .before in
     let kept = ap length (c .before .before .before .spread .ensures) ∙ length-strided _ _ _ _ (s .args .y .p) in
     (omega (arith, s .pre .4), λ x l. omega (arith, kept, last-fits (s .args .y) (s .pre .0) _ _ (s .pre .2) (c .before .before .before .before .before .start-of .ensures) (s .args .y .p) (omega arith)))
 
--- src/lib.rt:80:1
 same-length : tie.Need-same-length
 same-length c = search needs
 
--- src/lib.rt:80:1
 returns : tie.Need-returns
 returns c =
     let s = c .before .before .before .before .before .before .before .before .before .before .before .before in

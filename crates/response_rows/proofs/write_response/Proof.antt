@@ -10,23 +10,18 @@ use Rattle.row_map.proofs.map_of.Reads as map-of-reads
 use Rattle.response_rows.proofs.write_blocks.Reads as write-blocks-reads
 use Rattle.response_rows.proofs.write_last.Reads as write-last-reads
 
--- src/lib.rt:95:9
 map-of-requires : tie.Need-map-of-requires
 map-of-requires c κs = search needs
 
--- src/lib.rt:96:5
 write-blocks-requires : tie.Need-write-blocks-requires
 write-blocks-requires c κs = search needs
 
--- src/lib.rt:97:5
 write-last-requires : tie.Need-write-last-requires
 write-last-requires c κs = search needs
 
--- src/lib.rt:91:1
 same-length : tie.Need-same-length
 same-length c = search needs
 
--- src/lib.rt:91:1
 returns : tie.Need-returns
 unfolding responseRows
 returns c =

@@ -22,27 +22,21 @@ Inv-loop counts first x k b₀ j₀ b j =
 abbrev μ-loop : tie.MeasureT-loop
 μ-loop counts first x k b₀ j₀ b j = k - j
 
--- src/lib.rt:134:5
 loop-holds : tie.Need-loop-holds Inv-loop μ-loop
 loop-holds c = (is-lawful (c .args .y) (c .pre .0) .blocks .1, omega arith, λ y e f g. sym e ∙ block-none y (c .args .x))
 
--- src/lib.rt:135:27
 mul-within : tie.Need-mul-within Inv-loop μ-loop
 mul-within c = search needs
 
--- src/lib.rt:135:27
 element-copy-out-within : tie.Need-element-copy-out-within Inv-loop μ-loop
 element-copy-out-within c = search needs
 
--- src/lib.rt:135:39
 mul-within-2 : tie.Need-mul-within-2 Inv-loop μ-loop
 mul-within-2 c = search needs
 
--- src/lib.rt:135:39
 element-copy-out-within-2 : tie.Need-element-copy-out-within-2 Inv-loop μ-loop
 element-copy-out-within-2 c = search needs
 
--- src/lib.rt:135:20
 within-requires : tie.Need-within-requires Inv-loop μ-loop
 within-requires c κs =
     let s = c .before .before .before .before in
@@ -51,19 +45,15 @@ within-requires c κs =
       omega (arith, ap (λ (t : List ℕ). getD t j 0) (s .pre .1), is-lawful (s .args .y) (s .pre .0) .level j (omega arith) .1),
     )
 
--- src/lib.rt:135:9
 choose-requires : tie.Need-choose-requires Inv-loop μ-loop
 choose-requires c κs = search needs
 
--- src/lib.rt:136:9
 add-j : tie.Need-add-j Inv-loop μ-loop
 add-j c = search needs
 
--- src/lib.rt:134:5
 loop-less : tie.Need-loop-less Inv-loop μ-loop
 loop-less c = search needs
 
--- src/lib.rt:134:5
 loop-again : tie.Need-loop-again Inv-loop μ-loop
 loop-again c =
     let s = c .before .before .before .before .before .before in
@@ -76,7 +66,6 @@ loop-again c =
           (c .choose .ensures ∙ ap (λ (t : Bool). cond t (l .j) (l .b)) (c .before .within .ensures ∙ ap₂ (λ (u v : ℕ). leb u x && ltb x (u + v)) (g (l .j) (omega (arith, e))) (ap (λ (t : List ℕ). getD t (l .j) 0) f))),
     )
 
--- src/lib.rt:127:1
 returns : tie.Need-returns Inv-loop μ-loop
 returns c =
     let s = c .before .before in

@@ -16,31 +16,24 @@ Inv-loop y at₀ t₀ at t = (t ≤ 81) × (length at ≡ 81) × ((s : ℕ) → 
 abbrev μ-loop : tie.MeasureT-loop
 μ-loop y at₀ t₀ at t = 81 - t
 
--- src/lib.rt:94:5
 loop-holds : tie.Need-loop-holds Inv-loop μ-loop
 loop-holds c = (omega arith, c .pre .1, λ s h. absurd (omega arith))
 
--- src/lib.rt:95:17
 start-at-requires : tie.Need-start-at-requires Inv-loop μ-loop
 start-at-requires c κs = c .before .before .pre .0
 
--- src/lib.rt:95:9
 mul-at : tie.Need-mul-at Inv-loop μ-loop
 mul-at c = search needs
 
--- src/lib.rt:95:9
 element-write-at : tie.Need-element-write-at Inv-loop μ-loop
 element-write-at c = search needs
 
--- src/lib.rt:96:9
 add-t : tie.Need-add-t Inv-loop μ-loop
 add-t c = search needs
 
--- src/lib.rt:94:5
 loop-less : tie.Need-loop-less Inv-loop μ-loop
 loop-less c = search needs
 
--- src/lib.rt:94:5
 loop-again : tie.Need-loop-again Inv-loop μ-loop
 loop-again c =
     let a = c .before .before .before .args in
@@ -50,7 +43,6 @@ loop-again c =
       filled-more (λ s v. (i j : ℕ) → s ≡ i * 9 + j → j ≤ i → i ≤ a .y .k → v ≡ loadedAt (a .y) i j) (l .at) (l .t) (c .start-at .result) (omega arith) (l .inv .2) (c .start-at .ensures),
     )
 
--- src/lib.rt:89:1
 returns : tie.Need-returns Inv-loop μ-loop
 returns c = λ i j h g. let s = c .before .before in c .before .loop .inv .2 (i * 9 + j) (omega (arith, is-lawful (s .args .y) (s .pre .0) .blocks .1)) i j refl h g
 

@@ -16,31 +16,24 @@ Inv-loop y first₀ k j₀ first j = (k ≡ y .k) × (k ≤ 8) × (j ≤ k) × (
 abbrev μ-loop : tie.MeasureT-loop
 μ-loop y first₀ k j₀ first j = k - j
 
--- src/lib.rt:66:5
 loop-holds : tie.Need-loop-holds Inv-loop μ-loop
 loop-holds c = (refl, is-lawful (c .args .y) (c .pre .0) .blocks .1, omega arith, c .pre .1, λ s h. absurd (omega arith))
 
--- src/lib.rt:67:20
 row-start-requires : tie.Need-row-start-requires Inv-loop μ-loop
 row-start-requires c κs = (c .before .before .pre .0, omega arith)
 
--- src/lib.rt:67:9
 mul-first : tie.Need-mul-first Inv-loop μ-loop
 mul-first c = search needs
 
--- src/lib.rt:67:9
 element-write-first : tie.Need-element-write-first Inv-loop μ-loop
 element-write-first c = search needs
 
--- src/lib.rt:68:9
 add-j : tie.Need-add-j Inv-loop μ-loop
 add-j c = search needs
 
--- src/lib.rt:66:5
 loop-less : tie.Need-loop-less Inv-loop μ-loop
 loop-less c = search needs
 
--- src/lib.rt:66:5
 loop-again : tie.Need-loop-again Inv-loop μ-loop
 loop-again c =
     let a = c .before .before .before .args in
@@ -52,7 +45,6 @@ loop-again c =
       filled-more (λ s v. v ≡ rowStart (a .y) s) (l .first) (l .j) (c .row-start .result) (omega arith) (l .inv .4) (c .row-start .ensures),
     )
 
--- src/lib.rt:60:1
 returns : tie.Need-returns Inv-loop μ-loop
 returns c = λ s h. c .before .loop .inv .4 s (omega arith)
 

@@ -8,19 +8,15 @@ use borrow.Author.Needs.{needs}
 use Rattle.row_map.proofs.start_at.Statement.{statement}
 use Rattle.row_map.proofs.start_at.Tie as tie
 
--- src/lib.rt:80:9
 returns : tie.Need-returns
 returns c = λ i j e h g. let s = c .before in absurd (omega (arith, split-nine (s .args .t) i j e (omega (arith, is-lawful (s .args .y) (s .pre) .blocks .1)), c .if1 .taken))
 
--- src/lib.rt:83:9
 returns-2 : tie.Need-returns-2
 returns-2 c = λ i j e h g. let s = c .before .before .before in absurd (omega (arith, split-nine (s .args .t) i j e (omega (arith, is-lawful (s .args .y) (s .pre) .blocks .1)), c .if2 .taken))
 
--- src/lib.rt:85:5
 loaded-at-requires : tie.Need-loaded-at-requires
 loaded-at-requires c κs = search needs
 
--- src/lib.rt:73:1
 returns-3 : tie.Need-returns-3
 returns-3 c =
     λ i j e h g.

@@ -20,29 +20,23 @@ Inv-loop acc₀ n i₀ acc i = (i ≤ n) × (length acc ≡ length acc₀) × (a
 abbrev μ-loop : tie.MeasureT-loop
 μ-loop acc₀ n i₀ acc i = n - i
 
--- src/lib.rt:14:5
 loop-holds : tie.Need-loop-holds Inv-loop μ-loop
 loop-holds c =
     let a = c .args in
     (omega arith, refl, made-none 0 (a .n) (λ x. ieee .zero) (a .acc .now) (omega arith))
 
--- src/lib.rt:15:9
 mul-acc : tie.Need-mul-acc Inv-loop μ-loop
 mul-acc c = search needs
 
--- src/lib.rt:15:9
 slice-write-acc : tie.Need-slice-write-acc Inv-loop μ-loop
 slice-write-acc c = search needs
 
--- src/lib.rt:16:9
 add-i : tie.Need-add-i Inv-loop μ-loop
 add-i c = search needs
 
--- src/lib.rt:14:5
 loop-less : tie.Need-loop-less Inv-loop μ-loop
 loop-less c = search needs
 
--- src/lib.rt:14:5
 loop-again : tie.Need-loop-again Inv-loop μ-loop
 loop-again c =
     let a = c .before .before .args in
@@ -50,11 +44,9 @@ loop-again c =
     let t = made-more 0 (a .n) (λ x. ieee .zero) (a .acc .now) (omega arith) (l .i) (omega arith) (l .acc) (l .inv .2) (omega arith) (l .i) (omega arith) (ieee .zero) refl in
     (omega arith, simp length-set (omega arith), rw add-one t)
 
--- src/lib.rt:9:1
 same-length : tie.Need-same-length Inv-loop μ-loop
 same-length c = search needs
 
--- src/lib.rt:9:1
 returns : tie.Need-returns Inv-loop μ-loop
 returns c =
     let a = c .before .before .args in

@@ -14,31 +14,24 @@ use Rattle.run_copies.proofs.put.Reads as reads
 use Rattle.run_copies.proofs.put.Lts as lts
 use Rattle.run_copies.proofs.put_part.Reads as put-part-reads
 
--- src/lib.rt:80:14
 mul-put-part : tie.Need-mul-put-part
 mul-put-part c = search needs
 
--- src/lib.rt:80:14
 sub-put-part : tie.Need-sub-put-part
 sub-put-part c = search needs
 
--- src/lib.rt:80:14
 part-put-part-start : tie.Need-part-put-part-start
 part-put-part-start c = search needs
 
--- src/lib.rt:80:14
 part-put-part-end : tie.Need-part-put-part-end
 part-put-part-end c = search needs
 
--- src/lib.rt:80:5
 put-part-requires : tie.Need-put-part-requires
 put-part-requires c κs = search needs
 
--- src/lib.rt:76:1
 same-length : tie.Need-same-length
 same-length c = search needs
 
--- src/lib.rt:76:1
 returns : tie.Need-returns
 returns c =
     let a = c .before .before .before .before .before .before .args in

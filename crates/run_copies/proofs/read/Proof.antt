@@ -19,41 +19,32 @@ Inv-loop acc₀ n w from i₀ acc i = (i ≤ n) × (length acc ≡ length acc₀
 abbrev μ-loop : tie.MeasureT-loop
 μ-loop acc₀ n w from i₀ acc i = n - i
 
--- src/lib.rt:26:5
 loop-holds : tie.Need-loop-holds Inv-loop μ-loop
 loop-holds c =
     let a = c .args in
     (omega arith, refl, made-none 0 (a .n) (λ x. at (a .w .now) (a .from + x)) (a .acc .now) (omega arith))
 
--- src/lib.rt:27:20
 add-acc : tie.Need-add-acc Inv-loop μ-loop
 add-acc c = search needs
 
--- src/lib.rt:27:18
 mul-acc : tie.Need-mul-acc Inv-loop μ-loop
 mul-acc c = search needs
 
--- src/lib.rt:27:18
 shared-slice-read-acc : tie.Need-shared-slice-read-acc Inv-loop μ-loop
 shared-slice-read-acc c = search needs
 
--- src/lib.rt:27:9
 mul-acc-2 : tie.Need-mul-acc-2 Inv-loop μ-loop
 mul-acc-2 c = search needs
 
--- src/lib.rt:27:9
 slice-write-acc : tie.Need-slice-write-acc Inv-loop μ-loop
 slice-write-acc c = search needs
 
--- src/lib.rt:28:9
 add-i : tie.Need-add-i Inv-loop μ-loop
 add-i c = search needs
 
--- src/lib.rt:26:5
 loop-less : tie.Need-loop-less Inv-loop μ-loop
 loop-less c = search needs
 
--- src/lib.rt:26:5
 loop-again : tie.Need-loop-again Inv-loop μ-loop
 loop-again c =
     let a = c .before .before .before .args in
@@ -61,11 +52,9 @@ loop-again c =
     let t = made-more 0 (a .n) (λ x. at (a .w .now) (a .from + x)) (a .acc .now) (omega arith) (l .i) (omega arith) (l .acc) (l .inv .2) (omega arith) (l .i) (omega arith) (at (a .w .now) (a .from + l .i)) refl in
     (omega arith, simp length-set (omega arith), rw add-one t)
 
--- src/lib.rt:21:1
 same-length : tie.Need-same-length Inv-loop μ-loop
 same-length c = search needs
 
--- src/lib.rt:21:1
 returns : tie.Need-returns Inv-loop μ-loop
 returns c =
     let a = c .before .before .args in

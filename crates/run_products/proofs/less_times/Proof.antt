@@ -14,31 +14,24 @@ use Rattle.run_products.proofs.less_times.Reads as reads
 use Rattle.run_products.proofs.less_times.Lts as lts
 use Rattle.run_products.proofs.less_times_part.Reads as less-times-part-reads
 
--- src/lib.rt:125:21
 mul-less-times-part : tie.Need-mul-less-times-part
 mul-less-times-part c = search needs
 
--- src/lib.rt:125:21
 sub-less-times-part : tie.Need-sub-less-times-part
 sub-less-times-part c = search needs
 
--- src/lib.rt:125:21
 part-less-times-part-start : tie.Need-part-less-times-part-start
 part-less-times-part-start c = search needs
 
--- src/lib.rt:125:21
 part-less-times-part-end : tie.Need-part-less-times-part-end
 part-less-times-part-end c = search needs
 
--- src/lib.rt:125:5
 less-times-part-requires : tie.Need-less-times-part-requires
 less-times-part-requires c κs = search needs
 
--- src/lib.rt:121:1
 same-length : tie.Need-same-length
 same-length c = search needs
 
--- src/lib.rt:121:1
 returns : tie.Need-returns
 returns c =
     let a = c .before .before .before .before .before .before .args in

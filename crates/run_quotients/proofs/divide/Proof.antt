@@ -14,31 +14,24 @@ use Rattle.run_quotients.proofs.divide.Reads as reads
 use Rattle.run_quotients.proofs.divide.Lts as lts
 use Rattle.run_quotients.proofs.divide_part.Reads as divide-part-reads
 
--- src/lib.rt:118:17
 mul-divide-part : tie.Need-mul-divide-part
 mul-divide-part c = search needs
 
--- src/lib.rt:118:17
 sub-divide-part : tie.Need-sub-divide-part
 sub-divide-part c = search needs
 
--- src/lib.rt:118:17
 part-divide-part-start : tie.Need-part-divide-part-start
 part-divide-part-start c = search needs
 
--- src/lib.rt:118:17
 part-divide-part-end : tie.Need-part-divide-part-end
 part-divide-part-end c = search needs
 
--- src/lib.rt:118:5
 divide-part-requires : tie.Need-divide-part-requires
 divide-part-requires c κs = search needs
 
--- src/lib.rt:114:1
 same-length : tie.Need-same-length
 same-length c = search needs
 
--- src/lib.rt:114:1
 returns : tie.Need-returns
 returns c =
     let a = c .before .before .before .before .before .args in

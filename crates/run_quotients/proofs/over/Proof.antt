@@ -14,31 +14,24 @@ use Rattle.run_quotients.proofs.over.Reads as reads
 use Rattle.run_quotients.proofs.over.Lts as lts
 use Rattle.run_quotients.proofs.over_part.Reads as over-part-reads
 
--- src/lib.rt:87:15
 mul-over-part : tie.Need-mul-over-part
 mul-over-part c = search needs
 
--- src/lib.rt:87:15
 sub-over-part : tie.Need-sub-over-part
 sub-over-part c = search needs
 
--- src/lib.rt:87:15
 part-over-part-start : tie.Need-part-over-part-start
 part-over-part-start c = search needs
 
--- src/lib.rt:87:15
 part-over-part-end : tie.Need-part-over-part-end
 part-over-part-end c = search needs
 
--- src/lib.rt:87:5
 over-part-requires : tie.Need-over-part-requires
 over-part-requires c κs = search needs
 
--- src/lib.rt:83:1
 same-length : tie.Need-same-length
 same-length c = search needs
 
--- src/lib.rt:83:1
 returns : tie.Need-returns
 returns c =
     let a = c .before .before .before .before .before .before .args in

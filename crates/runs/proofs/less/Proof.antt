@@ -14,31 +14,24 @@ use Rattle.runs.proofs.less.Reads as reads
 use Rattle.runs.proofs.less.Lts as lts
 use Rattle.runs.proofs.less_part.Reads as less-part-reads
 
--- src/lib.rt:73:15
 mul-less-part : tie.Need-mul-less-part
 mul-less-part c = search needs
 
--- src/lib.rt:73:15
 sub-less-part : tie.Need-sub-less-part
 sub-less-part c = search needs
 
--- src/lib.rt:73:15
 part-less-part-start : tie.Need-part-less-part-start
 part-less-part-start c = search needs
 
--- src/lib.rt:73:15
 part-less-part-end : tie.Need-part-less-part-end
 part-less-part-end c = search needs
 
--- src/lib.rt:73:5
 less-part-requires : tie.Need-less-part-requires
 less-part-requires c κs = search needs
 
--- src/lib.rt:69:1
 same-length : tie.Need-same-length
 same-length c = search needs
 
--- src/lib.rt:69:1
 returns : tie.Need-returns
 returns c =
     let a = c .before .before .before .before .before .before .args in

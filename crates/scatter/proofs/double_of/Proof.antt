@@ -4,11 +4,9 @@ use borrow.Author.Needs.{needs}
 use Rattle.scatter.proofs.double_of.Statement.{statement}
 use Rattle.scatter.proofs.double_of.Tie as tie
 
--- src/lib.rt:46:5
 float-from-bits-result : tie.Need-float-from-bits-result
 float-from-bits-result c = finite-no-nan (c .args .word) (c .pre)
 
--- src/lib.rt:42:1
 returns : tie.Need-returns
 returns c = search needs
 

@@ -7,23 +7,18 @@ use borrow.Author.Needs.{needs}
 use Rattle.scatter.proofs.put.Statement.{statement}
 use Rattle.scatter.proofs.put.Tie as tie
 
--- src/lib.rt:141:9
 mul-w : tie.Need-mul-w
 mul-w c = search needs
 
--- src/lib.rt:141:9
 slice-write-w : tie.Need-slice-write-w
 slice-write-w c = search needs
 
--- src/lib.rt:137:1
 same-length : tie.Need-same-length
 same-length c = search needs
 
--- src/lib.rt:137:1
 returns : tie.Need-returns
 returns c = search needs
 
--- src/lib.rt:137:1
 returns-2 : tie.Need-returns-2
 returns-2 c =
     let a = c .before .args in

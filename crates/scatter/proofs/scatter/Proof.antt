@@ -20,46 +20,37 @@ Inv-loop run s at from count w₀ y m p₀ i₀ left₀ w p i left =
 abbrev μ-loop : tie.MeasureT-loop
 μ-loop run s at from count w₀ y m p₀ i₀ left₀ w p i left = left
 
--- src/lib.rt:153:5
 loop-holds : tie.Need-loop-holds Inv-loop μ-loop
 loop-holds c =
     let s = c .before .before in
     (s .pre .2, s .pre .3, refl, refl)
 
--- src/lib.rt:154:13
 line-at-requires : tie.Need-line-at-requires Inv-loop μ-loop
 line-at-requires c κs = search needs
 
--- src/lib.rt:155:16
 place-of-requires : tie.Need-place-of-requires Inv-loop μ-loop
 place-of-requires c κs =
     let s = c .before .before .before .before .before .before .before .before .before .before .before in
     (s .pre .0, refl, s .pre .1 .first, s .pre .1 .at, omega arith)
 
--- src/lib.rt:155:43
 double-of-requires : tie.Need-double-of-requires Inv-loop μ-loop
 double-of-requires c κs =
     let a = c .before .before .before .before .before .before .before .before .before .before .before .before .args in
     let l = c .before .before .before .before .before .before .before .before .before .loop in
     each-now FiniteWord (lineOf (a .run) (now (a .s))) (l .left) (l .p) (c .before .before .before .before .before .before .before .line-at .result) (omega arith) (c .before .before .before .before .before .before .before .line-at .ensures) (l .inv .1)
 
--- src/lib.rt:155:9
 put-requires : tie.Need-put-requires Inv-loop μ-loop
 put-requires c κs = search needs
 
--- src/lib.rt:157:9
 add-i : tie.Need-add-i Inv-loop μ-loop
 add-i c = search needs
 
--- src/lib.rt:158:9
 sub-left : tie.Need-sub-left Inv-loop μ-loop
 sub-left c = search needs
 
--- src/lib.rt:153:5
 loop-less : tie.Need-loop-less Inv-loop μ-loop
 loop-less c = search needs
 
--- src/lib.rt:153:5
 loop-again : tie.Need-loop-again Inv-loop μ-loop
 loop-again c =
     let a = c .before .before .before .before .before .before .before .before .before .before .before .before .before .before .before .before .args in
@@ -77,11 +68,9 @@ loop-again c =
           ∙ l .inv .3,
     )
 
--- src/lib.rt:146:1
 same-length : tie.Need-same-length Inv-loop μ-loop
 same-length c = search needs
 
--- src/lib.rt:146:1
 returns : tie.Need-returns Inv-loop μ-loop
 returns c =
     let a = c .before .before .before .before .args in

@@ -11,27 +11,21 @@ use Rattle.axpy_products.proofs.add_products.Reads as add-products-reads
 use Rattle.run_copies.proofs.clear.Reads as clear-reads
 use Rattle.runs.proofs.less.Reads as less-reads
 
--- src/lib.rt:28:5
 clear-requires : tie.Need-clear-requires
 clear-requires c κs = search needs
 
--- src/lib.rt:29:5
 add-products-requires : tie.Need-add-products-requires
 add-products-requires c κs = search needs
 
--- src/lib.rt:30:5
 less-requires : tie.Need-less-requires
 less-requires c κs = search needs
 
--- src/lib.rt:11:1
 same-length : tie.Need-same-length
 same-length c = search needs
 
--- src/lib.rt:11:1
 same-length-2 : tie.Need-same-length-2
 same-length-2 c = search needs
 
--- src/lib.rt:11:1
 returns : tie.Need-returns
 returns c =
     let a = c .before .before .before .before .before .before .before .before .before .before .before .before .before .before .before .before .args in

@@ -11,31 +11,24 @@ use Rattle.axpy_products.proofs.less_products.Reads as less-products-reads
 use Rattle.run_copies.proofs.put.Reads as put-reads
 use Rattle.run_copies.proofs.read.Reads as read-reads
 
--- src/lib.rt:51:27
 add-read : tie.Need-add-read
 add-read c = search needs
 
--- src/lib.rt:51:5
 read-requires : tie.Need-read-requires
 read-requires c κs = search needs
 
--- src/lib.rt:52:5
 less-products-requires : tie.Need-less-products-requires
 less-products-requires c κs = search needs
 
--- src/lib.rt:53:5
 put-requires : tie.Need-put-requires
 put-requires c κs = search needs
 
--- src/lib.rt:34:1
 same-length : tie.Need-same-length
 same-length c = search needs
 
--- src/lib.rt:34:1
 same-length-2 : tie.Need-same-length-2
 same-length-2 c = search needs
 
--- src/lib.rt:34:1
 returns : tie.Need-returns
 returns c =
     let a = c .before .before .before .before .before .before .before .before .before .before .before .before .before .before .before .before .before .args in

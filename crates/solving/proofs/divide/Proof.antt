@@ -10,34 +10,27 @@ use Rattle.places.proofs.working_at.Reads as working-at-reads
 use Rattle.solving.proofs.height.Reads as height-reads
 use Rattle.working_blocks.proofs.rows_of.Reads as rows-of-reads
 
--- src/lib.rt:48:9
 working-at-requires : tie.Need-working-at-requires
 working-at-requires c κs = search needs
 
--- src/lib.rt:49:9
 working-at-requires-2 : tie.Need-working-at-requires-2
 working-at-requires-2 c κs = search needs
 
--- src/lib.rt:50:9
 height-requires : tie.Need-height-requires
 height-requires c κs = search needs
 
--- src/lib.rt:51:9
 rows-of-requires : tie.Need-rows-of-requires
 rows-of-requires c κs = search needs
 
--- src/lib.rt:52:5
 divide-columns-requires : tie.Need-divide-columns-requires
 divide-columns-requires c κs =
     let s = c .before .before .before .before .before .before in
     let a = s .args in
     divide-ready (a .y) (s .pre .0) (a .i) (a .j) (s .pre .2) (s .pre .3) _ (s .pre .1) _ _ _ _ (c .before .before .before .before .working-at .ensures) (c .before .before .before .working-at2 .ensures) (s .pre .4) (c .before .before .height .ensures) (c .before .rows-of .ensures)
 
--- src/lib.rt:44:1
 same-length : tie.Need-same-length
 same-length c = search needs
 
--- src/lib.rt:44:1
 returns : tie.Need-returns
 returns c =
     let s = c .before .before .before .before .before .before .before .before .before in

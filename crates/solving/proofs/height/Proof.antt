@@ -9,17 +9,14 @@ use Rattle.solving.proofs.height.Reads as reads
 use Rattle.solving.proofs.height.Lts as lts
 use Rattle.working_blocks.proofs.rows_of.Reads as rows-of-reads
 
--- src/lib.rt:37:13
 returns : tie.Need-returns
 returns c =
     let a = c .before .before .before .args in
     sym (one-row (a .y) (a .i) (c .before .before .if1 .taken) (c .if2 .taken))
 
--- src/lib.rt:40:5
 rows-of-requires : tie.Need-rows-of-requires
 rows-of-requires c κs = search needs
 
--- src/lib.rt:31:1
 returns-2 : tie.Need-returns-2
 returns-2 c =
     let a = c .before .before .args in

@@ -6,15 +6,12 @@ use Rattle.solving.proofs.is_diagonal.Tie as tie
 use Rattle.solving.proofs.is_diagonal.Reads as reads
 use Rattle.solving.proofs.is_diagonal.Lts as lts
 
--- src/lib.rt:22:9
 returns : tie.Need-returns
 returns c = rw (eq-eqb (c .before .args .j) 0 (c .if1 .taken)) refl
 
--- src/lib.rt:25:9
 returns-2 : tie.Need-returns-2
 returns-2 c = rw (ne-eqb (c .before .before .args .j) 0 (c .before .if1 .left), c .if2 .taken) refl
 
--- src/lib.rt:18:1
 returns-3 : tie.Need-returns-3
 returns-3 c = rw (ne-eqb (c .before .before .args .j) 0 (c .before .if1 .left), c .if2 .left) refl
 

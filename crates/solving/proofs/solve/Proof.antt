@@ -11,40 +11,33 @@ use Rattle.solving.proofs.divide.Reads as divide-reads
 use Rattle.solving.proofs.is_diagonal.Reads as is-diagonal-reads
 use Rattle.solving.proofs.substitute.Reads as substitute-reads
 
--- src/lib.rt:72:8
 is-diagonal-requires : tie.Need-is-diagonal-requires
 is-diagonal-requires c κs = search needs
 
--- src/lib.rt:73:9
 divide-requires : tie.Need-divide-requires
 divide-requires c κs =
     let s = c .before .before .before .before .before in
     let a = s .args in
     (fits-lawful (a .h .now) (a .w .now) (a .y) (s .pre .0) (s .pre .1), fits-room (a .h .now) (a .w .now) (a .y) (s .pre .0) (s .pre .1), s .pre .2 .0, s .pre .2 .1, sym (c .before .before .is-diagonal .ensures) ∙ c .before .if1 .taken)
 
--- src/lib.rt:74:9
 same-length : tie.Need-same-length
 same-length c = search needs
 
--- src/lib.rt:74:9
 returns : tie.Need-returns
 returns c =
     let s = c .before .before .before .before .before .before .before .before in
     let a = s .args in
     c .before .before .divide .ensures ∙ made-divided (a .h .now) (a .w .now) (a .y) (s .pre .0) (s .pre .1) (a .i) (a .j) (s .pre .2 .0) (s .pre .2 .1) (sym (c .before .before .before .before .before .is-diagonal .ensures) ∙ c .before .before .before .before .if1 .taken)
 
--- src/lib.rt:76:5
 substitute-requires : tie.Need-substitute-requires
 substitute-requires c κs =
     let s = c .before .before .before .before .before in
     let a = s .args in
     (fits-lawful (a .h .now) (a .w .now) (a .y) (s .pre .0) (s .pre .1), fits-room (a .h .now) (a .w .now) (a .y) (s .pre .0) (s .pre .1), s .pre .2 .0, s .pre .2 .1, sym (c .before .before .is-diagonal .ensures) ∙ c .before .if1 .left)
 
--- src/lib.rt:68:1
 same-length-2 : tie.Need-same-length-2
 same-length-2 c = search needs
 
--- src/lib.rt:68:1
 returns-2 : tie.Need-returns-2
 returns-2 c =
     let s = c .before .before .before .before .before .before .before .before in

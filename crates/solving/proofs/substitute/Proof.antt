@@ -9,34 +9,27 @@ use Rattle.cross_block.proofs.solve_rows.Reads as solve-rows-reads
 use Rattle.places.proofs.working_at.Reads as working-at-reads
 use Rattle.working_blocks.proofs.rows_of.Reads as rows-of-reads
 
--- src/lib.rt:60:9
 working-at-requires : tie.Need-working-at-requires
 working-at-requires c κs = search needs
 
--- src/lib.rt:61:9
 working-at-requires-2 : tie.Need-working-at-requires-2
 working-at-requires-2 c κs = search needs
 
--- src/lib.rt:62:9
 rows-of-requires : tie.Need-rows-of-requires
 rows-of-requires c κs = search needs
 
--- src/lib.rt:63:9
 rows-of-requires-2 : tie.Need-rows-of-requires-2
 rows-of-requires-2 c κs = search needs
 
--- src/lib.rt:64:5
 solve-rows-requires : tie.Need-solve-rows-requires
 solve-rows-requires c κs =
     let s = c .before .before .before .before .before .before in
     let a = s .args in
     solve-ready (a .y) (s .pre .0) (a .i) (a .j) (s .pre .2) (s .pre .3) _ (s .pre .1) _ _ _ _ (c .before .before .before .before .working-at .ensures) (c .before .before .before .working-at2 .ensures) (s .pre .4) (c .before .before .rows-of .ensures) (c .before .rows-of2 .ensures)
 
--- src/lib.rt:56:1
 same-length : tie.Need-same-length
 same-length c = search needs
 
--- src/lib.rt:56:1
 returns : tie.Need-returns
 returns c =
     let s = c .before .before .before .before .before .before .before .before .before in

@@ -7,33 +7,26 @@ use Rattle.sparse_matvec.proofs.less_entry.Tie as tie
 use Rattle.sparse_matvec.proofs.less_entry.Reads as reads
 use Rattle.sparse_matvec.proofs.less_entry.Lts as lts
 
--- src/lib.rt:172:9
 returns : tie.Need-returns
 returns c =
     let a = c .before .args in
     by-test (a .at) (a .x) (a .e) (a .v .now) true (c .if1 .taken)
 
--- src/lib.rt:174:13
 mul-v : tie.Need-mul-v
 mul-v c = search needs
 
--- src/lib.rt:174:13
 slice-read-v : tie.Need-slice-read-v
 slice-read-v c = search needs
 
--- src/lib.rt:174:5
 mul-v-2 : tie.Need-mul-v-2
 mul-v-2 c = search needs
 
--- src/lib.rt:174:5
 slice-write-v : tie.Need-slice-write-v
 slice-write-v c = search needs
 
--- src/lib.rt:167:1
 same-length : tie.Need-same-length
 same-length c = search needs
 
--- src/lib.rt:167:1
 returns-2 : tie.Need-returns-2
 returns-2 c =
     let a = c .before .before .args in

@@ -29,70 +29,54 @@ abbrev μ-loop : tie.MeasureT-loop
 below : (c : tie.After-wide Inv-loop μ-loop) → c .wide .result < c .before .before .before .before .before .before .before .args .rows
 below c = subst (λ (i : ℕ). i < c .before .before .before .before .before .before .before .args .rows) (sym (c .wide .ensures)) (c .before .before .before .before .before .before .before .pre .1 .1 (c .before .before .before .loop .c) (omega arith))
 
--- src/lib.rt:195:5
 loop-holds : tie.Need-loop-holds Inv-loop μ-loop
 loop-holds c =
     let p = c .before .before .before in
     let a = p .args in
     (omega arith, refl, skip-none (a .off) (a .rows) (a .z) (a .cols) (rowFrom (a .h .now) (a .first)) (entry (a .x) (a .cols) (a .w .now)) (a .v .now) (omega arith) (omega arith) (p .pre .1 .0))
 
--- src/lib.rt:196:24
 add-wide : tie.Need-add-wide Inv-loop μ-loop
 add-wide c = omega arith
 
--- src/lib.rt:196:22
 mul-wide : tie.Need-mul-wide Inv-loop μ-loop
 mul-wide c = omega arith
 
--- src/lib.rt:196:22
 shared-slice-read-wide : tie.Need-shared-slice-read-wide Inv-loop μ-loop
 shared-slice-read-wide c = omega arith
 
--- src/lib.rt:196:13
 wide-requires : tie.Need-wide-requires Inv-loop μ-loop
 wide-requires c κs = tt
 
--- src/lib.rt:197:19
 add-y : tie.Need-add-y Inv-loop μ-loop
 add-y c = omega arith
 
--- src/lib.rt:197:17
 mul-y : tie.Need-mul-y Inv-loop μ-loop
 mul-y c = omega arith
 
--- src/lib.rt:197:17
 shared-slice-read-y : tie.Need-shared-slice-read-y Inv-loop μ-loop
 shared-slice-read-y c = omega arith
 
--- src/lib.rt:198:19
 add-e : tie.Need-add-e Inv-loop μ-loop
 add-e c = omega arith
 
--- src/lib.rt:198:17
 mul-e : tie.Need-mul-e Inv-loop μ-loop
 mul-e c = omega arith
 
--- src/lib.rt:198:17
 slice-read-e : tie.Need-slice-read-e Inv-loop μ-loop
 slice-read-e c = omega arith
 
--- src/lib.rt:199:23
 add-less-entry : tie.Need-add-less-entry Inv-loop μ-loop
 add-less-entry c = omega (arith, below (c .before .before .before))
 
--- src/lib.rt:199:9
 less-entry-requires : tie.Need-less-entry-requires Inv-loop μ-loop
 less-entry-requires c κs = omega (arith, below (c .before .before .before))
 
--- src/lib.rt:200:9
 add-c : tie.Need-add-c Inv-loop μ-loop
 add-c c = omega arith
 
--- src/lib.rt:195:5
 loop-less : tie.Need-loop-less Inv-loop μ-loop
 loop-less c = omega arith
 
--- src/lib.rt:195:5
 loop-again : tie.Need-loop-again Inv-loop μ-loop
 loop-again c =
     let p = c .before .before .before .before .before .before .before .before .before .before .before .before .before in
@@ -104,11 +88,9 @@ loop-again c =
     (l .c) (omega arith) (l .v) (l .inv .2) k (below (c .before .before .before .before .before .before)) (c .before .before .before .before .before .before .wide .ensures) _ u _ (c .before .before .less-entry .ensures) in
     (omega arith, omega arith, rw add-one t)
 
--- src/lib.rt:178:1
 same-length : tie.Need-same-length Inv-loop μ-loop
 same-length c = omega arith
 
--- src/lib.rt:178:1
 returns : tie.Need-returns Inv-loop μ-loop
 returns c =
     let a = c .before .before .before .before .before .args in

@@ -28,85 +28,65 @@ abbrev μ-loop : tie.MeasureT-loop
 below : (c : tie.After-wide Inv-loop μ-loop) → c .wide .result < c .before .before .before .before .before .before .before .args .rows
 below c = subst (λ (i : ℕ). i < c .before .before .before .before .before .before .before .args .rows) (sym (c .wide .ensures)) (c .before .before .before .before .before .before .before .pre .1 .1 (c .before .before .before .loop .c) (omega arith))
 
--- src/lib.rt:158:5
 loop-holds : tie.Need-loop-holds Inv-loop μ-loop
 loop-holds c =
     let a = c .before .before .before .args in
     (omega arith, refl, made-none (a .off) (a .cols) (lessSparseT ieee (rowFrom (a .h .now) (a .first)) (entry (a .x) (a .cols) (a .w .now)) (entry (a .z) (a .rows) (a .v .now)) (entry (a .off) (a .cols) (a .v .now))) (a .v .now) (omega arith))
 
--- src/lib.rt:159:24
 add-wide : tie.Need-add-wide Inv-loop μ-loop
 add-wide c = omega arith
 
--- src/lib.rt:159:22
 mul-wide : tie.Need-mul-wide Inv-loop μ-loop
 mul-wide c = omega arith
 
--- src/lib.rt:159:22
 shared-slice-read-wide : tie.Need-shared-slice-read-wide Inv-loop μ-loop
 shared-slice-read-wide c = omega arith
 
--- src/lib.rt:159:13
 wide-requires : tie.Need-wide-requires Inv-loop μ-loop
 wide-requires c κs = tt
 
--- src/lib.rt:160:25
 add-s : tie.Need-add-s Inv-loop μ-loop
 add-s c = omega arith
 
--- src/lib.rt:160:23
 mul-s : tie.Need-mul-s Inv-loop μ-loop
 mul-s c = omega arith
 
--- src/lib.rt:160:23
 shared-slice-read-s : tie.Need-shared-slice-read-s Inv-loop μ-loop
 shared-slice-read-s c = omega arith
 
--- src/lib.rt:160:36
 add-s-2 : tie.Need-add-s-2 Inv-loop μ-loop
 add-s-2 c = omega (arith, below (c .before))
 
--- src/lib.rt:160:34
 mul-s-2 : tie.Need-mul-s-2 Inv-loop μ-loop
 mul-s-2 c = omega (arith, below (c .before))
 
--- src/lib.rt:160:34
 slice-read-s : tie.Need-slice-read-s Inv-loop μ-loop
 slice-read-s c = omega (arith, below (c .before .before))
 
--- src/lib.rt:161:24
 add-v : tie.Need-add-v Inv-loop μ-loop
 add-v c = omega arith
 
--- src/lib.rt:161:22
 mul-v : tie.Need-mul-v Inv-loop μ-loop
 mul-v c = omega arith
 
--- src/lib.rt:161:22
 slice-read-v : tie.Need-slice-read-v Inv-loop μ-loop
 slice-read-v c = omega arith
 
--- src/lib.rt:161:11
 add-v-2 : tie.Need-add-v-2 Inv-loop μ-loop
 add-v-2 c = omega arith
 
--- src/lib.rt:161:9
 mul-v-2 : tie.Need-mul-v-2 Inv-loop μ-loop
 mul-v-2 c = omega arith
 
--- src/lib.rt:161:9
 slice-write-v : tie.Need-slice-write-v Inv-loop μ-loop
 slice-write-v c = omega arith
 
--- src/lib.rt:162:9
 add-c : tie.Need-add-c Inv-loop μ-loop
 add-c c = omega arith
 
--- src/lib.rt:158:5
 loop-less : tie.Need-loop-less Inv-loop μ-loop
 loop-less c = omega arith
 
--- src/lib.rt:158:5
 loop-again : tie.Need-loop-again Inv-loop μ-loop
 loop-again c =
     let p = c .before .before .before .before .before .before .before .before .before .before in
@@ -117,11 +97,9 @@ loop-again c =
     (l .c) (omega arith) (l .v) (l .inv .2) k (below (c .before .before .before)) (c .before .before .before .wide .ensures) in
     (omega arith, simp length-set (omega arith), rw add-one t)
 
--- src/lib.rt:141:1
 same-length : tie.Need-same-length Inv-loop μ-loop
 same-length c = omega arith
 
--- src/lib.rt:141:1
 returns : tie.Need-returns Inv-loop μ-loop
 returns c =
     let a = c .before .before .before .before .before .args in

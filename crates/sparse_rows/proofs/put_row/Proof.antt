@@ -11,63 +11,51 @@ use borrow.Author.Needs.{needs}
 use Rattle.sparse_rows.proofs.put_row.Statement.{statement}
 use Rattle.sparse_rows.proofs.put_row.Tie as tie
 
--- src/lib.rt:28:8
 block-of-requires : tie.Need-block-of-requires
 block-of-requires c κs = search needs
 
--- src/lib.rt:29:9
 returns : tie.Need-returns
 returns c =
     let a = c .before .before .before .args in
     put-none (a .y) (now (a .h)) (a .l .first) (a .l .second) (a .l .second - rowStart (a .y) 1) (omega arith) (λ e f. c .if1 .taken (c .before .block-of .ensures ∙ e))
 
--- src/lib.rt:31:8
 block-of-requires-2 : tie.Need-block-of-requires-2
 block-of-requires-2 c κs = search needs
 
--- src/lib.rt:32:9
 returns-2 : tie.Need-returns-2
 returns-2 c =
     let a = c .before .before .before .before .before .args in
     put-none (a .y) (now (a .h)) (a .l .first) (a .l .second) (a .l .second - rowStart (a .y) 1) (omega arith) (λ e f. c .if2 .taken (c .before .block-of2 .ensures ∙ f))
 
--- src/lib.rt:34:20
 level-of-requires : tie.Need-level-of-requires
 level-of-requires c κs =
     let s = c .before .before .before .before .before in
     let a = s .args in
     (s .pre .0, s .pre .2, omega arith, found (a .y) (a .l .first) 0 (sym (c .before .before .if1 .left) ∙ c .before .before .before .block-of .ensures) (omega arith))
 
--- src/lib.rt:34:14
 add-t : tie.Need-add-t
 add-t c = search needs
 
--- src/lib.rt:35:12
 level-of-requires-2 : tie.Need-level-of-requires-2
 level-of-requires-2 c κs =
     let s = c .before .before .before .before .before .before in
     let a = s .args in
     (s .pre .0, s .pre .2, s .pre .3, found (a .y) (a .l .second) 1 (sym (c .before .if2 .left) ∙ c .before .before .block-of2 .ensures) (s .pre .3))
 
--- src/lib.rt:35:12
 cast-h : tie.Need-cast-h
 cast-h c =
     let s = c .before .before .before .before .before .before .before in
     omega (arith, c .level-of2 .ensures .1, is-lawful (s .args .y) (s .pre .0) .level 1 (s .pre .3) .1)
 
--- src/lib.rt:35:5
 mul-h : tie.Need-mul-h
 mul-h c = search needs
 
--- src/lib.rt:35:5
 slice-write-h : tie.Need-slice-write-h
 slice-write-h c = search needs
 
--- src/lib.rt:24:1
 same-length : tie.Need-same-length
 same-length c = search needs
 
--- src/lib.rt:24:1
 returns-3 : tie.Need-returns-3
 returns-3 c =
     let a = c .before .before .before .before .before .before .before .args in

@@ -10,23 +10,18 @@ use Rattle.sparse_schur.proofs.less_column.Lts as lts
 use Rattle.run_products.proofs.less_times.Reads as less-times-reads
 use Rattle.run_copies.proofs.read.Reads as read-reads
 
--- src/lib.rt:115:5
 read-requires : tie.Need-read-requires
 read-requires c κs = search needs
 
--- src/lib.rt:116:5
 less-times-requires : tie.Need-less-times-requires
 less-times-requires c κs = search needs
 
--- src/lib.rt:102:1
 same-length : tie.Need-same-length
 same-length c = search needs
 
--- src/lib.rt:102:1
 same-length-2 : tie.Need-same-length-2
 same-length-2 c = search needs
 
--- src/lib.rt:102:1
 returns : tie.Need-returns
 returns c =
     let a = c .before .before .before .before .before .before .before .before .before .before .before .before .args in

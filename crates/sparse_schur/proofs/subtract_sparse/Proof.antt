@@ -32,19 +32,16 @@ Inv-loop w₀ off rows cols a v inner h first end acc₀ x₀ ax₀ w acc x ax =
 abbrev μ-loop : tie.MeasureT-loop
 μ-loop w₀ off rows cols a v inner h first end acc₀ x₀ ax₀ w acc x ax = inner - x
 
--- src/lib.rt:137:21
 mul-end : tie.Need-mul-end Inv-loop μ-loop
 mul-end c =
     let a = c .before .before .args in
     omega (arith, start-dense (a .rows) (a .cols))
 
--- src/lib.rt:137:15
 add-end : tie.Need-add-end Inv-loop μ-loop
 add-end c =
     let a = c .before .before .args in
     omega (arith, start-dense (a .rows) (a .cols))
 
--- src/lib.rt:141:5
 loop-holds : tie.Need-loop-holds Inv-loop μ-loop
 unfolding start
 loop-holds c =
@@ -52,39 +49,30 @@ loop-holds c =
     let a = p .args in
     (omega arith, omega arith, omega (arith, start-dense (a .rows) (a .cols)), refl, refl, sparse-none (a .off) (a .rows) (a .cols) (a .a) (a .v) (a .inner) (rowFrom (a .h .now) (a .first)) (a .w .now) (omega arith) (omega arith) (omega arith) (p .pre .1 .0) (p .pre .1 .1 .0))
 
--- src/lib.rt:142:24
 add-wide : tie.Need-add-wide Inv-loop μ-loop
 add-wide c = search needs
 
--- src/lib.rt:142:22
 mul-wide : tie.Need-mul-wide Inv-loop μ-loop
 mul-wide c = search needs
 
--- src/lib.rt:142:22
 shared-slice-read-wide : tie.Need-shared-slice-read-wide Inv-loop μ-loop
 shared-slice-read-wide c = search needs
 
--- src/lib.rt:142:13
 wide-requires : tie.Need-wide-requires Inv-loop μ-loop
 wide-requires c κs = search needs
 
--- src/lib.rt:143:19
 add-f : tie.Need-add-f Inv-loop μ-loop
 add-f c = search needs
 
--- src/lib.rt:143:17
 mul-f : tie.Need-mul-f Inv-loop μ-loop
 mul-f c = search needs
 
--- src/lib.rt:143:17
 slice-read-f : tie.Need-slice-read-f Inv-loop μ-loop
 slice-read-f c = search needs
 
--- src/lib.rt:144:24
 slice-aggregate-less-column : tie.Need-slice-aggregate-less-column Inv-loop μ-loop
 slice-aggregate-less-column c = search needs
 
--- src/lib.rt:144:44
 mul-less-column : tie.Need-mul-less-column Inv-loop μ-loop
 mul-less-column c =
     let p = c .before .before .before .before .before .before .before .before .before in
@@ -97,7 +85,6 @@ mul-less-column c =
     let g = start-below (dense (a .rows)) (l .x) (a .inner) (omega arith) in
     omega arith
 
--- src/lib.rt:144:9
 less-column-requires : tie.Need-less-column-requires Inv-loop μ-loop
 less-column-requires c κs =
     let p = c .before .before .before .before .before .before .before .before .before in
@@ -110,11 +97,9 @@ less-column-requires c κs =
     let g = start-below (dense (a .rows)) (l .x) (a .inner) (omega arith) in
     omega arith
 
--- src/lib.rt:145:9
 add-x : tie.Need-add-x Inv-loop μ-loop
 add-x c = search needs
 
--- src/lib.rt:146:9
 add-ax : tie.Need-add-ax Inv-loop μ-loop
 add-ax c =
     let p = c .before .before .before .before .before .before .before .before .before .before .before .before .before in
@@ -127,11 +112,9 @@ add-ax c =
     let g = start-below (dense (a .rows)) (l .x) (a .inner) (omega arith) in
     omega arith
 
--- src/lib.rt:141:5
 loop-less : tie.Need-loop-less Inv-loop μ-loop
 loop-less c = search needs
 
--- src/lib.rt:141:5
 loop-again : tie.Need-loop-again Inv-loop μ-loop
 unfolding start
 loop-again c =
@@ -147,11 +130,9 @@ loop-again c =
     (l .x) (omega arith) (l .w) (l .inv .5) k below (c .before .before .before .before .before .before .before .wide .ensures) (a .off + k * a .rows) (l .ax) (omega arith) (l .inv .1) _ (c .before .before .before .less-column .ensures) in
     (omega arith, rw add-one (omega arith), omega arith, omega arith, omega arith, rw add-one u)
 
--- src/lib.rt:120:1
 same-length : tie.Need-same-length Inv-loop μ-loop
 same-length c = search needs
 
--- src/lib.rt:120:1
 returns : tie.Need-returns Inv-loop μ-loop
 returns c =
     let a = c .before .before .before .before .args in

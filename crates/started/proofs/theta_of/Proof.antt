@@ -11,27 +11,22 @@ use Rattle.started.proofs.theta_of.Tie as tie
 use Rattle.started.proofs.theta_of.Reads as reads
 use Rattle.started.proofs.theta_of.Lts as lts
 
--- src/lib.rt:28:17
 mul-sheet : tie.Need-mul-sheet
 mul-sheet c = search needs
 
--- src/lib.rt:28:17
 element-copy-out-sheet : tie.Need-element-copy-out-sheet
 element-copy-out-sheet c = omega (arith, few-blocks (c .args .t1) (c .pre .0))
 
--- src/lib.rt:29:5
 mul-result : tie.Need-mul-result
 mul-result c =
     let s = c .before in
     omega (arith, order-below (s .args .t1) (s .pre .0) (s .args .j) (s .pre .2), few-blocks (s .args .t1) (s .pre .0))
 
--- src/lib.rt:29:5
 shared-slice-read-result : tie.Need-shared-slice-read-result
 shared-slice-read-result c =
     let s = c .before .before in
     omega (arith, order-below (s .args .t1) (s .pre .0) (s .args .j) (s .pre .2), s .pre .1)
 
--- src/lib.rt:24:1
 returns : tie.Need-returns
 returns c =
     let s = c .before .before in

@@ -24,45 +24,35 @@ Inv-loop w₀ off src n i₀ w i = (i ≤ n) × (length w ≡ length w₀) × (w
 abbrev μ-loop : tie.MeasureT-loop
 μ-loop w₀ off src n i₀ w i = n - i
 
--- src/lib.rt:44:5
 loop-holds : tie.Need-loop-holds Inv-loop μ-loop
 loop-holds c =
     let a = c .args in
     (omega arith, refl, made-none (a .off) (a .n) (λ x. at (a .w .now) (a .src + x)) (a .w .now) (omega arith))
 
--- src/lib.rt:45:24
 add-w : tie.Need-add-w Inv-loop μ-loop
 add-w c = search needs
 
--- src/lib.rt:45:22
 mul-w : tie.Need-mul-w Inv-loop μ-loop
 mul-w c = search needs
 
--- src/lib.rt:45:22
 slice-read-w : tie.Need-slice-read-w Inv-loop μ-loop
 slice-read-w c = search needs
 
--- src/lib.rt:45:11
 add-w-2 : tie.Need-add-w-2 Inv-loop μ-loop
 add-w-2 c = search needs
 
--- src/lib.rt:45:9
 mul-w-2 : tie.Need-mul-w-2 Inv-loop μ-loop
 mul-w-2 c = search needs
 
--- src/lib.rt:45:9
 slice-write-w : tie.Need-slice-write-w Inv-loop μ-loop
 slice-write-w c = search needs
 
--- src/lib.rt:46:9
 add-i : tie.Need-add-i Inv-loop μ-loop
 add-i c = search needs
 
--- src/lib.rt:44:5
 loop-less : tie.Need-loop-less Inv-loop μ-loop
 loop-less c = search needs
 
--- src/lib.rt:44:5
 loop-again : tie.Need-loop-again Inv-loop μ-loop
 loop-again c =
     let a = c .before .before .before .args in
@@ -71,11 +61,9 @@ loop-again c =
     let t = made-more (a .off) (a .n) (λ x. at (a .w .now) (a .src + x)) (a .w .now) (omega arith) (l .i) (omega arith) (l .w) (l .inv .2) (omega arith) (a .off + l .i) (omega arith) (at (l .w) (a .src + l .i)) u in
     (omega arith, simp length-set (omega arith), rw add-one t)
 
--- src/lib.rt:39:1
 same-length : tie.Need-same-length Inv-loop μ-loop
 same-length c = search needs
 
--- src/lib.rt:39:1
 returns : tie.Need-returns Inv-loop μ-loop
 returns c =
     let a = c .before .before .args in

@@ -11,27 +11,21 @@ use Rattle.starting.proofs.start_last.Reads as start-last-reads
 use Rattle.starting.proofs.start_pairs.Reads as start-pairs-reads
 use Rattle.starting.proofs.start_row.Reads as start-row-reads
 
--- src/lib.rt:137:5
 start-factors-requires : tie.Need-start-factors-requires
 start-factors-requires c κs = search needs
 
--- src/lib.rt:138:5
 start-pairs-requires : tie.Need-start-pairs-requires
 start-pairs-requires c κs = search needs
 
--- src/lib.rt:139:5
 start-row-requires : tie.Need-start-row-requires
 start-row-requires c κs = search needs
 
--- src/lib.rt:140:5
 start-last-requires : tie.Need-start-last-requires
 start-last-requires c κs = search needs
 
--- src/lib.rt:133:1
 same-length : tie.Need-same-length
 same-length c = search needs
 
--- src/lib.rt:133:1
 returns : tie.Need-returns
 returns c =
     let s = c .before .before .before .before .before .before .before .before .before .before .before .before .before .before .before .before .before .before in

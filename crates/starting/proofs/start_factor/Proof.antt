@@ -17,55 +17,44 @@ use Rattle.starting.proofs.is_diagonal.Reads as is-diagonal-reads
 use Rattle.starting.proofs.levels_of.Reads as levels-of-reads
 use Rattle.started.proofs.theta_of.Reads as theta-of-reads
 
--- src/lib.rt:55:9
 working-at-requires : tie.Need-working-at-requires
 working-at-requires c κs = search needs
 
--- src/lib.rt:56:9
 loaded-at-requires : tie.Need-loaded-at-requires
 loaded-at-requires c κs = search needs
 
--- src/lib.rt:57:9
 levels-of-requires : tie.Need-levels-of-requires
 levels-of-requires c κs =
     let s = c .before .before .before .before in
     omega (arith, few-blocks (s .args .y) (s .pre .0), s .pre .3)
 
--- src/lib.rt:58:9
 theta-of-requires : tie.Need-theta-of-requires
 theta-of-requires c κs = search needs
 
--- src/lib.rt:59:8
 is-diagonal-requires : tie.Need-is-diagonal-requires
 is-diagonal-requires c κs = search needs
 
--- src/lib.rt:60:9
 init-diagonal-requires : tie.Need-init-diagonal-requires
 init-diagonal-requires c κs =
     let s = c .before .before .before .before .before .before .before .before .before in
     diagonal-fits (s .args .y) _ (s .pre .2) (s .args .j) _ _ _ (s .pre .3) (c .before .before .before .before .before .before .working-at .ensures) (c .before .before .before .before .before .loaded-at .ensures) (c .before .before .before .before .levels-of .ensures) (sym (c .before .before .is-diagonal .ensures) ∙ c .before .if1 .taken)
 
--- src/lib.rt:61:9
 same-length : tie.Need-same-length
 same-length c = search needs
 
--- src/lib.rt:61:9
 returns : tie.Need-returns
 returns c =
     let s = c .before .before .before .before .before .before .before .before .before .before .before .before in
     diagonal-done (s .args .y) _ (s .pre .2) (s .args .j) _ _ _ (s .pre .3) (c .before .before .before .before .before .before .before .before .before .working-at .ensures) (c .before .before .before .before .before .before .before .before .loaded-at .ensures) (c .before .before .before .before .before .before .before .levels-of .ensures) (sortedTheta (s .args .y) (s .args .theta .now)) _ (c .before .before .before .before .before .before .theta-of .ensures) _ _ (sym (c .before .before .before .before .before .is-diagonal .ensures) ∙ c .before .before .before .before .if1 .taken) (c .before .before .init-diagonal .ensures)
 
--- src/lib.rt:63:5
 init-requires : tie.Need-init-requires
 init-requires c κs =
     let s = c .before .before .before .before .before .before .before .before .before in
     packed-fits (s .args .y) _ (s .pre .2) (s .args .j) _ _ _ (s .pre .3) (c .before .before .before .before .before .before .working-at .ensures) (c .before .before .before .before .before .loaded-at .ensures) (c .before .before .before .before .levels-of .ensures) (sym (c .before .before .is-diagonal .ensures) ∙ c .before .if1 .left)
 
--- src/lib.rt:51:1
 same-length-2 : tie.Need-same-length-2
 same-length-2 c = search needs
 
--- src/lib.rt:51:1
 returns-2 : tie.Need-returns-2
 returns-2 c =
     let s = c .before .before .before .before .before .before .before .before .before .before .before .before in

@@ -19,39 +19,32 @@ Inv-loop y w₀ theta k j₀ w j = (j ≤ y .k) × BlocksStarted y (sortedTheta 
 abbrev μ-loop : tie.MeasureT-loop
 μ-loop y w₀ theta k j₀ w j = y .k - j
 
--- src/lib.rt:101:5
 loop-holds : tie.Need-loop-holds Inv-loop μ-loop
 loop-holds c = (omega arith, factors-none _ _ _, refl)
 
--- src/lib.rt:102:9
 start-factor-requires : tie.Need-start-factor-requires Inv-loop μ-loop
 start-factor-requires c κs =
     let s = c .before .before .before .before .before in
     let l = c .before .before .loop in
     (s .pre .0, s .pre .1, omega (arith, s .pre .2, l .inv .2), c .before .loop-test .taken)
 
--- src/lib.rt:103:9
 add-j : tie.Need-add-j Inv-loop μ-loop
 add-j c =
     let s = c .before .before .before .before .before .before .before .before in
     omega (arith, few-blocks (s .args .y) (s .pre .0), c .before .before .before .before .before .loop .inv .0, c .before .before .before .before .loop-test .taken)
 
--- src/lib.rt:101:5
 loop-less : tie.Need-loop-less Inv-loop μ-loop
 loop-less c = omega (arith, c .before .before .before .before .loop-test .taken)
 
--- src/lib.rt:101:5
 loop-again : tie.Need-loop-again Inv-loop μ-loop
 loop-again c =
     let s = c .before .before .before .before .before .before .before .before in
     let l = c .before .before .before .before .before .loop in
     (omega (arith, c .before .before .before .before .loop-test .taken), factors-more (s .args .y) (sortedTheta (s .args .y) (s .args .theta .now)) (s .args .w .now) _ _ (l .j) (l .inv .1) (c .before .before .start-factor .ensures), omega arith)
 
--- src/lib.rt:95:1
 same-length : tie.Need-same-length Inv-loop μ-loop
 same-length c = c .before .loop .inv .2
 
--- src/lib.rt:95:1
 returns : tie.Need-returns Inv-loop μ-loop
 returns c =
     let s = c .before .before .before .before in

@@ -11,29 +11,23 @@ use Rattle.block_sizes.proofs.size_of.Reads as size-of-reads
 use Rattle.places.proofs.working_at.Reads as working-at-reads
 use Rattle.starting.proofs.copy.Reads as copy-reads
 
--- src/lib.rt:88:9
 working-at-requires : tie.Need-working-at-requires
 working-at-requires c κs = search needs
 
--- src/lib.rt:89:9
 loaded-at-requires : tie.Need-loaded-at-requires
 loaded-at-requires c κs = search needs
 
--- src/lib.rt:90:13
 size-of-requires : tie.Need-size-of-requires
 size-of-requires c κs = search needs
 
--- src/lib.rt:91:5
 copy-requires : tie.Need-copy-requires
 copy-requires c κs =
     let s = c .before .before .before .before .before .before in
     last-fits (s .args .y) _ (s .pre .1) _ _ _ (c .before .before .before .working-at .ensures) (c .before .before .loaded-at .ensures) (c .before .size-of .ensures)
 
--- src/lib.rt:84:1
 same-length : tie.Need-same-length
 same-length c = search needs
 
--- src/lib.rt:84:1
 returns : tie.Need-returns
 returns c =
     let s = c .before .before .before .before .before .before .before .before .before in

@@ -19,39 +19,32 @@ Inv-loop y w₀ theta k i₀ w i = (i ≤ y .k) × BlocksStarted y (sortedTheta 
 abbrev μ-loop : tie.MeasureT-loop
 μ-loop y w₀ theta k i₀ w i = y .k - i
 
--- src/lib.rt:126:5
 loop-holds : tie.Need-loop-holds Inv-loop μ-loop
 loop-holds c = (omega arith, pairs-none _ _ _, refl)
 
--- src/lib.rt:127:9
 start-row-requires : tie.Need-start-row-requires Inv-loop μ-loop
 start-row-requires c κs =
     let s = c .before .before .before .before .before in
     let l = c .before .before .loop in
     (s .pre .0, s .pre .1, omega (arith, s .pre .2, l .inv .2), omega (arith, c .before .loop-test .taken))
 
--- src/lib.rt:128:9
 add-i : tie.Need-add-i Inv-loop μ-loop
 add-i c =
     let s = c .before .before .before .before .before .before .before .before in
     omega (arith, few-blocks (s .args .y) (s .pre .0), c .before .before .before .before .before .loop .inv .0, c .before .before .before .before .loop-test .taken)
 
--- src/lib.rt:126:5
 loop-less : tie.Need-loop-less Inv-loop μ-loop
 loop-less c = omega (arith, c .before .before .before .before .loop-test .taken)
 
--- src/lib.rt:126:5
 loop-again : tie.Need-loop-again Inv-loop μ-loop
 loop-again c =
     let s = c .before .before .before .before .before .before .before .before in
     let l = c .before .before .before .before .before .loop in
     (omega (arith, c .before .before .before .before .loop-test .taken), pairs-more (s .args .y) (sortedTheta (s .args .y) (s .args .theta .now)) (s .args .w .now) _ _ (l .i) (l .inv .1) (c .before .before .start-row .ensures), omega arith)
 
--- src/lib.rt:120:1
 same-length : tie.Need-same-length Inv-loop μ-loop
 same-length c = c .before .loop .inv .2
 
--- src/lib.rt:120:1
 returns : tie.Need-returns Inv-loop μ-loop
 returns c =
     let s = c .before .before .before .before in

@@ -19,39 +19,32 @@ Inv-loop y w₀ theta i j₀ w j = (j ≤ i) × BlocksStarted y (sortedTheta y t
 abbrev μ-loop : tie.MeasureT-loop
 μ-loop y w₀ theta i j₀ w j = i - j
 
--- src/lib.rt:112:5
 loop-holds : tie.Need-loop-holds Inv-loop μ-loop
 loop-holds c = (omega arith, across-none _ _ _ _, refl)
 
--- src/lib.rt:113:9
 start-beside-requires : tie.Need-start-beside-requires Inv-loop μ-loop
 start-beside-requires c κs =
     let s = c .before .before .before .before .before in
     let l = c .before .before .loop in
     (s .pre .0, s .pre .1, omega (arith, s .pre .2, l .inv .2), c .before .loop-test .taken, s .pre .3)
 
--- src/lib.rt:114:9
 add-j : tie.Need-add-j Inv-loop μ-loop
 add-j c =
     let s = c .before .before .before .before .before .before .before .before in
     omega (arith, few-blocks (s .args .y) (s .pre .0), s .pre .3, c .before .before .before .before .before .loop .inv .0, c .before .before .before .before .loop-test .taken)
 
--- src/lib.rt:112:5
 loop-less : tie.Need-loop-less Inv-loop μ-loop
 loop-less c = omega (arith, c .before .before .before .before .loop-test .taken)
 
--- src/lib.rt:112:5
 loop-again : tie.Need-loop-again Inv-loop μ-loop
 loop-again c =
     let s = c .before .before .before .before .before .before .before .before in
     let l = c .before .before .before .before .before .loop in
     (omega (arith, c .before .before .before .before .loop-test .taken), across-more (s .args .y) (sortedTheta (s .args .y) (s .args .theta .now)) (s .args .w .now) _ _ (s .args .i) (l .j) (l .inv .1) (c .before .before .start-beside .ensures), omega arith)
 
--- src/lib.rt:107:1
 same-length : tie.Need-same-length Inv-loop μ-loop
 same-length c = c .before .loop .inv .2
 
--- src/lib.rt:107:1
 returns : tie.Need-returns Inv-loop μ-loop
 returns c =
     let s = c .before .before .before .before in

@@ -50,7 +50,7 @@ returns c =
     let p = st .pre .0 told in
     let h = now (st .args .h) in
     let w = now (st .args .w) in
-    answered (λ (x : Answer). afterBegin x (space h w) (st .args .k)) _ _ _ _ told (run-out h w (st .args .k) _ _ _ _ _ (p .0 .lawful) (p .1) (c .before .before .before .before .before .before .before .before .before .before .run .ensures .same) (c .before .before .put-steps .ensures))
+    answered (λ (x : Answer). afterBegin x (space h w) (st .args .k)) _ _ _ _ _ told (run-out h w (st .args .k) _ _ _ _ _ _ (p .0 .lawful) (p .1) (c .before .before .before .before .before .before .before .before .before .before .run .ensures .same) (c .before .before .put-steps .ensures))
 
 same-length-4 : tie.Need-same-length-4
 same-length-4 c = search needs
@@ -58,7 +58,7 @@ same-length-4 c = search needs
 returns-2 : tie.Need-returns-2
 returns-2 c =
     let st = c .before .before .before .before .before .before .before .before .before .before in
-    answered (λ (x : Answer). afterBegin x (space (now (st .args .h)) (now (st .args .w))) (st .args .k)) _ _ _ _ (c .before .before .before .before .before .a .given .1) (c .before .before .put-refusal .ensures)
+    answered (λ (x : Answer). afterBegin x (space (now (st .args .h)) (now (st .args .w))) (st .args .k)) _ _ _ _ _ (c .before .before .before .before .before .a .given .1) (c .before .before .put-refusal .ensures)
 
 pub put-begun-spec : {M : Type 1} → statement M
 put-begun-spec =

@@ -31,7 +31,7 @@ returns : tie.Need-returns
 returns c =
     let st = c .before .before .before .before .before .before .before .before .before .before .before .before .before .before .before .before .before .before .before .before .before in
     let a = st .args in
-    begin-out (now (a .h)) (now (a .w)) (now (a .theta)) _ _ _ _ _ _ (c .before .before .before .before .before .before .before .before .before .before .before .before .before .before .begin .ensures) (c .before .before .before .before .before .before .put-begun .ensures)
+    begin-out (now (a .h)) (now (a .w)) (now (a .theta)) _ _ _ _ _ _ _ (c .before .before .before .before .before .before .before .before .before .before .before .before .before .before .begin .ensures) (c .before .before .before .before .before .before .put-begun .ensures)
 
 pub put-factor-spec : {M : Type 1} → statement M
 put-factor-spec =

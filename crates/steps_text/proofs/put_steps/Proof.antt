@@ -4,7 +4,7 @@ use Rattle.refusal.specs.declared.Answer.{Answer}
 use Rattle.heading_rules.specs.Heading.{layoutOf}
 use Rattle.workspace.specs.Answers.{space}
 use Rattle.worked.specs.Program.{printSteps}
-use Rattle.refusal_text.proofs.Texts.{put-text, answered}
+use Rattle.refusal_text.proofs.Texts.{answered}
 use borrow.Author.Needs.{needs}
 use Rattle.steps_text.proofs.put_steps.Statement.{statement}
 use Rattle.steps_text.proofs.put_steps.Tie as tie
@@ -34,8 +34,7 @@ returns : tie.Need-returns
 returns c =
     let st = c .before .before .before .before .before .before .before .before .before in
     let v = space (now (st .args .h)) (now (st .args .w)) in
-    let e = c .before .before .put-pivots .ensures in
-    answered (λ (x : Answer). printSteps x v (layoutOf (now (st .args .h)) .k)) _ _ _ _ (c .before .before .before .before .enum-told .given .1) (put-text _ (now (st .args .out)) _ _ (e .0) (st .pre .2) (e .1))
+    answered (λ (x : Answer). printSteps x v (layoutOf (now (st .args .h)) .k)) _ _ _ _ _ (c .before .before .before .before .enum-told .given .1) (c .before .before .put-pivots .ensures)
 
 same-length-2 : tie.Need-same-length-2
 same-length-2 c = search needs
@@ -44,7 +43,7 @@ returns-2 : tie.Need-returns-2
 returns-2 c =
     let st = c .before .before .before .before .before .before .before .before .before .before in
     let v = space (now (st .args .h)) (now (st .args .w)) in
-    answered (λ (x : Answer). printSteps x v (layoutOf (now (st .args .h)) .k)) _ _ _ _ (c .before .before .before .before .before .a .given .1) (c .before .before .put-refusal .ensures)
+    answered (λ (x : Answer). printSteps x v (layoutOf (now (st .args .h)) .k)) _ _ _ _ _ (c .before .before .before .before .before .a .given .1) (c .before .before .put-refusal .ensures)
 
 pub put-steps-spec : {M : Type 1} → statement M
 put-steps-spec =

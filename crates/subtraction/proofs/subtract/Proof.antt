@@ -20,108 +20,90 @@ use Rattle.lessening.proofs.lessen_last.Reads as lessen-last-reads
 use Rattle.lessening_diagonal.proofs.lessen_sparse.Reads as lessen-sparse-reads
 use Rattle.lessening_diagonal.proofs.lessen_triangle.Reads as lessen-triangle-reads
 
--- src/lib.rt:105:9
 lessen-last-requires : tie.Need-lessen-last-requires
 lessen-last-requires c κs =
     let s = c .before .before .before .before .before in
     let a = s .args in
     (fits-lawful (a .h .now) (a .w .now) (a .y) (s .pre .0) (s .pre .1), fits-room (a .h .now) (a .w .now) (a .y) (s .pre .0) (s .pre .1), omega (arith, s .pre .2, c .before .if1 .taken))
 
--- src/lib.rt:106:9
 same-length : tie.Need-same-length
 same-length c = search needs
 
--- src/lib.rt:106:9
 returns : tie.Need-returns
 returns c =
     let s = c .before .before .before .before .before .before .before .before in
     let a = s .args in
     c .before .before .lessen-last .ensures ∙ made-last (a .h .now) (a .w .now) (a .y) (s .pre .0) (s .pre .1) (a .i) (a .j) (a .x) (s .pre .2) (c .before .before .before .before .if1 .taken)
 
--- src/lib.rt:110:13
 lessen-sparse-requires : tie.Need-lessen-sparse-requires
 lessen-sparse-requires c κs =
     let s = c .before .before .before .before .before .before .before in
     let a = s .args in
     (fits-lawful (a .h .now) (a .w .now) (a .y) (s .pre .0) (s .pre .1), fits-room (a .h .now) (a .w .now) (a .y) (s .pre .0) (s .pre .1), c .before .if3 .taken, fits-two (a .h .now) (a .w .now) (a .y) (s .pre .0) (s .pre .1) (c .before .if3 .taken), fits-numbers (a .h .now) (a .w .now) (a .y) (s .pre .0) (s .pre .1) (c .before .if3 .taken), fits-rows (a .h .now) (a .w .now) (a .y) (s .pre .0) (s .pre .1) (c .before .if3 .taken))
 
--- src/lib.rt:111:13
 same-length-2 : tie.Need-same-length-2
 same-length-2 c = search needs
 
--- src/lib.rt:111:13
 returns-2 : tie.Need-returns-2
 returns-2 c =
     let s = c .before .before .before .before .before .before .before .before .before .before in
     let a = s .args in
     c .before .before .lessen-sparse .ensures ∙ made-sparse (a .h .now) (a .w .now) (a .y) (s .pre .0) (s .pre .1) (a .i) (a .j) (a .x) (s .pre .2) (c .before .before .before .before .before .if2 .taken) (c .before .before .before .before .if3 .taken)
 
--- src/lib.rt:113:9
 lessen-dense-requires : tie.Need-lessen-dense-requires
 lessen-dense-requires c κs =
     let s = c .before .before .before .before .before .before .before in
     let a = s .args in
     (fits-lawful (a .h .now) (a .w .now) (a .y) (s .pre .0) (s .pre .1), fits-room (a .h .now) (a .w .now) (a .y) (s .pre .0) (s .pre .1), omega (arith, s .pre .2), below (a .j) (a .i) (s .pre .2 .1) (λ e. c .before .before .if2 .taken (sym e)), s .pre .2 .2, c .before .if3 .left)
 
--- src/lib.rt:114:9
 same-length-3 : tie.Need-same-length-3
 same-length-3 c = search needs
 
--- src/lib.rt:114:9
 returns-3 : tie.Need-returns-3
 returns-3 c =
     let s = c .before .before .before .before .before .before .before .before .before .before in
     let a = s .args in
     c .before .before .lessen-dense .ensures ∙ made-dense (a .h .now) (a .w .now) (a .y) (s .pre .0) (s .pre .1) (a .i) (a .j) (a .x) (s .pre .2) (c .before .before .before .before .before .if2 .taken) (c .before .before .before .before .if3 .left)
 
--- src/lib.rt:119:17
 lessen-diagonal-sparse-requires : tie.Need-lessen-diagonal-sparse-requires
 lessen-diagonal-sparse-requires c κs =
     let s = c .before .before .before .before .before .before .before .before .before in
     let a = s .args in
     (fits-lawful (a .h .now) (a .w .now) (a .y) (s .pre .0) (s .pre .1), fits-room (a .h .now) (a .w .now) (a .y) (s .pre .0) (s .pre .1), c .before .if6 .taken, fits-two (a .h .now) (a .w .now) (a .y) (s .pre .0) (s .pre .1) (c .before .if6 .taken), fits-numbers (a .h .now) (a .w .now) (a .y) (s .pre .0) (s .pre .1) (c .before .if6 .taken))
 
--- src/lib.rt:120:17
 same-length-4 : tie.Need-same-length-4
 same-length-4 c = search needs
 
--- src/lib.rt:120:17
 returns-4 : tie.Need-returns-4
 returns-4 c =
     let s = c .before .before .before .before .before .before .before .before .before .before .before .before in
     let a = s .args in
     c .before .before .lessen-diagonal-sparse .ensures ∙ made-entries (a .h .now) (a .w .now) (a .y) (s .pre .0) (s .pre .1) (a .i) (a .j) (a .x) (s .pre .2) (c .before .before .before .before .before .before .before .if2 .left) (c .before .before .before .before .before .if5 .taken) (c .before .before .before .before .if6 .taken)
 
--- src/lib.rt:122:13
 lessen-diagonal-requires : tie.Need-lessen-diagonal-requires
 lessen-diagonal-requires c κs =
     let s = c .before .before .before .before .before .before .before .before .before in
     let a = s .args in
     (fits-lawful (a .h .now) (a .w .now) (a .y) (s .pre .0) (s .pre .1), fits-room (a .h .now) (a .w .now) (a .y) (s .pre .0) (s .pre .1), subst (λ (z : ℕ). z < a .y .k) (c .before .before .if5 .taken) (below (a .j) (a .y .k) (omega (arith, s .pre .2)) (c .before .before .before .before .before .if1 .left)), c .before .before .before .if4 .taken, c .before .if6 .left)
 
--- src/lib.rt:123:13
 same-length-5 : tie.Need-same-length-5
 same-length-5 c = search needs
 
--- src/lib.rt:123:13
 returns-5 : tie.Need-returns-5
 returns-5 c =
     let s = c .before .before .before .before .before .before .before .before .before .before .before .before in
     let a = s .args in
     c .before .before .lessen-diagonal .ensures ∙ made-diagonal (a .h .now) (a .w .now) (a .y) (s .pre .0) (s .pre .1) (a .i) (a .j) (a .x) (s .pre .2) (c .before .before .before .before .before .before .before .before .if1 .left) (c .before .before .before .before .before .before .before .if2 .left) (c .before .before .before .before .before .before .if4 .taken) (c .before .before .before .before .before .if5 .taken) (c .before .before .before .before .if6 .left)
 
--- src/lib.rt:126:5
 lessen-triangle-requires : tie.Need-lessen-triangle-requires
 lessen-triangle-requires c κs =
     let s = c .before .before .before .before .before .before .before in
     let a = s .args in
     (fits-lawful (a .h .now) (a .w .now) (a .y) (s .pre .0) (s .pre .1), fits-room (a .h .now) (a .w .now) (a .y) (s .pre .0) (s .pre .1), s .pre .2 .0, below (a .j) (a .y .k) (omega (arith, s .pre .2)) (c .before .before .before .if1 .left), not-both (a .y .diagonal) (eqb (a .j) 1) (⊎-elim (λ t. inr (ne-eqb (a .j) 1 (t .1 .left))) (λ t. inl (t .left)) (c .before .if4 .came)))
 
--- src/lib.rt:100:1
 same-length-6 : tie.Need-same-length-6
 same-length-6 c = search needs
 
--- src/lib.rt:100:1
 returns-6 : tie.Need-returns-6
 returns-6 c =
     let s = c .before .before .before .before .before .before .before .before .before .before in

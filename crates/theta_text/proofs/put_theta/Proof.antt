@@ -47,7 +47,7 @@ returns c =
     let st = c .before .before .before .before .before .before .before .before .before .before .before .before .before .before .before .before .before .before .before .before .before in
     let a = st .args in
     let r = c .before .before .before .before .before .before .before .before .before .before .before .before .before .before .before .read-theta .ensures in
-    theta-good (now (a .s)) (a .z) (now (a .h)) (now (a .w)) _ _ _ _ (r .0) (c .before .before .before .before .before .before .before .before .before .before .before .if1 .taken) (r .1 (theta-number _ _ (c .before .before .before .before .before .before .before .before .before .before .before .if1 .taken))) (length-take-le (a .z .counts .k) _ (omega (arith, st .pre .0, r .2))) (c .before .before .before .before .before .before .put-factor .ensures)
+    theta-good (now (a .s)) (a .z) (now (a .h)) (now (a .w)) _ _ _ _ _ (r .0) (c .before .before .before .before .before .before .before .before .before .before .before .if1 .taken) (r .1 (theta-number _ _ (c .before .before .before .before .before .before .before .before .before .before .before .if1 .taken))) (length-take-le (a .z .counts .k) _ (omega (arith, st .pre .0, r .2))) (c .before .before .before .before .before .before .put-factor .ensures)
 
 put-refusal-requires : tie.Need-put-refusal-requires
 put-refusal-requires c κs = search needs
@@ -59,7 +59,7 @@ returns-2 : tie.Need-returns-2
 returns-2 c =
     let st = c .before .before .before .before .before .before .before .before .before .before .before .before .before .before in
     let a = st .args in
-    theta-bad (now (a .s)) (a .z) (now (a .h)) (now (a .w)) _ _ _ (c .before .before .before .before .before .before .before .before .read-theta .ensures .0) (c .before .before .before .before .if1 .left) (c .before .before .put-refusal .ensures)
+    theta-bad (now (a .s)) (a .z) (now (a .h)) (now (a .w)) _ _ _ _ (c .before .before .before .before .before .before .before .before .read-theta .ensures .0) (c .before .before .before .before .if1 .left) (c .before .before .put-refusal .ensures)
 
 pub put-theta-spec : {M : Type 1} → statement M
 put-theta-spec =

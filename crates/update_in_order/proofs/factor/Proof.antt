@@ -9,47 +9,36 @@ use Rattle.deviance_tail.proofs.log_determinant.Reads as log-determinant-reads
 use Rattle.heading.proofs.layout.Reads as layout-reads
 use Rattle.in_order.proofs.run.Reads as run-reads
 
--- src/lib.rt:135:9
 layout-requires : tie.Need-layout-requires
 layout-requires c κs = search needs
 
--- src/lib.rt:136:11
 run-requires : tie.Need-run-requires
 run-requires c κs = let s = c .before .before .before .before .before .before in turn-come (s .args .h .now) (s .args .w .now) _ (c .before .before .layout .ensures) (s .pre .1) (s .pre .3)
 
--- src/lib.rt:137:73
 enum-told : tie.Need-enum-told
 enum-told c = search needs
 
--- src/lib.rt:137:44
 log-determinant-requires : tie.Need-log-determinant-requires
 log-determinant-requires c κs = let s = c .before .before .before .before .before .before .before .before .before .before .before .before .before .before in still (s .args .h .now) (s .args .w .now) (c .before .before .before .before .before .before .before .run .last .1 .0) _ (c .before .before .before .before .before .before .before .before .before .before .layout .ensures) (s .pre .1) (s .pre .2) (search needs)
 
--- src/lib.rt:138:25
 enum-known-r : tie.Need-enum-known-r
 enum-known-r c = search needs
 
--- src/lib.rt:131:1
 same-length : tie.Need-same-length
 same-length c = search needs
 
--- src/lib.rt:131:1
 same-length-2 : tie.Need-same-length-2
 same-length-2 c = search needs
 
--- src/lib.rt:131:1
 returns : tie.Need-returns
 returns c = let a = c .before .before .before .before .before .before .before .before .before .before .before .before .before .before .before .args in run-done (a .h .now) (a .w .now) _ (c .before .before .before .before .before .before .before .before .before .before .before .layout .ensures) _ _ _ (c .before .before .before .before .before .before .before .before .run .ensures) (c .before .before .enum-told .given .1) _ (c .log-determinant .ensures)
 
--- src/lib.rt:131:1
 same-length-3 : tie.Need-same-length-3
 same-length-3 c = search needs
 
--- src/lib.rt:131:1
 same-length-4 : tie.Need-same-length-4
 same-length-4 c = search needs
 
--- src/lib.rt:131:1
 returns-2 : tie.Need-returns-2
 returns-2 c = let a = c .before .before .before .before .before .before .before .before .before .before .before .before .before .before .args in run-refused (a .h .now) (a .w .now) _ (c .before .before .before .before .before .before .before .before .before .before .layout .ensures) _ _ _ (c .before .before .before .before .before .before .before .run .ensures) (c .before .r .given .0 .0) (c .before .r .given .1)
 

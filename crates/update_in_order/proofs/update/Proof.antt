@@ -8,43 +8,33 @@ use Rattle.update_in_order.proofs.update.Lts as lts
 use Rattle.begin.proofs.begin.Reads as begin-reads
 use Rattle.update_in_order.proofs.factor.Reads as factor-reads
 
--- src/lib.rt:146:11
 begin-requires : tie.Need-begin-requires
 begin-requires c κs = search needs
 
--- src/lib.rt:147:36
 enum-told : tie.Need-enum-told
 enum-told c = search needs
 
--- src/lib.rt:147:29
 factor-requires : tie.Need-factor-requires
 factor-requires c κs = let a = c .before .before .before .before .before .before .before .before .before .before .before .before .before .before .args in begun-ready (a .h .now) (a .w .now) (a .theta .now) _ _ _ (c .before .before .before .before .before .before .before .before .begin .ensures) (c .before .before .enum-told .given .1) (search needs) (search needs)
 
--- src/lib.rt:148:25
 enum-known-r : tie.Need-enum-known-r
 enum-known-r c = search needs
 
--- src/lib.rt:143:1
 same-length : tie.Need-same-length
 same-length c = search needs
 
--- src/lib.rt:143:1
 same-length-2 : tie.Need-same-length-2
 same-length-2 c = search needs
 
--- src/lib.rt:143:1
 returns : tie.Need-returns
 returns c = let a = c .before .before .before .before .before .before .before .before .before .before .before .before .before .before .before .before .before .before .before .args in begin-done (a .h .now) (a .w .now) (a .theta .now) _ _ _ (c .before .before .before .before .before .before .before .before .before .before .before .before .before .begin .ensures) (c .before .before .before .before .before .before .before .enum-told .given .1) _ _ _ (c .before .before .before .before .factor .ensures)
 
--- src/lib.rt:143:1
 same-length-3 : tie.Need-same-length-3
 same-length-3 c = search needs
 
--- src/lib.rt:143:1
 same-length-4 : tie.Need-same-length-4
 same-length-4 c = search needs
 
--- src/lib.rt:143:1
 returns-2 : tie.Need-returns-2
 returns-2 c = let a = c .before .before .before .before .before .before .before .before .before .before .before .before .before .args in begin-refused (a .h .now) (a .w .now) (a .theta .now) _ _ _ (c .before .before .before .before .before .before .before .begin .ensures) (c .before .r .given .0 .0) (c .before .r .given .1)
 

@@ -10,15 +10,12 @@ use Rattle.views.proofs.has_factor.Lts as lts
 use Rattle.deviance.proofs.is_finished.Reads as is-finished-reads
 use Rattle.heading.proofs.progress.Reads as progress-reads
 
--- src/lib.rt:49:9
 progress-requires : tie.Need-progress-requires
 progress-requires c κs = search needs
 
--- src/lib.rt:51:5
 is-finished-requires : tie.Need-is-finished-requires
 is-finished-requires c κs = search needs
 
--- src/lib.rt:45:1
 returns : tie.Need-returns
 returns c = c .is-finished .ensures ∙ ap (λ (g : Progress). isFinished (g .state)) (c .before .progress .ensures)
 

@@ -18,39 +18,30 @@ use Rattle.headed.proofs.is_headed.Reads as is-headed-reads
 use Rattle.heading.proofs.layout.Reads as layout-reads
 use Rattle.views.proofs.has_factor.Reads as has-factor-reads
 
--- src/lib.rt:58:8
 is-headed-requires : tie.Need-is-headed-requires
 is-headed-requires c κs = search needs
 
--- src/lib.rt:59:12
 has-factor-requires : tie.Need-has-factor-requires
 has-factor-requires c κs = let a = c .before .before .before .before .args in fits (a .h .now) (length (a .w .now)) (sym (c .before .is-headed .ensures) ∙ c .if1 .taken) .long
 
--- src/lib.rt:60:58
 layout-requires : tie.Need-layout-requires
 layout-requires c κs = let a = c .before .before .before .before .before .before .args in fits (a .h .now) (length (a .w .now)) (sym (c .before .before .before .is-headed .ensures) ∙ c .before .before .if1 .taken) .long
 
--- src/lib.rt:60:32
 log-determinant-requires : tie.Need-log-determinant-requires
 log-determinant-requires c κs = let a = c .before .before .before .before .before .before .before .args in workspace (a .h .now) (a .w .now) true (sym (c .before .before .before .before .is-headed .ensures) ∙ c .before .before .before .if1 .taken) _ (c .layout .ensures)
 
--- src/lib.rt:60:13
 returns : tie.Need-returns
 returns c = let a = c .before .before .before .before .before .before .before .before .args in finished (a .h .now) (a .w .now) (Value (logDeterminant (a .h .now) (a .w .now))) _ (c .before .before .before .before .before .is-headed .ensures) (c .before .before .before .before .if1 .taken) _ (c .before .before .before .has-factor .ensures) (c .before .before .if2 .taken) _ (determinant (a .h .now) (a .w .now) _ _ (c .before .layout .ensures) (c .log-determinant .ensures))
 
--- src/lib.rt:62:30
 refused-requires : tie.Need-refused-requires
 refused-requires c κs = search needs
 
--- src/lib.rt:62:9
 returns-2 : tie.Need-returns-2
 returns-2 c = let a = c .before .before .before .before .before .before .before .args in not-finished (a .h .now) (a .w .now) (Value (logDeterminant (a .h .now) (a .w .now))) _ (c .before .before .before .before .is-headed .ensures) (c .before .before .before .if1 .taken) _ (c .before .before .has-factor .ensures) (c .before .if2 .left) _ (c .refused .ensures)
 
--- src/lib.rt:64:19
 refused-requires-2 : tie.Need-refused-requires-2
 refused-requires-2 c κs = search needs
 
--- src/lib.rt:55:1
 returns-3 : tie.Need-returns-3
 returns-3 c = let a = c .before .before .before .before .before .args in not-headed (a .h .now) (a .w .now) (Value (logDeterminant (a .h .now) (a .w .now))) _ (c .before .before .is-headed .ensures) (c .before .if1 .left) _ (c .refused2 .ensures)
 

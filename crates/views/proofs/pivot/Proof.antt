@@ -21,39 +21,30 @@ use Rattle.heading.proofs.layout.Reads as layout-reads
 use Rattle.views.proofs.has_factor.Reads as has-factor-reads
 use Rattle.views.proofs.pivot_or_absent.Reads as pivot-or-absent-reads
 
--- src/lib.rt:118:8
 is-headed-requires : tie.Need-is-headed-requires
 is-headed-requires c κs = search needs
 
--- src/lib.rt:119:12
 has-factor-requires : tie.Need-has-factor-requires
 has-factor-requires c κs = let a = c .before .before .before .before .args in fits (a .h .now) (length (a .w .now)) (sym (c .before .is-headed .ensures) ∙ c .if1 .taken) .long
 
--- src/lib.rt:120:36
 layout-requires : tie.Need-layout-requires
 layout-requires c κs = let a = c .before .before .before .before .before .before .args in fits (a .h .now) (length (a .w .now)) (sym (c .before .before .before .is-headed .ensures) ∙ c .before .before .if1 .taken) .long
 
--- src/lib.rt:120:13
 pivot-or-absent-requires : tie.Need-pivot-or-absent-requires
 pivot-or-absent-requires c κs = let a = c .before .before .before .before .before .before .before .args in workspace (a .h .now) (a .w .now) true (sym (c .before .before .before .before .is-headed .ensures) ∙ c .before .before .before .if1 .taken) _ (c .layout .ensures)
 
--- src/lib.rt:120:13
 returns : tie.Need-returns
 returns c = let a = c .before .before .before .before .before .before .before .before .args in finished (a .h .now) (a .w .now) (pick (isPivot (layoutOf (a .h .now)) (a .block) (a .row)) (Value (cellOf (shape (layoutOf (a .h .now)) (entryRow (a .h .now)) (a .block) (a .block)) (workingBlock (a .h .now) (a .w .now) (a .block) (a .block)) (a .row) (a .row))) Absent) _ (c .before .before .before .before .before .is-headed .ensures) (c .before .before .before .before .if1 .taken) _ (c .before .before .before .has-factor .ensures) (c .before .before .if2 .taken) _ (pivot-same (a .h .now) (a .w .now) (a .block) (a .row) _ _ (c .before .layout .ensures) (c .pivot-or-absent .ensures))
 
--- src/lib.rt:122:30
 refused-requires : tie.Need-refused-requires
 refused-requires c κs = search needs
 
--- src/lib.rt:122:9
 returns-2 : tie.Need-returns-2
 returns-2 c = let a = c .before .before .before .before .before .before .before .args in not-finished (a .h .now) (a .w .now) (pick (isPivot (layoutOf (a .h .now)) (a .block) (a .row)) (Value (cellOf (shape (layoutOf (a .h .now)) (entryRow (a .h .now)) (a .block) (a .block)) (workingBlock (a .h .now) (a .w .now) (a .block) (a .block)) (a .row) (a .row))) Absent) _ (c .before .before .before .before .is-headed .ensures) (c .before .before .before .if1 .taken) _ (c .before .before .has-factor .ensures) (c .before .if2 .left) _ (c .refused .ensures)
 
--- src/lib.rt:124:19
 refused-requires-2 : tie.Need-refused-requires-2
 refused-requires-2 c κs = search needs
 
--- src/lib.rt:115:1
 returns-3 : tie.Need-returns-3
 returns-3 c = let a = c .before .before .before .before .before .args in not-headed (a .h .now) (a .w .now) (pick (isPivot (layoutOf (a .h .now)) (a .block) (a .row)) (Value (cellOf (shape (layoutOf (a .h .now)) (entryRow (a .h .now)) (a .block) (a .block)) (workingBlock (a .h .now) (a .w .now) (a .block) (a .block)) (a .row) (a .row))) Absent) _ (c .before .before .is-headed .ensures) (c .before .if1 .left) _ (c .refused2 .ensures)
 

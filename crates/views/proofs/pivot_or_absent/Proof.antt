@@ -8,23 +8,18 @@ use Rattle.views.proofs.pivot_or_absent.Lts as lts
 use Rattle.pivot_places.proofs.read_pivot.Reads as read-pivot-reads
 use Rattle.pivot_places.proofs.rows.Reads as rows-reads
 
--- src/lib.rt:107:16
 rows-requires : tie.Need-rows-requires
 rows-requires c κs = search needs
 
--- src/lib.rt:108:32
 read-pivot-requires : tie.Need-read-pivot-requires
 read-pivot-requires c κs = search needs
 
--- src/lib.rt:108:13
 returns : tie.Need-returns
 returns c = let a = c .before .before .before .before .before .before .args in a-pivot (a .y) (a .w .now) (a .j) (a .r) (c .before .before .before .if1 .taken) _ (c .before .before .rows .ensures) (c .before .if2 .taken) _ (c .read-pivot .ensures)
 
--- src/lib.rt:102:1
 returns-2 : tie.Need-returns-2
 returns-2 c = let a = c .before .before .before .before .before .args in no-row (a .y) (a .w .now) (a .j) (a .r) (c .before .before .if1 .taken) _ (c .before .rows .ensures) (c .if2 .left)
 
--- src/lib.rt:102:1
 returns-3 : tie.Need-returns-3
 returns-3 c = let a = c .before .before .before .args in no-block (a .y) (a .w .now) (a .j) (a .r) (c .if1 .left)
 

@@ -11,23 +11,18 @@ use Rattle.deviance.proofs.refused.Reads as refused-reads
 use Rattle.headed.proofs.is_headed.Reads as is-headed-reads
 use Rattle.heading.proofs.progress.Reads as progress-reads
 
--- src/lib.rt:37:8
 is-headed-requires : tie.Need-is-headed-requires
 is-headed-requires c κs = search needs
 
--- src/lib.rt:38:13
 progress-requires : tie.Need-progress-requires
 progress-requires c κs = fits (c .before .before .before .args .h .now) 2199023255552 (sym (c .before .is-headed .ensures) ∙ c .if1 .taken) .long
 
--- src/lib.rt:39:9
 returns : tie.Need-returns
 returns c = steps (c .before .before .before .before .args .h .now) _ (c .before .before .is-headed .ensures) (c .before .if1 .taken) _ (c .progress .ensures)
 
--- src/lib.rt:41:19
 refused-requires : tie.Need-refused-requires
 refused-requires c κs = search needs
 
--- src/lib.rt:34:1
 returns-2 : tie.Need-returns-2
 returns-2 c = no-heading (c .before .before .before .before .args .h .now) _ (c .before .before .is-headed .ensures) (c .before .if1 .left) _ (c .refused .ensures)
 

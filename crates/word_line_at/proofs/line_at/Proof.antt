@@ -7,109 +7,85 @@ use borrow.Author.Needs.{needs}
 use Rattle.word_line_at.proofs.line_at.Statement.{statement}
 use Rattle.word_line_at.proofs.line_at.Tie as tie
 
--- src/lib.rt:32:36
 enum-told : tie.Need-enum-told
 enum-told c = search needs
 
--- src/lib.rt:32:36
 slice-aggregate-pair-line : tie.Need-slice-aggregate-pair-line
 slice-aggregate-pair-line c = search needs
 
--- src/lib.rt:32:20
 pair-line-requires : tie.Need-pair-line-requires
 pair-line-requires c κs = search needs
 
--- src/lib.rt:33:36
 enum-told-2 : tie.Need-enum-told-2
 enum-told-2 c = search needs
 
--- src/lib.rt:33:36
 slice-aggregate-pair-line-2 : tie.Need-slice-aggregate-pair-line-2
 slice-aggregate-pair-line-2 c = search needs
 
--- src/lib.rt:33:20
 pair-line-requires-2 : tie.Need-pair-line-requires-2
 pair-line-requires-2 c κs = search needs
 
--- src/lib.rt:34:38
 enum-told-3 : tie.Need-enum-told-3
 enum-told-3 c = search needs
 
--- src/lib.rt:34:38
 slice-aggregate-single-line : tie.Need-slice-aggregate-single-line
 slice-aggregate-single-line c = search needs
 
--- src/lib.rt:34:20
 single-line-requires : tie.Need-single-line-requires
 single-line-requires c κs = search needs
 
--- src/lib.rt:35:36
 enum-told-4 : tie.Need-enum-told-4
 enum-told-4 c = search needs
 
--- src/lib.rt:35:36
 slice-aggregate-pair-line-3 : tie.Need-slice-aggregate-pair-line-3
 slice-aggregate-pair-line-3 c = search needs
 
--- src/lib.rt:35:20
 pair-line-requires-3 : tie.Need-pair-line-requires-3
 pair-line-requires-3 c κs = search needs
 
--- src/lib.rt:36:38
 enum-told-5 : tie.Need-enum-told-5
 enum-told-5 c = search needs
 
--- src/lib.rt:36:38
 slice-aggregate-single-line-2 : tie.Need-slice-aggregate-single-line-2
 slice-aggregate-single-line-2 c = search needs
 
--- src/lib.rt:36:20
 single-line-requires-2 : tie.Need-single-line-requires-2
 single-line-requires-2 c κs = search needs
 
--- src/lib.rt:37:36
 enum-told-6 : tie.Need-enum-told-6
 enum-told-6 c = search needs
 
--- src/lib.rt:37:36
 slice-aggregate-bare-line : tie.Need-slice-aggregate-bare-line
 slice-aggregate-bare-line c = search needs
 
--- src/lib.rt:37:20
 bare-line-requires : tie.Need-bare-line-requires
 bare-line-requires c κs = search needs
 
--- src/lib.rt:28:1
 returns : tie.Need-returns
 returns c =
     let a = c .before .before .before .before .before .args in
     c .pair-line .ensures ∙ ap (λ (run : Run). lineOf run (now (a .s)) (a .at)) (sym (c .before .before .enum-told .given .1))
 
--- src/lib.rt:28:1
 returns-2 : tie.Need-returns-2
 returns-2 c =
     let a = c .before .before .before .before .before .args in
     c .pair-line2 .ensures ∙ ap (λ (run : Run). lineOf run (now (a .s)) (a .at)) (sym (c .before .before .enum-told2 .given .1))
 
--- src/lib.rt:28:1
 returns-3 : tie.Need-returns-3
 returns-3 c =
     let a = c .before .before .before .before .before .args in
     c .single-line .ensures ∙ ap (λ (run : Run). lineOf run (now (a .s)) (a .at)) (sym (c .before .before .enum-told3 .given .1))
 
--- src/lib.rt:28:1
 returns-4 : tie.Need-returns-4
 returns-4 c =
     let a = c .before .before .before .before .before .args in
     c .pair-line3 .ensures ∙ ap (λ (run : Run). lineOf run (now (a .s)) (a .at)) (sym (c .before .before .enum-told4 .given .1))
 
--- src/lib.rt:28:1
 returns-5 : tie.Need-returns-5
 returns-5 c =
     let a = c .before .before .before .before .before .args in
     c .single-line2 .ensures ∙ ap (λ (run : Run). lineOf run (now (a .s)) (a .at)) (sym (c .before .before .enum-told5 .given .1))
 
--- src/lib.rt:28:1
 returns-6 : tie.Need-returns-6
 returns-6 c =
     let a = c .before .before .before .before .before .args in

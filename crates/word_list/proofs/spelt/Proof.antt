@@ -1,8 +1,11 @@
--- `word_list::spelt` meets its contract.
 use borrow.Author.Needs.{needs}
-use Prim.Native.Nat.{_≤_, _-_}
+use Prim.Native.Nat.{_≤_}
+use Prim.Native.Nat.{_-_}
 use Rattle.word_list.proofs.spelt.Statement.{statement}
 use Rattle.word_list.proofs.spelt.Tie as tie
+use Rattle.word_list.proofs.spelt.Reads as reads
+use Rattle.word_list.proofs.spelt.Lts as lts
+use Rattle.word_list.proofs.wide.Reads as wide-reads
 
 abbrev Inv-loop : tie.InvT-loop
 Inv-loop line w₀ i₀ w i = i ≤ 16
@@ -13,17 +16,23 @@ abbrev μ-loop : tie.MeasureT-loop
 loop-holds : tie.Need-loop-holds Inv-loop μ-loop
 loop-holds c = search needs
 
+element-copy-out-wide : tie.Need-element-copy-out-wide Inv-loop μ-loop
+element-copy-out-wide c = search needs
+
+wide-requires : tie.Need-wide-requires Inv-loop μ-loop
+wide-requires c κs = search needs
+
 mul-w : tie.Need-mul-w Inv-loop μ-loop
 mul-w c = search needs
 
-element-copy-out-digit : tie.Need-element-copy-out-digit Inv-loop μ-loop
-element-copy-out-digit c = search needs
-
-digit-requires : tie.Need-digit-requires Inv-loop μ-loop
-digit-requires c κs = search needs
+mul-w-2 : tie.Need-mul-w-2 Inv-loop μ-loop
+mul-w-2 c = search needs
 
 add-w : tie.Need-add-w Inv-loop μ-loop
 add-w c = search needs
+
+add-w-2 : tie.Need-add-w-2 Inv-loop μ-loop
+add-w-2 c = search needs
 
 add-i : tie.Need-add-i Inv-loop μ-loop
 add-i c = search needs
@@ -44,10 +53,12 @@ spelt-spec =
     Inv-loop
     μ-loop
     loop-holds
+    element-copy-out-wide
+    wide-requires
     mul-w
-    element-copy-out-digit
-    digit-requires
+    mul-w-2
     add-w
+    add-w-2
     add-i
     loop-less
     loop-again

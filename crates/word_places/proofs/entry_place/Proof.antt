@@ -9,35 +9,29 @@ use borrow.Author.Needs.{needs}
 use Rattle.word_places.proofs.entry_place.Statement.{statement}
 use Rattle.word_places.proofs.entry_place.Tie as tie
 
--- src/lib.rt:84:9
 block-of-requires : tie.Need-block-of-requires
 block-of-requires c κs = search needs
 
--- src/lib.rt:86:9
 returns : tie.Need-returns
 returns c =
     let s = c .before .before .before in
     entry-none (s .args .y) (s .args .col) (s .args .row) (c .before .before .block-of .result) (c .before .before .block-of .ensures) (omega arith)
 
--- src/lib.rt:88:9
 level-of-requires : tie.Need-level-of-requires
 level-of-requires c κs =
     let s = c .before .before .before in
     let b = c .before .before .block-of in
     (s .pre .0, s .pre .2, omega arith, found (s .args .y) (s .args .row) (b .result) (b .ensures) (omega arith))
 
--- src/lib.rt:90:17
 start-of-requires : tie.Need-start-of-requires
 start-of-requires c κs = search needs
 
--- src/lib.rt:90:17
 add-result : tie.Need-add-result
 add-result c =
     let s = c .before .before .before .before .before .before in
     let i = c .before .before .before .before .before .block-of .result in
     omega (arith, c .start-of .ensures .1, c .before .before .level-of .ensures .1, is-lawful (s .args .y) (s .pre .0) .level i (omega arith) .1)
 
--- src/lib.rt:90:9
 returns-2 : tie.Need-returns-2
 returns-2 c =
     let s = c .before .before .before .before .before .before in
@@ -45,29 +39,24 @@ returns-2 c =
     ap₂ (λ (u v : ℕ). u + v) (c .start-of .ensures .0) (c .before .before .level-of .ensures .0)
     ∙ entry-own (s .args .y) (s .args .col) (s .args .row) (b .result) (b .ensures) (omega arith) (c .before .if2 .taken)
 
--- src/lib.rt:92:9
 block-of-requires-2 : tie.Need-block-of-requires-2
 block-of-requires-2 c κs = search needs
 
--- src/lib.rt:94:9
 returns-3 : tie.Need-returns-3
 returns-3 c =
     let s = c .before .before .before .before .before .before .before in
     let b = c .before .before .before .before .before .before .block-of in
     entry-mirror (s .args .y) (s .args .col) (s .args .row) (b .result) (b .ensures) (omega arith) (c .before .before .if2 .left) (c .before .block-of2 .result) (c .before .block-of2 .ensures) (omega arith)
 
--- src/lib.rt:96:9
 level-of-requires-2 : tie.Need-level-of-requires-2
 level-of-requires-2 c κs =
     let s = c .before .before .before .before .before .before .before in
     let b = c .before .block-of2 in
     (s .pre .0, s .pre .2, omega arith, found (s .args .y) (s .args .col) (b .result) (b .ensures) (omega arith))
 
--- src/lib.rt:97:6
 start-of-requires-2 : tie.Need-start-of-requires-2
 start-of-requires-2 c κs = search needs
 
--- src/lib.rt:97:29
 pair-place-requires : tie.Need-pair-place-requires
 pair-place-requires c κs =
     let s = c .before .before .before .before .before .before .before .before .before in
@@ -80,11 +69,9 @@ pair-place-requires c κs =
       omega (arith, c .before .before .before .before .before .level-of .ensures .1, is-lawful (s .args .y) (s .pre .0) .level i (omega arith) .1),
     )
 
--- src/lib.rt:97:6
 add-result-2 : tie.Need-add-result-2
 add-result-2 c = search needs
 
--- src/lib.rt:80:1
 returns-4 : tie.Need-returns-4
 returns-4 c =
     let s = c .before .before .before .before .before .before .before .before .before .before in

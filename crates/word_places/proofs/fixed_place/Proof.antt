@@ -8,34 +8,28 @@ use borrow.Author.Needs.{needs}
 use Rattle.word_places.proofs.fixed_place.Statement.{statement}
 use Rattle.word_places.proofs.fixed_place.Tie as tie
 
--- src/lib.rt:105:9
 block-of-requires : tie.Need-block-of-requires
 block-of-requires c κs = search needs
 
--- src/lib.rt:107:9
 returns : tie.Need-returns
 returns c =
     let s = c .before .before .before in
     fixed-none (s .args .y) (s .args .x) (s .args .r) (c .before .before .block-of .result) (c .before .before .block-of .ensures) (omega arith)
 
--- src/lib.rt:109:9
 level-of-requires : tie.Need-level-of-requires
 level-of-requires c κs =
     let s = c .before .before .before in
     let b = c .before .before .block-of in
     (s .pre .0, s .pre .2, omega arith, found (s .args .y) (s .args .x) (b .result) (b .ensures) (omega arith))
 
--- src/lib.rt:110:6
 start-of-requires : tie.Need-start-of-requires
 start-of-requires c κs = search needs
 
--- src/lib.rt:110:37
 add-result : tie.Need-add-result
 add-result c =
     let s = c .before .before .before .before .before .before in
     omega (arith, is-lawful (s .args .y) (s .pre .0) .effects .1)
 
--- src/lib.rt:110:32
 mul-result : tie.Need-mul-result
 mul-result c =
     let s = c .before .before .before .before .before .before in
@@ -43,7 +37,6 @@ mul-result c =
     let v = c .before .before .level-of in
     omega (arith, fixed-low (v .result) (s .args .y .p) (omega (arith, v .ensures .1, is-lawful (s .args .y) (s .pre .0) .level j (omega arith) .1)) (is-lawful (s .args .y) (s .pre .0) .effects .1))
 
--- src/lib.rt:110:32
 add-result-2 : tie.Need-add-result-2
 add-result-2 c =
     let s = c .before .before .before .before .before .before in
@@ -51,7 +44,6 @@ add-result-2 c =
     let v = c .before .before .level-of in
     omega (arith, is-lawful (s .args .y) (s .pre .0) .effects .1, fixed-low (v .result) (s .args .y .p) (omega (arith, v .ensures .1, is-lawful (s .args .y) (s .pre .0) .level j (omega arith) .1)) (is-lawful (s .args .y) (s .pre .0) .effects .1))
 
--- src/lib.rt:110:6
 add-result-3 : tie.Need-add-result-3
 add-result-3 c =
     let s = c .before .before .before .before .before .before in
@@ -59,7 +51,6 @@ add-result-3 c =
     let v = c .before .before .level-of in
     omega (arith, c .before .start-of .ensures .1, is-lawful (s .args .y) (s .pre .0) .effects .1, fixed-low (v .result) (s .args .y .p) (omega (arith, v .ensures .1, is-lawful (s .args .y) (s .pre .0) .level j (omega arith) .1)) (is-lawful (s .args .y) (s .pre .0) .effects .1))
 
--- src/lib.rt:101:1
 returns-2 : tie.Need-returns-2
 returns-2 c =
     let s = c .before .before .before .before .before .before in

@@ -7,21 +7,17 @@ use Rattle.block_map.proofs.Rows.{in-block}
 use Rattle.word_places.proofs.level_of.Statement.{statement}
 use Rattle.word_places.proofs.level_of.Tie as tie
 
--- src/lib.rt:55:9
 mul-result : tie.Need-mul-result
 mul-result c = omega (arith, is-lawful (c .args .y) (c .pre .0) .blocks .1)
 
--- src/lib.rt:55:9
 element-copy-out-result : tie.Need-element-copy-out-result
 element-copy-out-result c = omega (arith, is-lawful (c .args .y) (c .pre .0) .blocks .1)
 
--- src/lib.rt:55:5
 sub-result : tie.Need-sub-result
 sub-result c =
     let s = c .before in
     omega (arith, s .pre .1 (s .args .j) (s .pre .2), in-block (s .args .y) (s .args .j) (s .args .x) (s .pre .3) .0)
 
--- src/lib.rt:50:1
 returns : tie.Need-returns
 returns c =
     let s = c .before in

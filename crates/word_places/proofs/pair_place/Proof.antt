@@ -18,37 +18,31 @@ use Rattle.word_places.proofs.pair_place.Tie as tie
 low : (y : Layout) (l : List ℕ) (i c r : ℕ) → lawful y ≡ true → l ≡ y .m → i < y .k → c ≤ 65535 → r ≤ 65535 → c * getD l i 0 + r ≤ 4295032832
 low y l i c r ok e h f g = cell-low c (getD l i 0) r f (omega (arith, ap (λ (t : List ℕ). getD t i 0) e, is-lawful y ok .level i h .1)) g
 
--- src/lib.rt:73:9
 returns : tie.Need-returns
 returns c = search needs
 
--- src/lib.rt:76:9
 mul-result : tie.Need-mul-result
 mul-result c =
     let s = c .before in
     omega (arith, is-lawful (s .args .y) (s .pre .0) .blocks .1)
 
--- src/lib.rt:76:9
 element-copy-out-result : tie.Need-element-copy-out-result
 element-copy-out-result c =
     let s = c .before in
     omega (arith, is-lawful (s .args .y) (s .pre .0) .blocks .1)
 
--- src/lib.rt:76:5
 mul-result-2 : tie.Need-mul-result-2
 mul-result-2 c =
     let s = c .before .before in
     let a = s .args in
     omega (arith, low (a .y) (now (a .counts)) (a .i) (a .c) (a .r) (s .pre .0) (s .pre .1) (s .pre .2) (s .pre .3) (s .pre .4))
 
--- src/lib.rt:76:5
 add-result : tie.Need-add-result
 add-result c =
     let s = c .before .before in
     let a = s .args in
     omega (arith, low (a .y) (now (a .counts)) (a .i) (a .c) (a .r) (s .pre .0) (s .pre .1) (s .pre .2) (s .pre .3) (s .pre .4))
 
--- src/lib.rt:68:1
 returns-2 : tie.Need-returns-2
 returns-2 c =
     let s = c .before .before in

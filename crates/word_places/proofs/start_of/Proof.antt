@@ -5,23 +5,18 @@ use Rattle.word_places.proofs.Places.{start-low}
 use Rattle.word_places.proofs.start_of.Statement.{statement}
 use Rattle.word_places.proofs.start_of.Tie as tie
 
--- src/lib.rt:63:14
 mul-t : tie.Need-mul-t
 mul-t c = omega (arith, is-lawful (c .args .y) (c .pre .0) .blocks .1)
 
--- src/lib.rt:63:14
 add-t : tie.Need-add-t
 add-t c = omega (arith, is-lawful (c .args .y) (c .pre .0) .blocks .1)
 
--- src/lib.rt:64:5
 mul-result : tie.Need-mul-result
 mul-result c = omega (arith, is-lawful (c .args .y) (c .pre .0) .blocks .1)
 
--- src/lib.rt:64:5
 element-copy-out-result : tie.Need-element-copy-out-result
 element-copy-out-result c = omega (arith, is-lawful (c .args .y) (c .pre .0) .blocks .1)
 
--- src/lib.rt:59:1
 returns : tie.Need-returns
 returns c =
     let s = c .before in

@@ -8,25 +8,20 @@ use Rattle.working_blocks.proofs.rows_of.Tie as tie
 use Rattle.working_blocks.proofs.rows_of.Reads as reads
 use Rattle.working_blocks.proofs.rows_of.Lts as lts
 
--- src/lib.rt:15:16
 add-result : tie.Need-add-result
 add-result c = let s = c .before in omega (arith, few-effects (s .args .t1) (s .pre .0))
 
--- src/lib.rt:15:9
 returns : tie.Need-returns
 returns c = let s = c .before in sym (rows-last (s .args .t1) (s .args .i) (c .if1 .taken))
 
--- src/lib.rt:18:5
 mul-result : tie.Need-mul-result
 mul-result c = let s = c .before in omega (arith, few-blocks (s .args .t1) (s .pre .0))
 
--- src/lib.rt:18:5
 element-copy-out-result : tie.Need-element-copy-out-result
 element-copy-out-result c =
     let s = c .before in
     omega (arith, few-blocks (s .args .t1) (s .pre .0), below (s .args .i) (s .args .t1 .k) (s .pre .1) (c .if1 .left))
 
--- src/lib.rt:10:1
 returns-2 : tie.Need-returns-2
 returns-2 c =
     let s = c .before .before in

@@ -8,23 +8,18 @@ use Rattle.heading_rules.proofs.Progress.mark.Tie as tie
 use Rattle.heading_rules.proofs.Progress.mark.Reads as reads
 use Rattle.heading_rules.proofs.Progress.mark.Lts as lts
 
--- src/lib.rt:49:9
 mul-stages : tie.Need-mul-stages
 mul-stages c = search needs
 
--- src/lib.rt:49:9
 array-write-stages : tie.Need-array-write-stages
 array-write-stages c = search needs
 
--- src/lib.rt:50:20
 sub-left : tie.Need-sub-left
 sub-left c = search needs
 
--- src/lib.rt:52:13
 returns : tie.Need-returns
 returns c = rw (eq-eqb (c .before .before .before .args .self .left) 1 (omega arith))
 
--- src/lib.rt:44:5
 returns-2 : tie.Need-returns-2
 returns-2 c = rw (ne-eqb (c .before .before .before .args .self .left) 1 (λ e. omega arith))
 

@@ -1,0 +1,30 @@
+-- What the calls tell under C's conventions, by what they answer.
+use Prim.Native.Nat.{ℕ}
+use mathlib.Core.Path.{_≡_, sym, ap, _∙_}
+use mathlib.Core.List.{List}
+use lib.Ieee.{Float}
+use Rattle.refusal.specs.declared.Answer.{Answer}
+use Rattle.refusal.specs.Numbers.{refusalOf}
+use Rattle.workspace.specs.Memory.{Workspace}
+use Rattle.workspace.specs.Answers.{Outcome}
+use Rattle.profile.specs.declared.Deviance.{Deviance}
+use Rattle.profile.specs.Deviance.{Profiled}
+use Rattle.calls_c.specs.Answers.{numberOf, valued}
+
+-- a call's outcome from its answer's number and what it left
+pub outcome-told : {n : ℕ} → {a : Answer} → {s : Workspace} → {o : Outcome} → n ≡ refusalOf a .number → record { answer = a; left = s } ≡ o
+    → (n ≡ refusalOf (o .answer) .number) × (o .left ≡ s)
+outcome-told e f = (e ∙ ap (λ (o : Outcome). refusalOf (o .answer) .number) f, sym (ap (λ (o : Outcome). o .left) f))
+
+-- the same of a deviance, whose value stands in a list
+pub deviance-told : {n : ℕ} → {d d′ : Deviance} → (v : List Float) → {v′ : List Float} → (n ≡ numberOf d) × (v′ ≡ valued d v) → d ≡ d′
+    → (n ≡ numberOf d′) × (v′ ≡ valued d′ v)
+deviance-told v e f = (e .0 ∙ ap numberOf f, e .1 ∙ ap (λ (d : Deviance). valued d v) f)
+
+pub profile-told : {n : ℕ} → {d : Deviance} → {s : Workspace} → {o : Profiled} → (v : List Float) → {v′ : List Float} → (n ≡ numberOf d) × (v′ ≡ valued d v)
+    → record { answer = d; left = s } ≡ o → (n ≡ numberOf (o .answer)) × (o .left ≡ s) × (v′ ≡ valued (o .answer) v)
+profile-told v e f = (
+  e .0 ∙ ap (λ (o : Profiled). numberOf (o .answer)) f,
+  sym (ap (λ (o : Profiled). o .left) f),
+  e .1 ∙ ap (λ (o : Profiled). valued (o .answer) v) f,
+)

@@ -1,0 +1,48 @@
+-- `kernels::diagonals::rank_sub_diagonal` meets its contract.
+use mathlib.Core.Path.{sym}
+use Rattle.storage.proofs.Places.{size-diagonal}
+use borrow.Author.Tests.{ltb-false}
+use Rattle.kernels.proofs.Laws.{clear-at, neither}
+use borrow.Author.Needs.{needs}
+use Rattle.kernels.proofs.diagonals.rank_sub_diagonal.Statement.{statement}
+use Rattle.kernels.proofs.diagonals.rank_sub_diagonal.Tie as tie
+
+columns-size-requires : tie.Need-columns-size-requires
+columns-size-requires c κs = search needs
+
+clash-requires : tie.Need-clash-requires
+clash-requires c κs = search needs
+
+clash-requires-2 : tie.Need-clash-requires-2
+clash-requires-2 c κs = search needs
+
+returns : tie.Need-returns
+returns c = search needs
+
+rank-sub-diagonal-requires : tie.Need-rank-sub-diagonal-requires
+rank-sub-diagonal-requires c κs =
+    let p = neither _ _ (c .before .if1 .left) in
+    let q = neither _ _ (p .0) in
+    let n = sym (size-diagonal _) in
+    let m = c .before .before .before .before .before .columns-size .ensures .0 in
+    let h = clear-at n m (c .before .before .before .clash .ensures (q .1)) in
+    let l = clear-at n m (c .before .before .clash2 .ensures (p .1)) in
+    ((ltb-false _ _ (q .0), h .first, h .second, l .second), (h .apart, l .apart))
+
+same-length : tie.Need-same-length
+same-length c = search needs
+
+returns-2 : tie.Need-returns-2
+returns-2 c = search needs
+
+pub rank-sub-diagonal-spec : {M : Type 1} → statement M
+rank-sub-diagonal-spec =
+    tie.close
+    (tie.spec
+    columns-size-requires
+    clash-requires
+    clash-requires-2
+    returns
+    rank-sub-diagonal-requires
+    same-length
+    returns-2)

@@ -1,2 +1,0 @@
-pub mod Tallies
-pub mod Judged

@@ -1,0 +1,95 @@
+-- Sums by rows of the target, and the target less them.
+use Prim.Native.Nat.{ℕ, suc, _+_, _-_, _*_, _≤_, _<_}
+use mathlib.Core.Path.{_≡_, refl, ap, ap₂, _∙_}
+use mathlib.Core.List.{List}
+use native.Mathlib.Nat.{mul-le-mul}
+use native.Mathlib.Omega.{arith}
+use borrow.Rule.Slice.PartMut.{putMid}
+use lib.ListN.{length, take, drop}
+use lib.Ieee.{Float, nan}
+use Rattle.storage.specs.Runs.{start, dense, tab, cells}
+use Rattle.storage.specs.Shape.{columns, sizeOf, fill}
+use Rattle.storage.specs.Part.{store}
+use Rattle.storage.proofs.Starts.{start-dense, start-below}
+use Rattle.storage.proofs.Cells.{length-tab, tab-ext, length-cells, getD-cells, cells-ext}
+use Rattle.storage.proofs.Parts.{store-store, store-in, store-lent, getD-part}
+use Rattle.rules.specs.Arithmetic.{ieee}
+use Rattle.rules.specs.Steps.{subtractDense}
+use Rattle.blocks.specs.Blocks.{block}
+use Rattle.blocks.specs.Done.{Done}
+use Rattle.blocks.proofs.Laws.{read-block, has-dense, own, run-written}
+use Rattle.axpy.specs.Axpy.{at, run, along, products}
+use Rattle.axpy.proofs.Sums.{read-run, sum-along, along-swap}
+use Rattle.schur_few.specs.Few.{rowSums, lessSum, lessSums}
+
+-- a run that is cleared and gets the products of one row of block a
+pub row-summed : (w t t₁ t₂ : List Float) (n a rows b r inner : ℕ) → n ≤ length t → t₁ ≡ run 0 n (λ i. ieee .zero) t
+    → t₂ ≡ products (ieee .plus) t₁ n w b n w a rows r inner → t₂ ≡ run 0 n (rowSums a rows b n inner w r) t
+row-summed w t t₁ t₂ n a rows b r inner room first then =
+    let z : ℕ → Float = λ i. ieee .zero in
+    let g : List Float → ℕ → Float = λ l i. along (ieee .plus) (at l i) (block b (columns n inner) w i) (block a (columns rows inner) w r) inner in
+    then ∙ ap (λ (l : List Float). run 0 n (g l) l) first
+    ∙ store-store 0 (tab n z) t (omega (arith, length-tab n z)) (tab n (g (run 0 n z t))) (omega (arith, length-tab n z, length-tab n (g (run 0 n z t))))
+    ∙ ap (λ (l : List Float). store 0 l t)
+    (tab-ext n _ _
+    (λ i l.
+    ap (λ (x : Float). along (ieee .plus) x (block b (columns n inner) w i) (block a (columns rows inner) w r) inner)
+    (read-run 0 n z t (omega arith) i i l (omega arith))))
+
+-- one column more
+pub column-less : (rows cols : ℕ) (sums t₀ : List Float) → sizeOf (columns rows cols) ≤ length t₀ → (c : ℕ) → c < cols → (t t′ : List Float)
+    → Done 0 (dense rows) (lessSums rows cols sums t₀) t₀ c 0 t → (to : ℕ) → to ≡ start (dense rows) c → t′ ≡ run to rows (lessSum to cols sums c t) t
+    → Done 0 (dense rows) (lessSums rows cols sums t₀) t₀ (suc c) 0 t′
+column-less rows cols sums t₀ fits c more t t′ so to e then =
+    run-written 0 (dense rows) (lessSums rows cols sums t₀) t₀ cols (omega arith) c more t t′ so to rows _ (omega arith) refl
+    (λ i l.
+    ap (λ (s : Float). ieee .minus s (at sums (start (dense cols) i + c)))
+    (ap (λ (k : ℕ). at t (k + i)) e
+    ∙ own 0 (dense rows) (lessSums rows cols sums t₀) t₀ cols (omega arith) c more 0 (omega arith) t so (start (dense rows) c + i) _ (omega arith)))
+    then
+
+-- a sum that is read
+sum-read : (rows cols : ℕ) (rule : ℕ → ℕ → Float) (sums t : List Float) → sizeOf (columns cols rows) ≤ length t
+    → sums ≡ store 0 (cells (dense cols) rows rule) t → (r c : ℕ) → r < rows → c < cols → at sums (start (dense cols) r + c) ≡ rule r c
+sum-read rows cols rule sums t room made r c h l =
+    let L : List Float = cells (dense cols) rows rule in
+    let q : length L ≡ start (dense cols) rows = length-cells (dense cols) rows rule in
+    let k : start (dense cols) r + c ≡ 0 + (start (dense cols) r + c) = omega arith in
+    ap₂ (λ (x : List Float) (i : ℕ). at x i) made k
+    ∙ store-in 0 L t (omega arith) nan (start (dense cols) r + c) (omega (arith, start-below (dense cols) r rows h))
+    ∙ getD-cells (dense cols) rows rule r c nan h l
+
+-- the block at off, lent, less the sums
+pub few-less : (w y sums t : List Float) (off end rows cols a b inner : ℕ) → end ≡ off + sizeOf (columns rows cols) → end ≤ length w
+    → sizeOf (columns cols rows) ≤ length t → sums ≡ store 0 (cells (dense cols) rows (rowSums a rows b cols inner w)) t
+    → y ≡ store 0 (cells (dense rows) cols (lessSums rows cols sums (take (end - off) (drop off w)))) (take (end - off) (drop off w))
+    → putMid off (end - off) w y
+    ≡ store off
+    (fill (columns rows cols)
+    (subtractDense ieee (block off (columns rows cols) w) (block a (columns rows inner) w) (block b (columns cols inner) w) inner))
+    w
+unfolding fill
+few-less w y sums t off end rows cols a b inner e top room made so =
+    let P : List Float = take (end - off) (drop off w) in
+    let L : List Float = cells (dense rows) cols (lessSums rows cols sums P) in
+    let q : length L ≡ start (dense rows) cols = length-cells (dense rows) cols (lessSums rows cols sums P) in
+    let k : off + 0 ≡ off = omega arith in
+    ap (putMid off (end - off) w) so ∙ store-lent w off (end - off) 0 L (omega arith) (omega arith)
+    ∙ ap₂ (λ (x : ℕ) (l : List Float). store x l w) k
+    (cells-ext (dense rows) cols _ _
+    (λ c i h l.
+    let in-block : start (dense rows) c + rows ≤ start (dense rows) cols = start-below (dense rows) c cols h in
+    ap₂ (ieee .minus)
+    (getD-part off (end - off) w (start (dense rows) c + i) nan (omega arith)
+    ∙ read-block (columns rows cols) off w i c (off + (start (dense rows) c + i)) (has-dense rows cols i c l h) (omega arith) refl)
+    (sum-read rows cols (rowSums a rows b cols inner w) sums t room made i c l h
+    ∙ along-swap (ieee .plus) (ieee .zero) (block b (columns cols inner) w c) (block a (columns rows inner) w i) inner
+    ∙ sum-along (ieee .zero) (block a (columns rows inner) w i) (block b (columns cols inner) w c) inner)))
+
+-- the list of sums is long enough
+pub few-room : (rows cols : ℕ) → rows ≤ 12 → cols ≤ 316 → sizeOf (columns cols rows) ≤ 3792
+few-room rows cols h k = omega (arith, start-dense cols rows, mul-le-mul h k)
+
+-- where the block ends
+pub block-ends : (off rows cols : ℕ) → off + cols * rows ≡ off + sizeOf (columns rows cols)
+block-ends off rows cols = omega (arith, start-dense rows cols)

@@ -1,0 +1,111 @@
+// S of a dense cross block that has few rows (document 01, Record 4), on the whole list of doubles. The sums of a row of the target lie side by
+// side, since its columns are too short for packed loops; then they are subtracted column by column.
+ghost use mathlib.Core.Path.{_≡_};
+ghost use Prim.Native.Nat.{_+_, _≤_, _<_};
+ghost use lib.ListN.{length};
+ghost use Rattle.storage.specs.Runs.{dense, cells};
+ghost use Rattle.storage.specs.Shape.{columns, sizeOf, fill};
+ghost use Rattle.storage.specs.Part.{store};
+ghost use Rattle.rules.specs.Arithmetic.{ieee};
+ghost use Rattle.rules.specs.Steps.{subtractDense};
+ghost use Rattle.blocks.specs.Blocks.{block};
+ghost use Rattle.axpy.specs.Axpy.{run};
+ghost use Rattle.schur_few.specs.Few.{rowSums, lessSum, lessSums};
+
+// The first n doubles of t become the sums of the products of rows 0 to n - 1 of block b and row r of block a.
+fn sum_row(
+    t: &mut [f64],
+    n: usize,
+    w: &[f64],
+    a: usize,
+    rows: usize,
+    b: usize,
+    r: usize,
+    inner: usize,
+)
+    requires { ⌜ (n ≤ length (now t)) × (r < rows) × (a + sizeOf (columns rows inner) ≤ length (now w)) × (b + sizeOf (columns n inner) ≤ length (now w)) ⌝ }
+    ensures { λ _. ⌜ now (t .exit) ≡ run 0 n (rowSums a rows b n inner (now (w .entry)) r) (now (t .entry)) ⌝ }
+{
+    run_copies::clear(t, n);
+    axpy_products::add_products(t, n, w, b, n, w, a, rows, r, inner);
+}
+
+// The same on the n doubles of t from `from` on.
+fn sum_row_at(
+    t: &mut [f64],
+    from: usize,
+    n: usize,
+    w: &[f64],
+    a: usize,
+    rows: usize,
+    b: usize,
+    r: usize,
+    inner: usize,
+)
+    requires { ⌜ (from + n ≤ length (now t)) × (r < rows) × (a + sizeOf (columns rows inner) ≤ length (now w)) × (b + sizeOf (columns n inner) ≤ length (now w)) ⌝ }
+    ensures { λ _. ⌜ now (t .exit) ≡ run from n (rowSums a rows b n inner (now (w .entry)) r) (now (t .entry)) ⌝ }
+{
+    let end = from + n;
+    sum_row(&mut t[from..end], n, w, a, rows, b, r, inner);
+}
+
+// The sums of every row, one row behind the other.
+fn sum_rows(t: &mut [f64], rows: usize, cols: usize, w: &[f64], a: usize, b: usize, inner: usize)
+    requires { ⌜ (sizeOf (columns cols rows) ≤ length (now t)) × (a + sizeOf (columns rows inner) ≤ length (now w)) × (b + sizeOf (columns cols inner) ≤ length (now w)) ⌝ }
+    ensures { λ _. ⌜ now (t .exit) ≡ store 0 (cells (dense cols) rows (rowSums a rows b cols inner (now (w .entry)))) (now (t .entry)) ⌝ }
+{
+    let mut r = 0;
+    let mut from = 0;
+    while r < rows {
+        sum_row_at(t, from, cols, w, a, rows, b, r, inner);
+        r += 1;
+        from += cols;
+    }
+}
+
+// Column c of the block t, from `to` on: each double less its row's sum.
+fn less_column(t: &mut [f64], to: usize, rows: usize, cols: usize, c: usize, sums: &[f64])
+    requires { ⌜ (to + rows ≤ length (now t)) × (c < cols) × (sizeOf (columns cols rows) ≤ length (now sums)) ⌝ }
+    ensures { λ _. ⌜ now (t .exit) ≡ run to rows (lessSum to cols (now (sums .entry)) c (now (t .entry))) (now (t .entry)) ⌝ }
+{
+    let mut i = 0;
+    let mut k = c;
+    while i < rows {
+        t[to + i] = t[to + i] - sums[k];
+        i += 1;
+        k += cols;
+    }
+}
+
+// The columns of the block t, one by one.
+fn less_columns(t: &mut [f64], rows: usize, cols: usize, sums: &[f64])
+    requires { ⌜ (sizeOf (columns rows cols) ≤ length (now t)) × (sizeOf (columns cols rows) ≤ length (now sums)) ⌝ }
+    ensures { λ _. ⌜ now (t .exit) ≡ store 0 (cells (dense rows) cols (lessSums rows cols (now (sums .entry)) (now (t .entry)))) (now (t .entry)) ⌝ }
+{
+    let mut c = 0;
+    let mut to = 0;
+    while c < cols {
+        less_column(t, to, rows, cols, c, sums);
+        c += 1;
+        to += rows;
+    }
+}
+
+// S of the dense block at off, of at most 12 rows: less block a times block b transposed.
+pub fn subtract_few(
+    w: &mut [f64],
+    off: usize,
+    rows: usize,
+    cols: usize,
+    a: usize,
+    b: usize,
+    inner: usize,
+)
+    requires { ⌜ (rows ≤ 12) × (cols ≤ 316) × (off + sizeOf (columns rows cols) ≤ length (now w)) × (a + sizeOf (columns rows inner) ≤ length (now w)) × (b + sizeOf (columns cols inner) ≤ length (now w)) ⌝ }
+    ensures { λ _. ⌜ now (w .exit) ≡ store off (fill (columns rows cols) (subtractDense ieee (block off (columns rows cols) (now (w .entry))) (block a (columns rows inner) (now (w .entry))) (block b (columns cols inner) (now (w .entry))) inner)) (now (w .entry)) ⌝ }
+{
+    let end = off + cols * rows;
+    let mut sums = [0.0; 3792];
+    sum_rows(&mut sums, rows, cols, w, a, b, inner);
+    less_columns(&mut w[off..end], rows, cols, &sums);
+}

@@ -1,0 +1,17 @@
+-- `words::word_of` meets its contract.
+use borrow.Author.Needs.{needs}
+use Rattle.words.proofs.Laws.{bits-of-nan, no-nan}
+use Rattle.words.proofs.word_of.Statement.{statement}
+use Rattle.words.proofs.word_of.Tie as tie
+
+returns : tie.Need-returns
+returns c = bits-of-nan _ (c .if1 .taken)
+
+float-to-bits-result : tie.Need-float-to-bits-result
+float-to-bits-result c = no-nan _ (c .if1 .left)
+
+returns-2 : tie.Need-returns-2
+returns-2 c = search needs
+
+pub word-of-spec : {M : Type 1} → statement M
+word-of-spec = tie.close (tie.spec returns float-to-bits-result returns-2)
