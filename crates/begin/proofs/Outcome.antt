@@ -1,11 +1,11 @@
 -- What `begin` answers and leaves, refusal by refusal.
-use Prim.Native.Nat.{ℕ, zero, suc, _≤_, _<_}
+use Prim.Native.Nat.{ℕ, _≤_, _<_}
 use mathlib.Core.Path.{_≡_, refl, sym, ap, ap₂, _∙_}
 use mathlib.Core.Bool.{true, false}
 use mathlib.Core.List.{List, [], _∷_}
 use mathlib.Core.Option.{none, some}
 use native.Mathlib.Omega.{arith}
-use lib.ListN.{length, getD, replicate}
+use lib.ListN.{length}
 use lib.Ieee.{Float}
 use borrow.Author.Tests.{eq-eqb, ne-eqb, lt-ltb, le-ltb}
 use Rattle.refusal.specs.declared.Refusal.{Refusal}
@@ -20,7 +20,7 @@ use Rattle.workspace.specs.Memory.{headingWith}
 use Rattle.workspace.specs.Answers.{space, accept, firstInfinite}
 use Rattle.heading_rules.proofs.Fits.{fits}
 use Rattle.heading_writer.specs.Small.{SmallProgress}
-use Rattle.progress.proofs.Count.{triple-small, step-count}
+use Rattle.heading_writer.proofs.Idle.{idle-small}
 use Rattle.finite.specs.Found.{foundAt}
 use Rattle.update.specs.Calls.{begun, beginOf}
 use Rattle.started.specs.Started.{sortedTheta}
@@ -29,13 +29,8 @@ use Rattle.begin_writes.proofs.Stored.{blocks-stored}
 
 -- ---- an update just begun fits the heading
 
-noughts-small : (n i : ℕ) → getD (replicate n 0) i 0 < 4294967296
-noughts-small zero i = omega arith
-noughts-small (suc n) zero = omega arith
-noughts-small (suc n) (suc i) = noughts-small n i
-
 pub under-way-small : (k : ℕ) → k ≤ 8 → SmallProgress (underWay k)
-under-way-small k h = record { left = omega (arith, step-count k h, triple-small k h); stages = noughts-small 45 }
+under-way-small k h = let i = idle-small k h in record { left = i .left; stages = i .stages }
 
 -- ---- the outcome
 

@@ -1,8 +1,8 @@
--- The rows of a lawful layout's blocks: each sorted block has the levels of its sheet index, and no row is in two blocks.
+-- The rows of a lawful layout's blocks: no row is in two blocks.
 use Prim.Native.Nat.{ℕ, zero, suc, _+_, _*_, _/_, _%_, _≤_, _<_}
-use mathlib.Core.Path.{_≡_, refl, sym, ap, ap₂, subst, _∙_}
+use mathlib.Core.Path.{_≡_, refl, sym, ap, subst, _∙_}
 use mathlib.Core.Bool.{Bool, true, false, cond, and-eq-true-iff}
-use mathlib.Core.List.{List, [], _∷_}
+use mathlib.Core.List.{List}
 use mathlib.Core.Logic.{by-cases}
 use native.Mathlib.Decide.{decLt}
 use native.Mathlib.Numerals.{add-one}
@@ -10,54 +10,15 @@ use native.Mathlib.Omega.{arith}
 use lib.Dec.{ltb, leb, eqb}
 use lib.ListN.{length, getD, take, set}
 use lib.Seq.{getD-take, getD-set-same, getD-set-other}
-use borrow.Author.Tests.{ltb-true, leb-true, eqb-true, lt-ltb, le-leb, eq-eqb, ne-eqb}
+use borrow.Author.Tests.{ltb-true, leb-true, lt-ltb, le-leb}
 use Rattle.layout.specs.declared.Layout.{Layout}
-use Rattle.layout.specs.Blocks.{insert, sorted, sum}
+use Rattle.layout.specs.Blocks.{sorted, sum}
 use Rattle.layout.specs.Shapes.{levels}
-use Rattle.heading_rules.specs.Heading.{same, sheetLevels, lawful}
+use Rattle.heading_rules.specs.Heading.{sheetLevels, lawful}
 use Rattle.heading_rules.proofs.Lawful.{is-lawful}
-use Rattle.heading_rules.proofs.Sorted.{All, all-map, all-at, all-insert, length-sorted, below-sorted}
+use Rattle.heading_rules.proofs.Sorted.{all-at, length-sorted, below-sorted, same-lists, order-apart, levels-at}
 use Rattle.workspace.specs.Loaded.{rowStart, inBlock}
 use Rattle.block_map.specs.Blocks.{blockOf}
-
--- ---- no block is twice in the sorted order
-
-abbrev Distinct : List ℕ → Type 0
-Distinct [] = Unit {0}
-Distinct (s ∷ l) = All (λ t. s ≡ t → ⊥) l × Distinct l
-
-distinct-at : (l : List ℕ) → Distinct l → (i j : ℕ) → i < j → j < length l → getD l i 0 ≡ getD l j 0 → ⊥
-distinct-at [] d i j h g = absurd (omega arith)
-distinct-at (s ∷ l) d i zero h g = absurd (omega arith)
-distinct-at (s ∷ l) d zero (suc j) h g = all-at (λ t. s ≡ t → ⊥) l (d .0) j (omega arith)
-distinct-at (s ∷ l) d (suc i) (suc j) h g = distinct-at l (d .1) i j (omega arith) (omega arith)
-
-distinct-insert : (m : ℕ → ℕ) (i : ℕ) (l : List ℕ) → All (λ s. s < i) l → Distinct l → Distinct (insert m i l)
-unfolding insert
-distinct-insert m i [] a d = (tt, tt)
-distinct-insert m i (s ∷ l) a d = step (distinct-insert m i l (a .1) (d .1)) (ltb (m s) (m i))
-  where
-    step : Distinct (insert m i l) → (b : Bool) → Distinct (cond b (i ∷ s ∷ l) (s ∷ insert m i l))
-    step e true =
-        let below : s < i = a .0 in
-        (((λ z. omega arith), all-map (λ t. t < i) (λ t. i ≡ t → ⊥) (λ t b z. omega arith) l (a .1)), d)
-    step e false =
-        let below : s < i = a .0 in
-        (all-insert m (λ t. s ≡ t → ⊥) i l (λ z. omega arith) (d .0), e)
-
-distinct-sorted : (m : ℕ → ℕ) (k : ℕ) → Distinct (sorted m k)
-unfolding sorted
-distinct-sorted m zero = tt
-distinct-sorted m (suc k) = distinct-insert m k (sorted m k) (below-sorted m k) (distinct-sorted m k)
-
-same-lists : (l m : List ℕ) → same l m ≡ true → l ≡ m
-unfolding same
-same-lists [] [] e = refl
-same-lists [] (y ∷ m) e = absurd (let z : _≡_ {A = ℕ} 0 1 = cc in omega arith)
-same-lists (x ∷ l) [] e = absurd (let z : _≡_ {A = ℕ} 0 1 = cc in omega arith)
-same-lists (x ∷ l) (y ∷ m) e =
-    let k = and-eq-true-iff (eqb x y) (same l m) .0 e in
-    ap₂ (λ (a : ℕ) (b : List ℕ). a ∷ b) (eqb-true x y (k .0)) (same-lists l m (k .1))
 
 -- ---- sums
 
@@ -91,15 +52,6 @@ module _ (y : Layout) where
   pub sheet-more : (i s : ℕ) (m r : ℕ) → m ≡ sheetLevels y s i → r ≡ cond (eqb (sheetIndex s) i) (levels y s) m → r ≡ sheetLevels y (s + 1) i
   unfolding sheetLevels
   sheet-more i s m r e f = rw add-one (f ∙ ap (λ (x : ℕ). cond (eqb (sheetIndex s) i) (levels y s) x) e)
-
-  -- the levels of the block that sorted block s is, where no later one is the same
-  sheet-at : (n s : ℕ) → s < n → ((t : ℕ) → s < t → t < n → sheetIndex s ≡ sheetIndex t → ⊥) → sheetLevels y n (sheetIndex s) ≡ levels y s
-  unfolding sheetLevels
-  sheet-at zero s h other = absurd (omega arith)
-  sheet-at (suc n) s h other =
-      by-cases (decLt s n)
-      (λ l. rw (ne-eqb (sheetIndex n) (sheetIndex s) (λ e. other n l (omega arith) (sym e))) (sheet-at n s l (λ t a b. other t a (omega arith))))
-      (λ l. let e : s ≡ n = omega arith in rw (e, eq-eqb (sheetIndex n) (sheetIndex n) refl) refl)
 
   -- ---- what a row is in
 
@@ -142,15 +94,6 @@ module _ (y : Layout) where
     order-below j h =
         subst (λ (x : ℕ). x < y .k) (order-list j h) (all-at (λ s. s < y .k) (sorted sheetM (y .k)) (below-sorted sheetM (y .k)) j (omega (arith, length-sorted sheetM (y .k))))
 
-    order-apart : (i j : ℕ) → i < j → j < y .k → sheetIndex i ≡ sheetIndex j → ⊥
-    order-apart i j h g e =
-        distinct-at (sorted sheetM (y .k)) (distinct-sorted sheetM (y .k)) i j h (omega (arith, length-sorted sheetM (y .k)))
-        (order-list i (omega arith) ∙ e ∙ sym (order-list j g))
-
-    -- a sorted block's levels are those of its sheet index
-    pub own-levels : (j : ℕ) → j < y .k → sheetM (sheetIndex j) ≡ levels y j
-    own-levels j h = sheet-at (y .k) j h (λ t a b. order-apart j t a b)
-
     sheet-small : (n i : ℕ) → n ≤ y .k → sheetLevels y n i ≤ 65535
     unfolding sheetLevels
     sheet-small zero i h = omega arith
@@ -171,11 +114,11 @@ module _ (y : Layout) where
 
     -- a block ends before each that comes later in the sheet starts
     ends : (i j : ℕ) → i < y .k → sheetIndex i < sheetIndex j → rowStart y i + levels y i ≤ rowStart y j
-    ends i j h g = omega (arith, own-levels i h, sum-mono sheetM (sheetIndex i) (sheetIndex j) g)
+    ends i j h g = omega (arith, levels-at y ok i h, sum-mono sheetM (sheetIndex i) (sheetIndex j) g)
 
     -- and all end with the sheet's rows
     pub rows-end : (j : ℕ) → j < y .k → rowStart y j + levels y j ≤ sum sheetM (y .k)
-    rows-end j h = omega (arith, own-levels j h, sum-mono sheetM (sheetIndex j) (y .k) (order-below j h))
+    rows-end j h = omega (arith, levels-at y ok j h, sum-mono sheetM (sheetIndex j) (y .k) (order-below j h))
 
     -- one block has a row
     pub block-one : (i j x : ℕ) → i < y .k → j < y .k → inBlock y i x ≡ true → inBlock y j x ≡ true → i ≡ j
@@ -189,8 +132,8 @@ module _ (y : Layout) where
         by-cases (decLt (sheetIndex i) (sheetIndex j)) (λ l. absurd (omega (arith, ends i j h l)))
         (λ l. by-cases (decLt (sheetIndex j) (sheetIndex i)) (λ m. absurd (omega (arith, ends j i g m)))
         (λ m. let e : sheetIndex i ≡ sheetIndex j = omega arith in
-        by-cases (decLt i j) (λ u. absurd (order-apart i j u g e))
-        (λ u. by-cases (decLt j i) (λ v. absurd (order-apart j i v h (sym e))) (λ v. omega arith))))
+        by-cases (decLt i j) (λ u. absurd (order-apart y ok i j u g e))
+        (λ u. by-cases (decLt j i) (λ v. absurd (order-apart y ok j i v h (sym e))) (λ v. omega arith))))
 
     pub block-is : (n j x : ℕ) → j < n → n ≤ y .k → inBlock y j x ≡ true → blockOf y n x ≡ j
     unfolding blockOf

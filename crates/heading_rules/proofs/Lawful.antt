@@ -40,7 +40,7 @@ within-at : (low high x : ℕ) → within low high x ≡ true → (low ≤ x) ×
 within-at low high x e =
     let k = and-eq-true-iff (leb low x) (leb x high) .0 e in (leb-true low x (k .0), leb-true x high (k .1))
 
-unless-at : (a b : Bool) → (not a || b) ≡ true → a ≡ true → b ≡ true
+pub unless-at : (a b : Bool) → (not a || b) ≡ true → a ≡ true → b ≡ true
 unless-at true b e h = e
 unless-at false b e h = let z : _≡_ {A = ℕ} 0 1 = cc in absurd (omega arith)
 

@@ -3,7 +3,7 @@ use Prim.Native.Nat.{ℕ, zero, suc, _≤_, _<_}
 use mathlib.Core.Path.{_≡_, sym, subst}
 use mathlib.Core.List.{List, [], _∷_}
 use native.Mathlib.Omega.{arith}
-use lib.ListN.{length, getD, replicate, length-replicate, getD-replicate}
+use lib.ListN.{length, getD}
 use Rattle.sheet.specs.declared.Starts.{Starts}
 use Rattle.sheet.specs.Sheet.{Sheet, accepted, readSheet}
 use Rattle.sheet.proofs.Whole.{read-whole}
@@ -15,7 +15,7 @@ use Rattle.heading_rules.specs.Heading.{idle}
 use Rattle.heading_rules.proofs.Sorted.{all-at, below-sorted}
 use Rattle.gate.proofs.Sorting.{padded-at, length-padded}
 use Rattle.heading_writer.specs.Small.{SmallLayout, SmallProgress}
-use Rattle.progress.proofs.Count.{triple-small, step-count}
+use Rattle.heading_writer.proofs.Idle.{idle-small}
 use Rattle.workspace.specs.Loaded.{sheetM, sortedLayout, layoutOfSheet}
 use Rattle.layouts.proofs.Reading.{layout-small}
 use Rattle.loading.specs.Ready.{Ready}
@@ -75,14 +75,5 @@ pub ready-small : (s : List ℕ) (z : Starts) (y : Layout) → Ready s z y → S
 ready-small s z y r = subst SmallLayout (sym (r .3)) (sheet-small s (r .0) z (r .1))
 
 -- progress none
-idle-small : (k : ℕ) → k ≤ 8 → SmallProgress (idle k)
-idle-small k h =
-    record {
-      left = omega (arith, step-count k h, triple-small k h);
-      stages =
-          small-at 4294967296 (replicate 45 0) (omega arith)
-          (λ i g. omega (arith, getD-replicate {A = ℕ} 45 i 0 0 (omega (arith, g, length-replicate {A = ℕ} 45 0))));
-    }
-
 pub progress-small : (k : ℕ) (g : Progress) → k ≤ 8 → g ≡ idle k → SmallProgress g
 progress-small k g h e = subst SmallProgress (sym e) (idle-small k h)

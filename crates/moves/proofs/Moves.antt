@@ -26,16 +26,11 @@ use Rattle.heading_rules.specs.declared.State.{State}
 use Rattle.heading_rules.specs.declared.State.the-variants.{UnderWay, Finished}
 use Rattle.layout.specs.Shapes.{levels, numbersNeeded, doublesNeeded}
 use Rattle.heading_rules.specs.Heading.{stageOf, written, every, forerun, stateLawful, lawful, progressLawful, headed}
-use Rattle.heading_rules.proofs.Lawful.{both, unless, every-of, every-at}
+use Rattle.heading_rules.proofs.Lawful.{both, unless, unless-at, every-of, every-at}
 use Rattle.heading_rules.proofs.Heading.{never-20}
 use Rattle.update.specs.Calls.{advanced}
 
 -- ---- no step is done without its forerunners, as a fact
--- a test that stands under another
-unless-at : (a b : Bool) → (not a || b) ≡ true → a ≡ true → b ≡ true
-unless-at true b e h = e
-unless-at false b e h = let z : _≡_ {A = ℕ} 0 1 = cc in absurd (omega arith)
-
 -- the test passes where it holds of every step of the list
 forerun-of : (g : ℕ → ℕ → ℕ) (l : List Step) → ((s : Step) → List·Memᴰ s l → done g s ≡ true → all (done g) (after s) ≡ true) → forerun g l ≡ true
 forerun-of g [] h = refl

@@ -1,11 +1,11 @@
 -- What `replace_response` leaves of a workspace, refusal by refusal.
-use Prim.Native.Nat.{ℕ, zero, suc, _≤_, _<_}
+use Prim.Native.Nat.{ℕ, _≤_, _<_}
 use mathlib.Core.Path.{_≡_, refl, sym, ap, ap₂, _∙_}
 use mathlib.Core.Bool.{Bool, true, false, not, _&&_, _||_, and-eq-true-iff}
 use mathlib.Core.List.{List}
 use native.Mathlib.Omega.{arith}
 use lib.Dec.{ltb, leb, eqb}
-use lib.ListN.{length, getD, replicate}
+use lib.ListN.{length, getD}
 use lib.Ieee.{Float}
 use borrow.Author.Tests.{leb-true, eqb-true, eq-eqb, ne-eqb}
 use Rattle.refusal.specs.declared.Refusal.{Refusal}
@@ -19,22 +19,10 @@ use Rattle.workspace.specs.Memory.{headingWith}
 use Rattle.workspace.specs.Answers.{space, accept, firstInfinite}
 use Rattle.workspace.specs.Response.{responded, replaceOf}
 use Rattle.heading_rules.proofs.Fits.{fits}
-use Rattle.heading_writer.specs.Small.{SmallProgress}
-use Rattle.progress.proofs.Count.{triple-small, step-count}
 use Rattle.response_rows.specs.Strided.{responseRows}
 use Rattle.response_rows.proofs.Stored.{rows-stored}
 use Rattle.response_faults.specs.Faults.{lengthFault, wordFault, firstOf}
 use Rattle.response_faults.proofs.Faults.{unlessRefused, lengths, words, both, first-none, all-right}
-
--- ---- progress none fits the heading
-
-noughts-small : (n i : ℕ) → getD (replicate n 0) i 0 < 4294967296
-noughts-small zero i = omega arith
-noughts-small (suc n) zero = omega arith
-noughts-small (suc n) (suc i) = noughts-small n i
-
-pub idle-small : (k : ℕ) → k ≤ 8 → SmallProgress (idle k)
-idle-small k h = record { left = omega (arith, step-count k h, triple-small k h); stages = noughts-small 45 }
 
 -- the loaded numbers lie within the doubles
 loaded-below : (y : Layout) (n : ℕ) → doublesNeeded y ≤ n → loadedLength y ≤ n

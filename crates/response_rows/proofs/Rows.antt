@@ -1,30 +1,20 @@
 -- The rows of a lawful layout's blocks in the sheet: all of them are the layout's q rows.
 use Prim.Native.Nat.{ℕ, zero, suc, _+_, _≤_, _<_}
 use mathlib.Core.Path.{_≡_, refl, sym, ap, ap₂, _∙_}
-use mathlib.Core.Bool.{Bool, true, false, cond, and-eq-true-iff}
+use mathlib.Core.Bool.{Bool, true, false, cond}
 use mathlib.Core.List.{List, [], _∷_}
 use native.Mathlib.Omega.{arith}
-use lib.Dec.{ltb, eqb}
+use lib.Dec.{ltb}
 use lib.ListN.{length, getD, take}
 use lib.Seq.{getD-take}
-use borrow.Author.Tests.{eqb-true}
 use Rattle.layout.specs.declared.Layout.{Layout}
 use Rattle.layout.specs.Blocks.{insert, sorted, sum}
 use Rattle.layout.specs.Shapes.{levels}
-use Rattle.heading_rules.specs.Heading.{same, sheetLevels, lawful}
+use Rattle.heading_rules.specs.Heading.{sheetLevels, lawful}
 use Rattle.heading_rules.proofs.Lawful.{is-lawful}
-use Rattle.heading_rules.proofs.Sorted.{length-sorted}
+use Rattle.heading_rules.proofs.Sorted.{length-sorted, same-lists, levels-at}
 use Rattle.workspace.specs.Loaded.{rowStart}
-use Rattle.block_map.proofs.Rows.{own-levels, rows-end}
-
-same-lists : (l m : List ℕ) → same l m ≡ true → l ≡ m
-unfolding same
-same-lists [] [] e = refl
-same-lists [] (y ∷ m) e = absurd (let z : _≡_ {A = ℕ} 0 1 = cc in omega arith)
-same-lists (x ∷ l) [] e = absurd (let z : _≡_ {A = ℕ} 0 1 = cc in omega arith)
-same-lists (x ∷ l) (y ∷ m) e =
-    let k = and-eq-true-iff (eqb x y) (same l m) .0 e in
-    ap₂ (λ (a : ℕ) (b : List ℕ). a ∷ b) (eqb-true x y (k .0)) (same-lists l m (k .1))
+use Rattle.block_map.proofs.Rows.{rows-end}
 
 -- the sum of f over a list
 abbrev over : (ℕ → ℕ) → List ℕ → ℕ
@@ -71,7 +61,7 @@ module _ (y : Layout) (ok : lawful y ≡ true) where
       let l : List ℕ = sorted sheetM (y .k) in
       let n : length l ≡ y .k = length-sorted sheetM (y .k) in
       let at : (j : ℕ) → j < y .k → sheetM (getD l j 0) ≡ levels y j =
-      λ j h. ap sheetM (ap (λ (z : List ℕ). getD z j 0) (sym (same-lists (take (y .k) (y .order)) l (is-lawful y ok .order))) ∙ getD-take (y .k) (y .order) j 0 h) ∙ own-levels y ok j h in
+      λ j h. ap sheetM (ap (λ (z : List ℕ). getD z j 0) (sym (same-lists (take (y .k) (y .order)) l (is-lawful y ok .order))) ∙ getD-take (y .k) (y .order) j 0 h) ∙ levels-at y ok j h in
       sym (over-sorted sheetM sheetM (y .k)) ∙ sym (sum-over sheetM l) ∙ ap (sum (λ i. sheetM (getD l i 0))) n
       ∙ sum-same (λ i. sheetM (getD l i 0)) (levels y) (y .k) at ∙ sym (is-lawful y ok .total)
 

@@ -13,7 +13,7 @@ use Rattle.heading_rules.specs.declared.Progress.{Progress}
 use Rattle.heading_rules.specs.Heading.{progressOf}
 use Rattle.update.specs.Calls.{refusedBy}
 use Rattle.heading_writer.specs.Small.{SmallProgress}
-use Rattle.response.proofs.Replaced.{idle-small}
+use Rattle.heading_writer.proofs.Idle.{idle-small}
 use Rattle.taking.specs.declared.Moved.{Moved}
 use Rattle.taking.specs.Taken.{movedBy, Taken}
 

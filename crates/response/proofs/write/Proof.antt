@@ -3,7 +3,7 @@ use mathlib.Core.Path.{sym, ap, subst, _∙_}
 use Rattle.heading_rules.proofs.Lawful.{is-lawful}
 use Rattle.heading_writer.specs.Small.{SmallProgress}
 use Rattle.workspace.specs.Memory.{headingWith}
-use Rattle.response.proofs.Replaced.{idle-small}
+use Rattle.heading_writer.proofs.Idle.{idle-small}
 use borrow.Author.Needs.{needs}
 use Rattle.response.proofs.write.Statement.{statement}
 use Rattle.response.proofs.write.Tie as tie
