@@ -4,12 +4,10 @@ ghost use mathlib.Core.Path.{_≡_};
 ghost use Prim.Native.Nat.{_+_, _≤_, _<_};
 ghost use lib.ListN.{length};
 ghost use Rattle.storage.specs.Runs.{dense, cells};
-ghost use Rattle.storage.specs.Shape.{columns, sizeOf, fill};
+ghost use Rattle.storage.specs.Shape.{columns, sizeOf};
 ghost use Rattle.storage.specs.Part.{store};
-ghost use Rattle.rules.specs.Arithmetic.{ieee};
-ghost use Rattle.rules.specs.Steps.{subtractDense};
-ghost use Rattle.blocks.specs.Blocks.{block};
 ghost use Rattle.axpy.specs.Axpy.{run};
+ghost use Rattle.schur.specs.Schur.{subtractedDense};
 ghost use Rattle.schur_few.specs.Few.{rowSums, lessSum, lessSums};
 
 // The first n doubles of t become the sums of the products of rows 0 to n - 1 of block b and row r of block a.
@@ -102,7 +100,7 @@ pub fn subtract_few(
     inner: usize,
 )
     requires { ⌜ (rows ≤ 12) × (cols ≤ 316) × (off + sizeOf (columns rows cols) ≤ length (now w)) × (a + sizeOf (columns rows inner) ≤ length (now w)) × (b + sizeOf (columns cols inner) ≤ length (now w)) ⌝ }
-    ensures { λ _. ⌜ now (w .exit) ≡ store off (fill (columns rows cols) (subtractDense ieee (block off (columns rows cols) (now (w .entry))) (block a (columns rows inner) (now (w .entry))) (block b (columns cols inner) (now (w .entry))) inner)) (now (w .entry)) ⌝ }
+    ensures { λ _. ⌜ now (w .exit) ≡ subtractedDense off rows cols a b inner (now (w .entry)) ⌝ }
 {
     let end = off + cols * rows;
     let mut sums = [0.0; 3792];
