@@ -9,7 +9,9 @@ STDIN gets the calls, and STDOUT what the program `calls` must print of them.  A
 the generator of the Rust original makes them (sheet_list.py says which the stored list was made with); each becomes a sheet that must load.
 The second form prints the pivots, or the refusal, of a file with a sheet and its theta lines, as the program `factor` of document 01 does.
 The third compares what is computed here with the driver of the Rust original: pivots, refused places and deviances of each sheet of the list
-with each theta that it tries.
+with each theta that it tries.  The Rust original is a package that compiles the published Rust over stand-ins for its array crates (build.rs,
+standins/, a driver, the generator gen.py); DRIVER is the program that cargo builds of it.  It is kept apart from this repository, and a plain clone
+of the Rust will not do.
 
 How the list is made.  The arithmetic below is written from document 01 alone (Records 4 to 6, the book of Record 5, both tables of
 refusals), one operation of a Python float, which is an IEEE double, at a time and in that document's orders.  It shares nothing with the

@@ -8,8 +8,9 @@
 
 STDIN gets the inputs, which the program `factors` reads, and STDOUT what that program must print: for each input a line with its number, and
 then what `factor` must print.  The second form holds the pivots, and the refused pivots' places, of every case to the Rust original's driver; it
-names those that differ because the original leaves out a diagonal subtraction, and ends with 1 where another differs.  The third form gives each
-input to PROGRAM and compares.  The last form prints what `factor` must print for one input.
+names those that differ because the original leaves out a diagonal subtraction, and ends with 1 where another differs; call_list.py says what the
+original is, and that it is kept apart from this repository.  The third form gives each input to PROGRAM and compares.  The last form prints what
+`factor` must print for one input.
 
 How the list is made.  `factor` below is written from document 01 alone ("Worked sheets"; the readings are those of docs/DECISIONS.md), on
 sheet_list.py, which has Records 1 to 3 and the refusals 1 to 12 of a load, and on call_list.py, which has Record 4, one operation of a

@@ -6,7 +6,8 @@
 writes what load must leave of a file with a sheet and its theta lines: the counts of numbers and of doubles, the numbers and the
 doubles, all lowest byte first.
 
-The stored list of call_list.py was made with eight sheets of the Rust original's generator beside those that are written here: `gen.py` with
+The stored list of call_list.py was made with eight sheets of the Rust original's generator beside those that are written here; that generator is in
+the original's folder, which is kept apart from this repository (call_list.py): `gen.py` with
 12,7 2 40 1 crossed; 20,5 3 60 2 nested; 5,20 2 60 3 nested; 9,9,4 2 50 4 crossed; 6 1 20 5 crossed; 40,30,20 3 60 6 crossed;
 3,2,2,1,1,1,1,1 1 30 7 crossed; 15,15 4 80 8 crossed --exact.
 
@@ -469,7 +470,7 @@ def cases(accepted):
         case(full[:i] + [full[i + 1], full[i]] + full[i + 2:])
         case(full[:i] + [full[i]] + full[i:])
 
-    # the gate by counts alone: 10 and 11
+    # the gate by counts alone: 10 and 11; [60000, 2] and [2, 50001] have only their size and block lines and are answered 2 at line 4
     for blocks in ([400, 300], [300, 400], [60000, 2], [2, 50001], [317, 316]):
         sizes = [(m, 1) for m in blocks]
         lines = [b"size\t9\t1\t%d\t%d\t1" % (sum(blocks), len(blocks))] + [b"block\t%d\t1" % m for m in blocks]

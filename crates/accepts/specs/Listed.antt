@@ -1,5 +1,6 @@
--- Document 01's table "Refused because of the input", rows 1 to 12, as conditions on the bytes s and the lent lists h and w, each by itself: no row knows
--- of the order in which load looks. proofs/Accepts.antt shows that load accepts exactly where none holds.
+-- Document 01's table "Refused because of the input", rows 1 to 12, as conditions on the bytes s and the lent lists h and w. Rows 2, 3 and 4 are one
+-- condition, the reader's own first verdict, which has the order of the lines in it; rows 5 to 12 each ask that the reader accepts, and what the row says.
+-- proofs/Accepts.antt shows that load accepts exactly where none holds.
 use Prim.Native.Nat.{ℕ, _≤_, _<_}
 use mathlib.Core.Path.{_≡_}
 use mathlib.Core.Bool.{true, false}

@@ -5,14 +5,13 @@ use mathlib.Core.Bool.{Bool, true, false, not, cond}
 use mathlib.Core.List.{List}
 use native.Mathlib.Nat.{add-zero, add-suc, mul-comm}
 use native.Mathlib.Omega.{arith}
-use native.Mathlib.Numerals.{add-one}
-use lib.ListN.{length, getD}
+use lib.ListN.{length}
 use lib.Dec.{eqb, ltb}
 use lib.Ieee.{Float, nan, inf, fin, binary64, Format, prec, emax, low, neg, mul, sub, odd, units, nearest, size, round, unlike, up, down}
 use Rattle.storage.specs.Runs.{start, dense, tab}
 use Rattle.storage.specs.Shape.{columns, sizeOf}
 use Rattle.storage.specs.Part.{store}
-use Rattle.storage.proofs.Starts.{start-dense, start-below, start-le}
+use Rattle.storage.proofs.Starts.{start-dense, start-le}
 use Rattle.storage.proofs.Cells.{length-tab, getD-tab, tab-ext, take-tab}
 use Rattle.storage.proofs.Parts.{length-store, store-in, store-store, store-part}
 use Rattle.rules.specs.Arithmetic.{ieee}

@@ -14,32 +14,12 @@ use borrow.Author.Tests.{ltb-true, leb-true, lt-ltb, le-leb}
 use Rattle.layout.specs.declared.Layout.{Layout}
 use Rattle.layout.specs.Blocks.{sorted, sum}
 use Rattle.layout.specs.Shapes.{levels}
+use Rattle.layout.proofs.Sums.{sum-more, sum-small, sum-le}
 use Rattle.heading_rules.specs.Heading.{sheetLevels, lawful}
 use Rattle.heading_rules.proofs.Lawful.{is-lawful}
 use Rattle.heading_rules.proofs.Sorted.{all-at, length-sorted, below-sorted, same-lists, order-apart, levels-at}
 use Rattle.workspace.specs.Loaded.{rowStart, inBlock}
 use Rattle.block_map.specs.Blocks.{blockOf}
-
--- ---- sums
-
-sum-mono : (f : ℕ → ℕ) (a b : ℕ) → a < b → sum f a + f a ≤ sum f b
-unfolding sum
-sum-mono f a zero h = absurd (omega arith)
-sum-mono f a (suc b) h =
-    by-cases (decLt a b) (λ l. omega (arith, sum-mono f a b l)) (λ l. let e : a ≡ b = omega arith in rw e (omega arith))
-
-pub sum-none : (f : ℕ → ℕ) → 0 ≡ sum f 0
-unfolding sum
-sum-none f = refl
-
-pub sum-more : (f : ℕ → ℕ) (i t v : ℕ) → t ≡ sum f i → v ≡ f i → t + v ≡ sum f (i + 1)
-unfolding sum
-sum-more f i t v e g = rw add-one (omega arith)
-
-sum-small : (f : ℕ → ℕ) (b : ℕ) → ((i : ℕ) → f i ≤ b) → (n : ℕ) → sum f n ≤ n * b
-unfolding sum
-sum-small f b h zero = omega arith
-sum-small f b h (suc n) = omega (arith, sum-small f b h n, h n)
 
 module _ (y : Layout) where
   abbrev sheetIndex : ℕ → ℕ
@@ -107,18 +87,18 @@ module _ (y : Layout) where
     levels-small i = sheet-small (y .k) i (omega arith)
 
     pub rows-small : (n : ℕ) → sum sheetM n ≤ n * 65535
-    rows-small n = sum-small sheetM 65535 levels-small n
+    rows-small n = sum-small sheetM 65535 n (λ i h. levels-small i)
 
     pub start-small : (j : ℕ) → j < y .k → rowStart y j ≤ 524280
     start-small j h = omega (arith, rows-small (sheetIndex j), order-below j h, is-lawful y ok .blocks .1)
 
     -- a block ends before each that comes later in the sheet starts
     ends : (i j : ℕ) → i < y .k → sheetIndex i < sheetIndex j → rowStart y i + levels y i ≤ rowStart y j
-    ends i j h g = omega (arith, levels-at y ok i h, sum-mono sheetM (sheetIndex i) (sheetIndex j) g)
+    ends i j h g = omega (arith, levels-at y ok i h, sum-more sheetM (sheetIndex i), sum-le sheetM (sheetIndex i + 1) (sheetIndex j) (omega arith))
 
     -- and all end with the sheet's rows
     pub rows-end : (j : ℕ) → j < y .k → rowStart y j + levels y j ≤ sum sheetM (y .k)
-    rows-end j h = omega (arith, levels-at y ok j h, sum-mono sheetM (sheetIndex j) (y .k) (order-below j h))
+    rows-end j h = omega (arith, levels-at y ok j h, sum-more sheetM (sheetIndex j), sum-le sheetM (sheetIndex j + 1) (y .k) (omega (arith, order-below j h)))
 
     -- one block has a row
     pub block-one : (i j x : ℕ) → i < y .k → j < y .k → inBlock y i x ≡ true → inBlock y j x ≡ true → i ≡ j

@@ -8,7 +8,7 @@ use native.Mathlib.Decide.{decLt}
 use native.Mathlib.Omega.{arith}
 use borrow.Author.Tests.{ltb-true, eq-eqb, ne-eqb}
 use lib.Dec.{ltb}
-use lib.ListN.{length, getD, set, take, drop}
+use lib.ListN.{length, getD, take, drop}
 use lib.Seq.{length-take-le}
 use lib.Ieee.{Float, nan, binary64, sub, mul}
 use Rattle.storage.specs.Runs.{start, dense, tab}
@@ -16,7 +16,7 @@ use Rattle.storage.specs.Shape.{Shape, columns, sizeOf, fill, cell}
 use Rattle.storage.specs.Part.{part, store}
 use Rattle.storage.proofs.Starts.{start-below}
 use Rattle.storage.proofs.Cells.{length-tab, getD-tab, tab-ext}
-use Rattle.storage.proofs.Parts.{length-part, length-store, getD-part, part-else, store-left, store-right, store-in, store-else, store-one, store-nil, store-part}
+use Rattle.storage.proofs.Parts.{length-part, length-store, getD-part, part-else, store-left, store-right, store-in, store-else, store-part}
 use Rattle.storage.proofs.Blocks.{length-fill, cell-fill, is-fill, fill-cell, cell-stored}
 use Rattle.rules.specs.Arithmetic.{ieee}
 use Rattle.rules.specs.Sums.{lessFrom}

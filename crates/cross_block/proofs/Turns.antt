@@ -23,7 +23,7 @@ use Rattle.rules.proofs.Exact.{forward-cell}
 use Rattle.blocks.specs.Blocks.{block}
 use Rattle.blocks.specs.Done.{Done}
 use Rattle.blocks.proofs.Laws.{any-default, read-block, has-dense, has-packed, has-diagonal, own, same-block, run-written, written}
-use Rattle.axpy.specs.Axpy.{at, run, along, products}
+use Rattle.axpy.specs.Axpy.{at, run, products}
 use Rattle.axpy.proofs.Sums.{along-ext, less-along, summed}
 use Rattle.cross_block.specs.Blocks.{dividedColumns, solvedColumn}
 

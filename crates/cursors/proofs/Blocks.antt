@@ -11,14 +11,8 @@ use lib.ListN.{length, getD, drop}
 use Rattle.sheet.specs.Run.{Block}
 use Rattle.sheet.specs.Fault.{levelsOf, blockOf}
 use Rattle.layout.specs.Blocks.{padded}
+use Rattle.layout.proofs.Sums.{padded-at}
 use Rattle.levels.specs.Held.{levelList}
-
-padded-at : (n : ℕ) (l : List ℕ) (i : ℕ) → i < n → getD (padded n l) i 0 ≡ getD l i 0
-unfolding padded
-padded-at zero l i h = absurd (omega arith)
-padded-at (suc n) l zero h = refl
-padded-at (suc n) [] (suc i) h = padded-at n [] i (omega arith)
-padded-at (suc n) (x ∷ l) (suc i) h = padded-at n l i (omega arith)
 
 -- Past j blocks, row i is row `left` of what remains.
 pub record Search (blocks : List Block) (i left j : ℕ) : Type 0 where

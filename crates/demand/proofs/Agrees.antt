@@ -16,7 +16,7 @@ use Rattle.sheet.specs.Sheet.{Sheet}
 use Rattle.heading_rules.specs.declared.Progress.{Progress}
 use Rattle.heading_rules.specs.Heading.{progressOf, stageOf, idle}
 use Rattle.workspace.specs.Memory.{Workspace}
-use Rattle.book.specs.Book.{Book, book, last, bookLeft, bookState, bookSet}
+use Rattle.book.specs.Book.{Book, last, bookLeft, bookState, bookSet}
 use Rattle.book.specs.Demand.{Agrees}
 use Rattle.moves.proofs.Moves.{lawfully}
 use Rattle.standing.proofs.Stands.{Site, Begun, Updating, Stands}

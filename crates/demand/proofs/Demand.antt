@@ -2,7 +2,7 @@
 use Prim.Native.Nat.{ℕ}
 use mathlib.Core.List.{List}
 use lib.Ieee.{Float}
-use Rattle.sheet.specs.Sheet.{Sheet, accepted}
+use Rattle.sheet.specs.Sheet.{Sheet}
 use Rattle.workspace.specs.Memory.{Workspace}
 use Rattle.book.specs.Calls.{Call, leftBy}
 use Rattle.book.specs.Book.{Book, opened, bookAfter}

@@ -1,6 +1,6 @@
 -- The deviance of a workspace by its layout, and where the pivots and the sum of a lawful layout lie.
 use Prim.Native.Nat.{ℕ, zero, suc, _+_, _≤_, _<_}
-use mathlib.Core.Path.{_≡_, refl, sym, ap, ap₂, subst, _∙_}
+use mathlib.Core.Path.{_≡_, refl, sym, ap, ap₂, _∙_}
 use mathlib.Core.Bool.{Bool, true, false, _||_}
 use mathlib.Core.List.{List}
 use native.Mathlib.Omega.{arith}
@@ -29,7 +29,7 @@ use Rattle.refusal.specs.Numbers.{refusal}
 use Rattle.workspace.specs.Memory.{cellOf, workingBlock}
 use Rattle.profile.specs.declared.Deviance.{Deviance}
 use Rattle.profile.specs.declared.Deviance.the-variants.{Value, NoScale, Refused}
-use Rattle.profile.specs.Deviance.{isFinished, freedom, logDeterminant, lastPivot, devianceValue, devianceFromFactor}
+use Rattle.profile.specs.Deviance.{isFinished, freedom, devianceValue, devianceFromFactor}
 use Rattle.deviance_tail.specs.Tail.{pivotOf, logDeterminantOf, devianceWith}
 
 -- block k is a packed triangle of p + 1 rows

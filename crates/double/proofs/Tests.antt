@@ -1,7 +1,7 @@
 -- The tests that tell the kinds apart.
-use mathlib.Core.Path.{_≡_, refl, ap, sym, _∙_, subst}
+use mathlib.Core.Path.{_≡_, refl, sym, _∙_, subst}
 use mathlib.Core.Bool.{Bool, true, false, not, _&&_, _||_, Bool·beq, true≢false}
-use Prim.Native.Nat.{ℕ, zero, suc, _+_, _*_, _≤_, _<_}
+use Prim.Native.Nat.{ℕ, zero, suc, _+_, _*_, _<_}
 use native.Mathlib.Nat.{mul-pos, zero-lt-suc}
 use native.Mathlib.Omega.{arith}
 use borrow.Author.Tests.{lt-ltb, eq-eqb, ltb-true, eqb-true}
@@ -9,7 +9,6 @@ use lib.Dec.{T, ltb, eqb}
 use lib.Ieee.{Float, nan, inf, fin, binary64, up, down, lt, eq, div, ofBits, toBits, isNan}
 use lib.Ieee.Fits.{up-pos}
 use lib.Ieee.Positive.{positive}
-use Rattle.double.specs.declared.Kind.{Kind}
 use Rattle.double.specs.declared.Kind.the-variants.{Positive, Zero, Negative, PlusInfinity, NotANumber}
 use Rattle.double.specs.Parts.{partsOf}
 use Rattle.double.specs.Kind.{kindOf}

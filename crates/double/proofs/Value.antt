@@ -11,7 +11,7 @@ use lib.Ieee.{Float, nan, inf, fin, binary64, up, down, fits, odd, ofFields, ofB
 use lib.Ieee.Bits.{ofBits-toBits}
 use lib.Ieee.Exact.{HasValue, odd-sign}
 use lib.Ieee.Positive.{positive, value-pos, first-pos}
-use Rattle.double.specs.Parts.{field, digits, scale, places, leading, partsOf, significand, exponent}
+use Rattle.double.specs.Parts.{field, digits, scale, places, leading, partsOf, significand, exponent, InPlace}
 use Rattle.double.specs.declared.Parts.{Parts}
 use Rattle.double.specs.declared.Kind.the-variants.{Positive}
 use Rattle.double.specs.Kind.{kindOf}
@@ -103,12 +103,6 @@ module _ (x : Float) (f : T (fits binary64 x)) (p : T (positive x)) where
   pub exponent-le : exponent x ≤ 2098
   unfolding exponent leading partsOf
   exponent-le = omega (arith, scale-le (toBits binary64 x))
-
--- ---- the parts that `kindOf` has
-pub record InPlace (p : Parts) : Type 0 where
-  pub low : 2 ^ 52 ≤ p .significand
-  pub high : p .significand < 2 ^ 53
-  pub most : p .exponent ≤ 2098
 
 positive-in-place : (x : Float) → T (fits binary64 x) → T (positive x) → InPlace (partsOf (toBits binary64 x))
 unfolding significand exponent

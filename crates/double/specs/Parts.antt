@@ -1,5 +1,5 @@
 -- The significand and the exponent of a double above 0, from its bits as IEEE 754 lays them out (3.4).
-use Prim.Native.Nat.{ℕ, _+_, _-_, _*_, _/_, _%_, _^_}
+use Prim.Native.Nat.{ℕ, _+_, _-_, _*_, _/_, _%_, _^_, _≤_, _<_}
 use mathlib.Core.Bool.{cond}
 use lib.Dec.{eqb}
 use lib.Ieee.{Float, binary64, size, toBits}
@@ -36,3 +36,9 @@ significand x = partsOf (toBits binary64 x) .significand
 unfoldable pub exponent : Float → ℕ
 unfolding partsOf
 exponent x = partsOf (toBits binary64 x) .exponent
+
+-- ---- the parts that `kindOf` has: 53 digits, the first of them 1
+pub record InPlace (p : Parts) : Type 0 where
+  pub low : 2 ^ 52 ≤ p .significand
+  pub high : p .significand < 2 ^ 53
+  pub most : p .exponent ≤ 2098

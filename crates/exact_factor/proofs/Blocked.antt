@@ -1,7 +1,7 @@
 -- Where nothing is rounded, block elimination gives the Cholesky factor of the whole matrix: each S takes its products away, and C and T solve what is left.
 use Prim.Native.Nat.{ℕ, zero, suc, _≤_, _<_}
 use mathlib.Core.Path.{_≡_, refl, sym, ap, ap₂, subst, _∙_}
-use mathlib.Core.Bool.{true, false}
+use mathlib.Core.Bool.{false}
 use mathlib.Core.Option.{Option, none, some, Option·some-ne-none}
 use mathlib.Core.Logic.{by-cases}
 use native.Mathlib.Decide.{decLt}
@@ -11,10 +11,10 @@ use Rattle.order.specs.Elimination.{Rules, orElse, inBlock, column, value, fina
 use Rattle.order.proofs.Invariant.{finished}
 use Rattle.rules.specs.Arithmetic.{Arithmetic}
 use Rattle.rules.specs.Sums.{sumFrom, dot}
-use Rattle.rules.specs.Cholesky.{at, forward, factor, radicand, pivots}
+use Rattle.rules.specs.Cholesky.{factor, radicand, pivots}
 use Rattle.rules.specs.Exact.{Exact}
 use Rattle.rules.proofs.Exact.{forward-solves, factor-factors, pivot-not-null}
-use Rattle.exact_factor.specs.Blocked.{blockRules, products, entry, FactorsBlocks}
+use Rattle.exact_factor.specs.Blocked.{blockRules, products, FactorsBlocks}
 
 -- no pivot is refused, so none is in C(j)
 pub none-in : (R : Rules) (start : ℕ → ℕ → R .Block) (n : ℕ) → refusedBefore R start n ≡ none → (j : ℕ) → j < n → R .pivots j (value R start j j j) ≡ none

@@ -1,8 +1,8 @@
 -- The exact series: the first k terms grow with k, the upper ends fall with k, and each lower end is below each upper end.
-use mathlib.Core.Path.{_≡_, refl, ap, sym, _∙_, subst}
+use mathlib.Core.Path.{_≡_, ap, sym, _∙_, subst}
 use mathlib.Core.Logic.{_⊎_, inl, inr}
-use Prim.Native.Nat.{ℕ, zero, suc, _+_, _-_, _*_, _/_, _^_, _≤_, _<_}
-use native.Mathlib.Nat.{mul-le-mul, mul-le-mul-left, mul-le-mul-right, le-of-mul-le-mul-right, mul-pos, le-refl, le-trans, le-of-lt, add-zero, add-suc, zero-lt-suc, le-dest, lt-of-not-le, pow-suc, pow-zero, one-mul, mul-assoc}
+use Prim.Native.Nat.{ℕ, zero, suc, _+_, _-_, _*_, _^_, _≤_, _<_}
+use native.Mathlib.Nat.{mul-le-mul, mul-le-mul-left, mul-le-mul-right, le-of-mul-le-mul-right, mul-pos, le-refl, le-of-lt, add-zero, add-suc, zero-lt-suc, le-dest, lt-of-not-le, pow-suc, pow-zero, one-mul, mul-assoc}
 use native.Mathlib.Decide.{decLe}
 use native.Mathlib.Omega.{arith}
 use lib.Ieee.Positive.{through}

@@ -2,7 +2,7 @@
 // defined in the crate heading_rules, specs/Heading.antt.
 ghost use mathlib.Core.Path.{_≡_};
 ghost use Prim.Native.Nat.{_<_};
-ghost use Rattle.heading_rules.specs.Heading.{lawful, headed};
+ghost use Rattle.heading_rules.specs.Heading.{headed};
 
 // Whether h and a list of this many doubles are a workspace.
 pub fn is_headed(h: &[u32], doubles: usize) -> bool

@@ -15,7 +15,7 @@ use Rattle.heading_rules.specs.declared.State.the-variants.{Finished}
 use Rattle.layout.specs.Blocks.{padded}
 use Rattle.heading_rules.specs.Heading.{bit, stateNumber, stateOf, layoutNumbers, progressNumbers, written}
 use Rattle.gate.proofs.Filling.{Filling, filling-done, array-done}
-use Rattle.gate.proofs.Sorting.{padded-at, length-padded}
+use Rattle.layout.proofs.Sums.{padded-at, length-padded}
 
 -- ---- reading
 

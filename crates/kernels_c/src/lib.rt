@@ -1,7 +1,7 @@
 // The kernels under C's conventions, as bench/kernels.rs calls them: each is its kernel, with the kernel's contract.
 ghost use mathlib.Core.Path.{_≡_};
 ghost use mathlib.Core.Logic.{_⊎_};
-ghost use Prim.Native.Nat.{_+_, _≤_, _<_};
+ghost use Prim.Native.Nat.{_+_, _≤_};
 ghost use lib.ListN.{length};
 ghost use Rattle.storage.specs.Runs.{start, triangle};
 ghost use Rattle.storage.specs.Shape.{packed, diagonal, columns, entries, sizeOf};

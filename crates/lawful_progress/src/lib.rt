@@ -1,6 +1,6 @@
 // Whether the progress of a heading is one that an update can have (document 01, Record 5): no stage past its target's last step, the steps left
-// counted right, no step done before its forerunners, and the state as the steps left say. What is lawful is defined in the crate layout,
-// specs/Heading.antt.
+// counted right, no step done before its forerunners, and the state as the steps left say. What is lawful is defined in the crate
+// heading_rules, specs/Heading.antt.
 ghost use mathlib.Core.Path.{_≡_};
 ghost use Prim.Native.Nat.{_-_, _<_, _≤_};
 ghost use lib.ListN.{length};

@@ -1,3 +1,4 @@
 pub mod Places
 pub mod Formula
+pub mod Sums
 pub mod Controls

@@ -35,20 +35,20 @@ use Rattle.layout.specs.Shapes.{
 
 module _ (size : ℕ → ℕ → ℕ) where
   -- the first of the list starts at 0
-  before-here : (t : Target) (l : List Target) (i j : ℕ) → (eqb (t .row) i && eqb (t .col) j) ≡ true → (before size (t ∷ l) i j ≡ 0) × (size (t .row) (t .col) ≡ size i j)
+  pub before-here : (t : Target) (l : List Target) (i j : ℕ) → (eqb (t .row) i && eqb (t .col) j) ≡ true → (before size (t ∷ l) i j ≡ 0) × (size (t .row) (t .col) ≡ size i j)
   unfolding before
   before-here t l i j e =
       let k = and-eq-true-iff (eqb (t .row) i) (eqb (t .col) j) .0 e in
       (rw e, ap₂ size (eqb-true (t .row) i (k .0)) (eqb-true (t .col) j (k .1)))
 
   -- any other starts behind the first
-  before-later : (t : Target) (l : List Target) (i j : ℕ) → (eqb (t .row) i && eqb (t .col) j) ≡ false
+  pub before-later : (t : Target) (l : List Target) (i j : ℕ) → (eqb (t .row) i && eqb (t .col) j) ≡ false
       → before size (t ∷ l) i j ≡ size (t .row) (t .col) + before size l i j
   unfolding before
   before-later t l i j e = rw e
 
   -- and is in the rest of the list
-  member-later : (t : Target) (l : List Target) (i j : ℕ) → (eqb (t .row) i && eqb (t .col) j) ≡ false → List·Memᴰ (target i j) (t ∷ l) → List·Memᴰ (target i j) l
+  pub member-later : (t : Target) (l : List Target) (i j : ℕ) → (eqb (t .row) i && eqb (t .col) j) ≡ false → List·Memᴰ (target i j) (t ∷ l) → List·Memᴰ (target i j) l
   member-later t l i j e m = ⊎-elim (λ q. absurd (differ q)) (λ m′. m′) (List·Memᴰ·cases-cons m)
     where
       differ : target i j ≡ t → ⊥
@@ -99,7 +99,7 @@ in-factors (suc k) j h =
     by-cases (decLt j k) (λ l. Memᴰ·append-left (target k k ∷ []) (in-factors k j l))
     (λ l. let e : j ≡ k = omega arith in Memᴰ·append-right (factors k) (List·Memᴰ·head (ap (λ (x : ℕ). target x x) e)))
 
-in-across : (i n j : ℕ) → j < n → List·Memᴰ (target i j) (across i n)
+pub in-across : (i n j : ℕ) → j < n → List·Memᴰ (target i j) (across i n)
 unfolding across
 in-across i zero j h = absurd (omega arith)
 in-across i (suc n) j h =

@@ -17,20 +17,15 @@ use Rattle.layout.specs.Blocks.{sorted, sum, each, padded}
 use Rattle.layout.specs.Shapes.{levels}
 use Rattle.heading_rules.specs.Heading.{sheetLevels}
 use Rattle.heading_rules.proofs.Sorted.{All, all-map, all-at, length-sorted, below-sorted}
-use Rattle.gate.proofs.Sorting.{padded-at}
+use Rattle.layout.proofs.Sums.{sum-same, sum-small, padded-at}
 use Rattle.levels.specs.Held.{Holds, levelList}
-use Rattle.levels.proofs.Sums.{sum-small, levels-small}
+use Rattle.levels.proofs.Sums.{levels-small}
 use Rattle.columns.specs.Columns.{eachOne}
 use Rattle.workspace.specs.Loaded.{rowStart, oneEach, sheetM, sortedLayout, layoutOfSheet}
-use Rattle.workspace.proofs.Lawful.{sorted-same, order-at, levels-at, sheet-levels, diagonal-is}
+use Rattle.workspace.proofs.Lawful.{levelsIn, sorted-same, order-at, levels-at, sheet-levels, diagonal-is}
 use Rattle.layouts.specs.Ordered.{Ordered}
 
 -- ---- functions that agree below n
-sum-same : (f g : ℕ → ℕ) (n : ℕ) → ((i : ℕ) → i < n → f i ≡ g i) → sum f n ≡ sum g n
-unfolding sum
-sum-same f g zero h = refl
-sum-same f g (suc n) h = ap₂ (λ (a b : ℕ). a + b) (sum-same f g n (λ i b. h i (omega arith))) (h n (omega arith))
-
 each-same : (f g : ℕ → ℕ) (l : List ℕ) → All (λ s. f s ≡ g s) l → each f l ≡ each g l
 unfolding each
 each-same f g [] a = refl
@@ -43,11 +38,6 @@ each-small f h (x ∷ l) zero = h x
 each-small f h (x ∷ l) (suc i) = each-small f h l i
 
 -- ---- the sheet's blocks: `sheetM` is `levelsIn` of them
-abbrev levelsIn : List Block → ℕ → ℕ
-levelsIn [] i = 0
-levelsIn (b ∷ l) zero = b .m
-levelsIn (b ∷ l) (suc i) = levelsIn l i
-
 level-list : (l : List Block) (i : ℕ) → getD (levelList l) i 0 ≡ levelsIn l i
 unfolding levelList
 level-list [] i = refl
@@ -155,7 +145,7 @@ module _ (s : List ℕ) (z : Starts) (m order : List ℕ) (p : Holds s z × Orde
     pub given-room : (t : ℕ) → t ≡ sum (λ i. getD m i 0) (getD order j 0) → t + getD m (getD order j 0) 0 < 2 ^ 64
     given-room t q =
         let b = given-below in
-        omega (arith, sum-small (λ i. getD m i 0) (getD order j 0) (λ i g. given-small i (omega arith)), given-small (getD order j 0) (omega arith))
+        omega (arith, sum-small (λ i. getD m i 0) 65535 (getD order j 0) (λ i g. given-small i (omega arith)), given-small (getD order j 0) (omega arith))
 
 -- ---- tests for k = 2
 pub not-sparse : (k : ℕ) (b : Bool) → (k ≡ 2 → ⊥) → false ≡ eqb k 2 && b

@@ -8,7 +8,6 @@ ghost use Rattle.sheet.specs.Sheet.{Sheet, accepted, readSheet};
 ghost use Rattle.sheet.specs.Fault.{refusalOf};
 ghost use Rattle.layout.specs.Blocks.{sorted, each, padded};
 ghost use Rattle.layout.specs.Gate.{pairOf};
-ghost use Rattle.layout.specs.Shapes.{levels};
 ghost use Rattle.heading_rules.specs.Heading.{isSparse};
 ghost use Rattle.levels.specs.Held.{Holds};
 ghost use Rattle.workspace.specs.Loaded.{layoutOfSheet};

@@ -1,5 +1,5 @@
 -- The sum of the levels, as the loop makes it and as the sheet's blocks have it.
-use Prim.Native.Nat.{ℕ, zero, suc, _+_, _*_, _^_, _≤_, _<_}
+use Prim.Native.Nat.{ℕ, zero, suc, _+_, _^_, _≤_, _<_}
 use mathlib.Core.Path.{_≡_, refl, ap, _∙_}
 use mathlib.Core.List.{List, [], _∷_}
 use native.Mathlib.Omega.{arith}
@@ -9,13 +9,8 @@ use Rattle.sheet.specs.Run.{Block}
 use Rattle.sheet.specs.Fault.{levelsOf}
 use Rattle.sheet.specs.Whole.{Each, BlockInRange}
 use Rattle.layout.specs.Blocks.{padded, sum}
+use Rattle.layout.proofs.Sums.{sum-small, sum-front}
 use Rattle.levels.specs.Held.{levelList}
-
--- a sum of small numbers is small
-pub sum-small : (f : ℕ → ℕ) (n : ℕ) → ((i : ℕ) → i < n → f i ≤ 65535) → sum f n ≤ 65535 * n
-unfolding sum
-sum-small f zero b = omega arith
-sum-small f (suc n) b = omega (arith, sum-small f n (λ i h. b i (omega arith)), b n (omega arith))
 
 -- ---- the loop: t is the sum of the first i
 pub record Summed (m : List ℕ) (n t i : ℕ) : Type 0 where
@@ -34,17 +29,12 @@ pub summed-fits : {m : List ℕ} {n t i : ℕ} → Summed m n t i → i < n → 
 summed-fits {m} {n} {t} {i} v h b =
     let e = v .same in
     let k = b .0 in
-    omega (arith, sum-small (λ j. getD m j 0) i (λ j g. b .1 j (omega arith)), b .1 i (omega arith))
+    omega (arith, sum-small (λ j. getD m j 0) 65535 i (λ j g. b .1 j (omega arith)), b .1 i (omega arith))
 
 pub summed-done : {m : List ℕ} {n t i : ℕ} → Summed m n t i → n ≤ i → t ≡ sum (λ j. getD m j 0) n
 summed-done {m} {n} {t} {i} v h = let e : i ≡ n = omega arith in v .same ∙ ap (sum (λ j. getD m j 0)) e
 
 -- ---- the sum of padded levels is what the blocks cover
-sum-front : (f : ℕ → ℕ) (n : ℕ) → sum f (suc n) ≡ f 0 + sum (λ i. f (suc i)) n
-unfolding sum
-sum-front f zero = omega arith
-sum-front f (suc n) = omega (arith, sum-front f n)
-
 -- Levels of at most n blocks, padded to n.
 pub levels-sum : (n : ℕ) (l : List Block) → length l ≤ n → sum (λ i. getD (padded n (levelList l)) i 0) n ≡ levelsOf l
 unfolding padded levelList levelsOf sum

@@ -9,14 +9,15 @@ use Rattle.sheet.specs.Sheet.{Sheet, accepted, readSheet}
 use Rattle.sheet.proofs.Whole.{read-whole}
 use Rattle.layout.specs.declared.Layout.{Layout}
 use Rattle.heading_rules.specs.declared.Progress.{Progress}
-use Rattle.layout.specs.Blocks.{sorted, each}
+use Rattle.layout.specs.Blocks.{sorted}
 use Rattle.layout.specs.Shapes.{levels}
 use Rattle.heading_rules.specs.Heading.{idle}
 use Rattle.heading_rules.proofs.Sorted.{all-at, below-sorted}
-use Rattle.gate.proofs.Sorting.{padded-at, length-padded}
+use Rattle.layout.proofs.Sums.{padded-at}
 use Rattle.heading_writer.specs.Small.{SmallLayout, SmallProgress}
 use Rattle.heading_writer.proofs.Idle.{idle-small}
 use Rattle.workspace.specs.Loaded.{sheetM, sortedLayout, layoutOfSheet}
+use Rattle.workspace.proofs.Headed.{length-m, length-order}
 use Rattle.layouts.proofs.Reading.{layout-small}
 use Rattle.loading.specs.Ready.{Ready}
 
@@ -27,15 +28,6 @@ small-at bound (x ∷ l) b h zero = h 0 (omega arith)
 small-at bound (x ∷ l) b h (suc i) = small-at bound l b (λ i g. h (suc i) (omega arith)) i
 
 module _ (s : List ℕ) (sheet : Sheet) (z : Starts) (read : readSheet s ≡ accepted sheet z) where
-  -- eight places each for levels and sheet indexes
-  long-m : length (layoutOfSheet sheet .m) ≡ 8
-  unfolding layoutOfSheet sortedLayout
-  long-m = length-padded 8 (each (sheetM sheet) (sorted (sheetM sheet) (sheet .counts .k)))
-
-  long-order : length (layoutOfSheet sheet .order) ≡ 8
-  unfolding layoutOfSheet sortedLayout
-  long-order = length-padded 8 (sorted (sheetM sheet) (sheet .counts .k))
-
   -- a sheet index is below k
   order-small : (i : ℕ) → i < 8 → getD (layoutOfSheet sheet .order) i 0 < 4294967296
   unfolding layoutOfSheet sortedLayout
@@ -59,8 +51,8 @@ module _ (s : List ℕ) (sheet : Sheet) (z : Starts) (read : readSheet s ≡ acc
         p = omega (arith, counts .p .1);
         q = omega (arith, counts .q);
         k = omega (arith, counts .k);
-        m = small-at 4294967296 (layoutOfSheet sheet .m) (omega arith) (λ i g. omega (arith, layout-small s sheet z read i (omega (arith, g, long-m))));
-        order = small-at 4294967296 (layoutOfSheet sheet .order) (omega arith) (λ i g. order-small i (omega (arith, g, long-order)));
+        m = small-at 4294967296 (layoutOfSheet sheet .m) (omega arith) (λ i g. omega (arith, layout-small s sheet z read i (omega (arith, g, length-m sheet))));
+        order = small-at 4294967296 (layoutOfSheet sheet .order) (omega arith) (λ i g. order-small i (omega (arith, g, length-order sheet)));
       }
 
   -- what the gate's search asks

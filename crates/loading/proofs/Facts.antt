@@ -1,86 +1,32 @@
 -- What is known of a sheet that load writes: a lawful layout, blocks that cover the rows, and in a sparse pair one entry in each column.
-use Prim.Native.Nat.{ℕ, zero, suc, _+_, _-_, _*_, _≤_, _<_}
-use mathlib.Core.Path.{_≡_, refl, sym, ap, ap₂, subst, _∙_}
+use Prim.Native.Nat.{ℕ, suc, _+_, _-_, _*_, _≤_, _<_}
+use mathlib.Core.Path.{_≡_, refl, sym, ap, subst, _∙_}
 use mathlib.Core.Bool.{Bool, true, false, cond, and-eq-true-iff}
-use mathlib.Core.List.{List, [], _∷_, _++_}
-use mathlib.Core.Logic.{⊎-elim, by-cases}
+use mathlib.Core.List.{List, [], _∷_}
+use mathlib.Core.Logic.{⊎-elim}
 use mathlib.Core.Option.{none}
-use native.Mathlib.Decide.{decLt}
 use native.Mathlib.Nat.{mul-le-mul-right}
 use native.Mathlib.Omega.{arith}
 use lib.Dec.{eqb}
 use lib.ListN.{length}
 use borrow.Author.Tests.{eqb-true, eq-eqb}
-use Rattle.sheet.specs.Run.{Block, Entry}
+use Rattle.sheet.specs.Run.{Entry}
 use Rattle.sheet.specs.declared.Starts.{Starts}
 use Rattle.sheet.specs.Sheet.{Sheet, accepted, readSheet}
-use Rattle.sheet.specs.Fault.{refusalOf, levelsOf}
+use Rattle.sheet.specs.Fault.{refusalOf}
 use Rattle.sheet.specs.Whole.{Each, EntryInRange, Earlier, Rising}
 use Rattle.sheet.proofs.Whole.{read-whole}
 use Rattle.layout.specs.declared.Layout.{Layout}
-use Rattle.layout.specs.declared.Pair.{Pair}
-use Rattle.layout.specs.declared.Pair.the-variants.{Dense, Sparse, Refused as Denied}
 use Rattle.layout.specs.Blocks.{sum}
-use Rattle.layout.specs.Shapes.{Target, target, levels, across, pairs}
+use Rattle.layout.specs.Shapes.{levels, pairs}
+use Rattle.layout.proofs.Sums.{sum-same}
 use Rattle.heading_rules.specs.Heading.{sheetLevels, lawful}
 use Rattle.heading_rules.proofs.Lawful.{both, every-at}
-use Rattle.workspace.specs.Loaded.{rowStart, sheetRow, inBlock, countOf, rowOf, ofColumn, oneEach, denied, firstDenied, pairIn, sheetM, sortedLayout, layoutOfSheet, entryRowIn}
-use Rattle.workspace.proofs.Lawful.{no-refusal, sheet-levels, order-test, total, level-range, pair-lawful, sparse-is, diagonal-is, lawful-of, sparse-columns}
+use Rattle.workspace.specs.Loaded.{rowStart, sheetRow, inBlock, countOf, rowOf, ofColumn, oneEach, firstDenied, sheetM, sortedLayout, layoutOfSheet, entryRowIn}
+use Rattle.workspace.proofs.Lawful.{no-refusal, sum-levels, allowed-pairs, sheet-levels, order-test, total, level-range, pair-lawful, sparse-is, diagonal-is, lawful-of, sparse-columns}
 use Rattle.block_map.proofs.Rows.{in-block}
 use Rattle.loading.proofs.Lands.{Sole}
 use Rattle.loading.proofs.Positions.{each-map, true-false, none-pass}
-
--- ---- the gate allows every pair
-
-module _ (sheet : Sheet) (y : Layout) where
-  allowed-parts : (l r : List Target) → firstDenied sheet y (l ++ r) ≡ none → (firstDenied sheet y l ≡ none) × (firstDenied sheet y r ≡ none)
-  unfolding firstDenied
-  allowed-parts [] r e = (refl, e)
-  allowed-parts (t ∷ l) r e = step (allowed-parts l r) (pairIn sheet y (t .row) (t .col)) e
-    where
-      step : (firstDenied sheet y (l ++ r) ≡ none → (firstDenied sheet y l ≡ none) × (firstDenied sheet y r ≡ none)) → (p : Pair)
-          → denied p t (firstDenied sheet y (l ++ r)) ≡ none → (denied p t (firstDenied sheet y l) ≡ none) × (firstDenied sheet y r ≡ none)
-      step f Dense e = f e
-      step f Sparse e = f e
-      step f (Denied n) e = absurd (let z : _≡_ {A = ℕ} 0 1 = cc in omega arith)
-
-  allowed-across : (i n : ℕ) → firstDenied sheet y (across i n) ≡ none → (j : ℕ) → j < n → firstDenied sheet y (target i j ∷ []) ≡ none
-  unfolding across
-  allowed-across i zero e j h = absurd (omega arith)
-  allowed-across i (suc n) e j h =
-      let r = allowed-parts (across i n) (target i n ∷ []) e in
-      by-cases (decLt j n) (λ l. allowed-across i n (r .0) j l)
-      (λ l. let z : n ≡ j = omega arith in subst (λ (x : ℕ). firstDenied sheet y (target i x ∷ []) ≡ none) z (r .1))
-
-  allowed-pairs : (k : ℕ) → firstDenied sheet y (pairs k) ≡ none → (i j : ℕ) → i < k → j < i → firstDenied sheet y (target i j ∷ []) ≡ none
-  unfolding pairs
-  allowed-pairs zero e i j h g = absurd (omega arith)
-  allowed-pairs (suc k) e i j h g =
-      let r = allowed-parts (pairs k) (across k k) e in
-      by-cases (decLt i k) (λ l. allowed-pairs k (r .0) i j l g)
-      (λ l. let z : k ≡ i = omega arith in subst (λ (x : ℕ). firstDenied sheet y (target x j ∷ []) ≡ none) z (allowed-across k k (r .1) j (omega arith)))
-
--- ---- the blocks' levels are the sheet's rows
-
-sum-same : (f g : ℕ → ℕ) (n : ℕ) → ((i : ℕ) → i < n → f i ≡ g i) → sum f n ≡ sum g n
-unfolding sum
-sum-same f g zero h = refl
-sum-same f g (suc n) h = ap₂ (λ (a b : ℕ). a + b) (sum-same f g n (λ i b. h i (omega arith))) (h n (omega arith))
-
-sum-front : (f : ℕ → ℕ) (n : ℕ) → sum f (suc n) ≡ f 0 + sum (λ i. f (suc i)) n
-unfolding sum
-sum-front f zero = omega arith
-sum-front f (suc n) = omega (arith, sum-front f n)
-
-abbrev levelsIn : List Block → ℕ → ℕ
-levelsIn [] i = 0
-levelsIn (b ∷ l) zero = b .m
-levelsIn (b ∷ l) (suc i) = levelsIn l i
-
-sum-levels : (l : List Block) → sum (levelsIn l) (length l) ≡ levelsOf l
-unfolding levelsOf sum
-sum-levels [] = refl
-sum-levels (b ∷ l) = sum-front (levelsIn (b ∷ l)) (length l) ∙ ap (λ (a : ℕ). b .m + a) (sum-levels l)
 
 -- ---- the one entry that passes
 

@@ -1,10 +1,10 @@
 -- The fixed-point series is below the exact one by at most 3 units and what the terms left out come to.
-use mathlib.Core.Path.{_≡_, refl, ap, sym, _∙_, subst, subst₂}
+use mathlib.Core.Path.{_≡_, ap, sym, subst, subst₂}
 use Prim.Native.Nat.{ℕ, zero, suc, _+_, _-_, _*_, _/_, _≤_, _<_}
-use native.Mathlib.Nat.{mul-le-mul, mul-le-mul-left, mul-le-mul-right, le-of-mul-le-mul-right, mul-pos, le-of-eq, div-mul-le-self, lt-div-mul-add, add-zero, zero-add}
+use native.Mathlib.Nat.{mul-le-mul, mul-le-mul-left, mul-le-mul-right, le-of-mul-le-mul-right, mul-pos, div-mul-le-self, lt-div-mul-add, add-zero, zero-add}
 use native.Mathlib.Omega.{arith}
 use Rattle.exact_log.specs.Artanh.{power, under, den, num}
-use Rattle.exact_log.proofs.Bracket.{topNum, topDen, power-zero, power-suc, power-pos, under-pos, gap, below-all, above-all}
+use Rattle.exact_log.proofs.Bracket.{topNum, topDen, power-zero, power-suc, power-pos, gap, below-all, above-all}
 use Rattle.log_units.specs.Units.{ratio, square, horner, artanhUnits}
 
 -- ---- steps, over plain numbers

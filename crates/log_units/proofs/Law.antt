@@ -1,19 +1,19 @@
 -- The error law, for any precision and any bound that its numbers serve: the logarithm in units lies within the bound of the exact one.
-use mathlib.Core.Path.{_≡_, refl, ap, sym, _∙_, subst}
+use mathlib.Core.Path.{_≡_, refl, ap, sym}
 use mathlib.Core.Bool.{Bool, true, false, cond, true≢false}
-use Prim.Native.Nat.{ℕ, zero, suc, _+_, _-_, _*_, _^_, _≤_, _<_}
-use native.Mathlib.Nat.{mul-le-mul, mul-le-mul-left, mul-le-mul-right, le-of-mul-le-mul-right, mul-pos, le-trans, add-zero, zero-add}
+use Prim.Native.Nat.{ℕ, _+_, _-_, _*_, _^_, _≤_, _<_}
+use native.Mathlib.Nat.{mul-le-mul, mul-le-mul-left, mul-le-mul-right, le-of-mul-le-mul-right, mul-pos, le-trans}
 use native.Mathlib.Omega.{arith}
 use borrow.Author.Tests.{ltb-true, ltb-false}
-use lib.Dec.{T, ltb, lit<, lit≤}
-use lib.Ieee.{Float, nan, inf, fin, binary64, up, down, round}
+use lib.Dec.{T, ltb, lit<}
+use lib.Ieee.{Float, nan, inf, fin, up, down}
 use lib.Ieee.Scale.{finite}
-use Rattle.exact_log.specs.Fraction.{Fraction, over, negated, times, _⊞_, _⊴_, Interval, _⊕_, stretched, signed}
+use Rattle.exact_log.specs.Fraction.{over, negated, _⊞_, _⊴_, Interval, _⊕_, stretched, signed}
 use Rattle.exact_log.specs.Artanh.{under, den, num, artanh}
 use Rattle.exact_log.specs.Log.{apart, logOf}
 use Rattle.exact_log.proofs.Bracket.{topNum, topDen, below-all, above-all}
 use Rattle.log_units.specs.Units.{Precision, artanhUnits, wholePart, seriesPart, gain, loss, lnSum}
-use Rattle.log_units.specs.Near.{valueOf, slack, Near}
+use Rattle.log_units.specs.Near.{Near}
 use Rattle.log_units.proofs.Horner.{units-low, units-high, units-small}
 use Rattle.log_units.proofs.Rounding.{Rounded, IsRounded, rounded, rounded-finite}
 

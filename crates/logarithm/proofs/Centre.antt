@@ -7,7 +7,7 @@ use borrow.Author.Tests.{lt-ltb, le-ltb, ltb-true, ltb-false}
 use lib.Dec.{ltb, lit<, lit≤}
 use lib.Ieee.{Float}
 use Rattle.double.specs.declared.Parts.{Parts}
-use Rattle.double.proofs.Value.{InPlace}
+use Rattle.double.specs.Parts.{InPlace}
 use Rattle.exact_log.specs.Log.{apart, centre, rise}
 use Rattle.exact_log.proofs.Ends.{near-one}
 use Rattle.log_units.specs.Units.{chosen, ratio, horner, seriesPart, lnSum, lnParts}

@@ -1,20 +1,20 @@
 -- The chosen numbers serve the bound of document 01, so `lnOf` is within 2^-50 + 2^-52 * |r| of the exact logarithm.
-use mathlib.Core.Path.{_≡_, refl, ap, sym, _∙_, subst}
-use Prim.Native.Nat.{ℕ, zero, suc, _+_, _-_, _*_, _^_, _≤_, _<_}
+use mathlib.Core.Path.{_≡_, ap, sym, _∙_, subst}
+use Prim.Native.Nat.{ℕ, _+_, _-_, _*_, _^_, _≤_, _<_}
 use native.Mathlib.Omega.{arith}
 use mathlib.Core.Bool.{Bool, true, false, cond}
-use lib.Dec.{T, ltb, lit<, lit≤}
-use lib.Ieee.{Float, nan, inf, fin, binary64, fits, toBits}
+use lib.Dec.{T, ltb, lit<}
+use lib.Ieee.{Float, binary64, fits}
 use lib.Ieee.Positive.{positive}
 use Rattle.double.specs.declared.Kind.{Kind}
-use Rattle.double.specs.Parts.{significand, exponent, partsOf}
+use Rattle.double.specs.Parts.{significand, exponent}
 use Rattle.double.specs.Kind.{kindOf}
 use Rattle.double.proofs.Value.{significand-low, significand-high, exponent-le}
 use Rattle.double.proofs.Tests.{at-positive}
 use Rattle.exact_log.specs.Log.{apart, centre, rise, exactLn}
 use Rattle.exact_log.proofs.Ends.{near-one}
 use Rattle.log_units.specs.Units.{chosen, lnSum, lnParts}
-use Rattle.log_units.specs.Near.{Near, IsLn}
+use Rattle.log_units.specs.Near.{IsLn}
 use Rattle.log_units.proofs.Law.{sum-finite, sum-near}
 use Rattle.log_units.proofs.Serves.{serves}
 use Rattle.logarithm.specs.Ln.{lnAt, lnOf}

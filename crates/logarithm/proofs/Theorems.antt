@@ -1,8 +1,8 @@
 -- What the crates above use of the logarithm, beside `ln-near`: it is a double, finite where x is finite and above 0, at most 745 in size, and 0 exactly at 1.
-use mathlib.Core.Path.{_≡_, refl, ap, sym, _∙_, subst}
+use mathlib.Core.Path.{_≡_, refl, ap, _∙_, subst}
 use mathlib.Core.Bool.{Bool, true, false, cond}
 use Prim.Native.Nat.{ℕ, zero, suc, _+_, _-_, _*_, _^_, _≤_, _<_}
-use native.Mathlib.Nat.{mul-le-mul-left, mul-le-mul-right, le-of-mul-le-mul-right, eq-of-mul-eq-mul-right, mul-pos, mul-comm, zero-lt-suc}
+use native.Mathlib.Nat.{mul-le-mul-right, le-of-mul-le-mul-right, eq-of-mul-eq-mul-right, mul-pos, mul-comm, zero-lt-suc}
 use native.Mathlib.Omega.{arith}
 use lib.Dec.{T, ltb, lt→ltb, lit<, lit≤}
 use lib.IntN.{ℤ, pos}
@@ -19,9 +19,8 @@ use Rattle.double.proofs.Bits.{same}
 use Rattle.double.proofs.Value.{significand-low, significand-high}
 use Rattle.exact_log.specs.Log.{apart, centre, rise}
 use Rattle.exact_log.proofs.Ends.{exact-parts}
-use Rattle.log_units.specs.Units.{Precision, chosen, artanhUnits, wholePart, seriesPart, gain, loss, lnSum, lnParts}
-use Rattle.log_units.specs.Near.{IsLn}
-use Rattle.log_units.proofs.Rounding.{Rounded, IsRounded}
+use Rattle.log_units.specs.Units.{Precision, chosen, wholePart, seriesPart, gain, loss, lnSum, lnParts}
+use Rattle.log_units.proofs.Rounding.{IsRounded}
 use Rattle.log_units.proofs.Law.{sum-rounded, series-small, size-le}
 use Rattle.log_units.proofs.Serves.{serves}
 use Rattle.log_split.proofs.Together.{units-some}

@@ -2,7 +2,7 @@
 
 ghost use mathlib.Core.Path.{_≡_};
 ghost use Prim.Native.Nat.{_+_, _*_, _^_};
-ghost use Rattle.double.proofs.Value.{InPlace};
+ghost use Rattle.double.specs.Parts.{InPlace};
 ghost use Rattle.exact_log.specs.Log.{apart, centre};
 ghost use Rattle.log_units.specs.Units.{chosen, ratio, seriesPart, lnParts};
 ghost use Rattle.logarithm.specs.Ln.{lnOf};

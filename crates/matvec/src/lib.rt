@@ -2,7 +2,7 @@
 // lie in the list v, the blocks in w: the target's entries are the rule's, every other double stays. A dense block has at most 316 rows.
 ghost use mathlib.Core.Path.{_≡_};
 ghost use mathlib.Core.Logic.{_⊎_};
-ghost use Prim.Native.Nat.{_+_, _≤_, _<_};
+ghost use Prim.Native.Nat.{_+_, _≤_};
 ghost use lib.ListN.{length};
 ghost use Rattle.storage.specs.Shape.{columns, sizeOf};
 ghost use Rattle.matvec.specs.Products.{lessProduct};

@@ -1,9 +1,22 @@
 -- What a new response leaves of the doubles: the loaded numbers with the new response, whatever stands behind them; all behind them stays.
 use Prim.Native.Nat.{ℕ, zero, suc, _+_, _≤_, _<_}
-use mathlib.Core.Path.{_≡_, refl, sym, ap, _∙_}
+use mathlib.Core.Path.{_≡_, refl, sym, ap, subst, _∙_}
 use mathlib.Core.Bool.{cond}
-use mathlib.Core.List.{List, [], _∷_, _++_, List·Memᴰ, List·Memᴰ·append-cases, List·Memᴰ·eq-of-singleton, List·Memᴰ·not-nil}
-use mathlib.Core.Logic.{⊎-elim}
+use mathlib.Core.List.{
+  List,
+  [],
+  _∷_,
+  _++_,
+  List·Memᴰ,
+  List·Memᴰ·head,
+  List·Memᴰ·append-cases,
+  List·Memᴰ·eq-of-singleton,
+  List·Memᴰ·not-nil,
+  Memᴰ·append-left,
+  Memᴰ·append-right,
+}
+use mathlib.Core.Logic.{_⊎_, inl, inr, ⊎-elim, by-cases}
+use native.Mathlib.Decide.{decLt}
 use native.Mathlib.Omega.{arith}
 use lib.Dec.{eqb}
 use borrow.Author.Tests.{eq-eqb}
@@ -17,10 +30,10 @@ use Rattle.storage.proofs.Blocks.{length-fill}
 use Rattle.layout.specs.declared.Layout.{Layout}
 use Rattle.layout.specs.Shapes.{Target, target, across, shape, loadedShape, loadedSizes, loadedLength, loadedAt}
 use Rattle.heading_rules.specs.Heading.{layoutOf, entryRow}
-use Rattle.layout.proofs.Places.{loaded-inside, size-loaded}
+use Rattle.layout.proofs.Places.{in-across, loaded-inside, loaded-apart, size-loaded}
 use Rattle.workspace.specs.Memory.{cellOf}
 use Rattle.workspace.specs.Response.{responseCell, respondedBlock, storeResponse, responded}
-use Rattle.memory.proofs.Stored.{run-length, run-drop, run-left}
+use Rattle.memory.proofs.Stored.{same-or-other, Alone, run-length, run-part, run-own, run-drop, run-left}
 
 -- ---- the targets of a response
 
@@ -48,10 +61,16 @@ last-range k t m =
     (ap (λ (s : Target). s .row) e, omega arith))
     (List·Memᴰ·append-cases (across k k) m)
 
+-- and all of these are there
+last-member : (k j : ℕ) → j ≤ k → List·Memᴰ (target k j) (last k)
+last-member k j l =
+    by-cases (decLt j k) (λ g. Memᴰ·append-left (target k k ∷ []) (in-across k k j g))
+    (λ g. let q : j ≡ k = omega arith in Memᴰ·append-right (across k k) (List·Memᴰ·head (ap (target k) q)))
+
 -- ---- a block (k, j) asks no rows of entries, and lies in the loaded numbers
 
 -- its shape is the same whatever the rows
-rows-unasked : (y : Layout) (row row′ : ℕ → ℕ) (j : ℕ) → loadedShape y row (y .k) j ≡ loadedShape y row′ (y .k) j
+pub rows-unasked : (y : Layout) (row row′ : ℕ → ℕ) (j : ℕ) → loadedShape y row (y .k) j ≡ loadedShape y row′ (y .k) j
 unfolding loadedShape shape
 rows-unasked y row row′ j = rw (eq-eqb (y .k) (y .k) refl) refl
 
@@ -112,6 +131,26 @@ module _ (zy xy : List Float) (yy : Float) where
         let e : place t ≡ loadedAt (layoutOf h) (layoutOf h .k) (t .col) = ap (λ (i : ℕ). loadedAt (layoutOf h) i (t .col)) (r .0) in
         omega (arith, e, made-length (t .col), loaded-inside (layoutOf h) (layoutOf h .k) (t .col) (r .1) (omega arith))
 
+    -- another block lies apart from each
+    other-apart : (i j : ℕ) → j ≤ i → i ≤ layoutOf h .k → (t : Target) → List·Memᴰ t (last (layoutOf h .k)) → (i ≡ t .row → j ≡ t .col → ⊥)
+        → (loadedAt (layoutOf h) i j + loadedSizes (layoutOf h) i j ≤ place t) ⊎ (place t + length (made t) ≤ loadedAt (layoutOf h) i j)
+    other-apart i j a b t m other =
+        let r = last-range (layoutOf h .k) t m in
+        let e : t .row ≡ layoutOf h .k = r .0 in
+        let g : t .col ≤ layoutOf h .k = r .1 in
+        let n : length (made t) ≡ loadedSizes (layoutOf h) (t .row) (t .col) = made-length (t .col) ∙ ap (λ (x : ℕ). loadedSizes (layoutOf h) x (t .col)) (sym e) in
+        subst (λ (x : ℕ). (loadedAt (layoutOf h) i j + loadedSizes (layoutOf h) i j ≤ place t) ⊎ (place t + x ≤ loadedAt (layoutOf h) i j)) (sym n)
+        (loaded-apart (layoutOf h) i j a b (t .row) (t .col) (omega arith) (omega arith) other)
+
+    -- and each from the others
+    own-alone : (j : ℕ) → j ≤ layoutOf h .k → Alone place made run ends goes-on (target (layoutOf h .k) j) (last (layoutOf h .k))
+    own-alone j l s m =
+        ⊎-elim (λ e. inl e)
+        (λ other. inr
+        (subst (λ (x : ℕ). (loadedAt (layoutOf h) (layoutOf h .k) j + x ≤ place s) ⊎ (place s + length (made s) ≤ loadedAt (layoutOf h) (layoutOf h .k) j)) (sym (made-length j))
+        (other-apart (layoutOf h .k) j l (omega arith) s m (λ a b. other (sym a) (sym b)))))
+        (same-or-other s (target (layoutOf h .k) j))
+
     -- on any list that has the loaded numbers
     module _ (v : List Float) (room : loadedLength (layoutOf h) ≤ length v) where
       -- each fits
@@ -136,6 +175,24 @@ module _ (h : List ℕ) (w zy xy : List Float) (yy : Float) (room : loadedLength
   pub responded-behind : (n : ℕ) → loadedLength (layoutOf h) ≤ n → drop n (responded h w zy xy yy .left .doubles) ≡ drop n w
   unfolding responded
   responded-behind n l = all-behind zy xy yy h w w room n l
+
+  -- a block before row k stays
+  pub responded-else : (i j : ℕ) → j ≤ i → i < layoutOf h .k
+      → part (loadedAt (layoutOf h) i j) (loadedSizes (layoutOf h) i j) (responded h w zy xy yy .left .doubles) ≡ part (loadedAt (layoutOf h) i j) (loadedSizes (layoutOf h) i j) w
+  unfolding responded
+  responded-else i j a b =
+      run-part (place zy xy yy h w) (made zy xy yy h w) (run zy xy yy h w) (ends zy xy yy h w) (goes-on zy xy yy h w) (last (layoutOf h .k)) w (fits zy xy yy h w w room)
+      (loadedAt (layoutOf h) i j) (loadedSizes (layoutOf h) i j)
+      (λ t m. let r : t .row ≡ layoutOf h .k = last-range (layoutOf h .k) t m .0 in other-apart zy xy yy h w i j a (omega arith) t m (λ e g. omega arith))
+
+  -- a block of row k is the one with the new response
+  pub responded-own : (j : ℕ) → j ≤ layoutOf h .k
+      → part (loadedAt (layoutOf h) (layoutOf h .k) j) (loadedSizes (layoutOf h) (layoutOf h .k) j) (responded h w zy xy yy .left .doubles) ≡ respondedBlock h w zy xy yy j
+  unfolding responded
+  responded-own j l =
+      ap (λ (n : ℕ). part (loadedAt (layoutOf h) (layoutOf h .k) j) n (run zy xy yy h w (last (layoutOf h .k)) w)) (sym (made-length zy xy yy h w j))
+      ∙ run-own (place zy xy yy h w) (made zy xy yy h w) (run zy xy yy h w) (ends zy xy yy h w) (goes-on zy xy yy h w) (last (layoutOf h .k)) w (fits zy xy yy h w w room)
+      (target (layoutOf h .k) j) (own-alone zy xy yy h w j l) (last-member (layoutOf h .k) j l)
 
   -- the same as on the loaded numbers alone, with any heading of the same layout
   pub responded-loaded : (h′ : List ℕ) → layoutOf h′ ≡ layoutOf h

@@ -2,30 +2,29 @@
 use Prim.Native.Nat.{ℕ, zero, suc, _+_, _*_, _≤_, _<_}
 use mathlib.Core.Path.{_≡_, refl, sym, ap, ap₂, subst, _∙_}
 use mathlib.Core.Bool.{Bool, true, false, _&&_, _||_}
-use mathlib.Core.List.{List, [], _++_}
-use mathlib.Core.Logic.{by-cases}
-use native.Mathlib.Decide.{decLt}
+use mathlib.Core.List.{List, _++_}
 use native.Mathlib.Numerals.{add-one}
 use native.Mathlib.Omega.{arith}
 use lib.Dec.{eqb}
 use lib.ListN.{length, length-append}
 use borrow.Author.Tests.{eqb-true, eqb-false}
 use lib.Ieee.{Float}
-use Rattle.storage.specs.Shape.{Shape, sizeOf, packed, diagonal}
-use Rattle.storage.specs.Part.{part, store}
+use Rattle.storage.specs.Shape.{Shape, sizeOf, diagonal}
+use Rattle.storage.specs.Part.{part}
 use Rattle.storage.proofs.Parts.{length-store, store-nil}
 use Rattle.layout.specs.declared.Layout.{Layout}
 use Rattle.layout.specs.Blocks.{sum}
+use Rattle.layout.proofs.Sums.{sum-same, sum-le, sum-more}
 use Rattle.layout.specs.Shapes.{levels, shape, workingAt, doublesNeeded}
-use Rattle.heading_rules.specs.Heading.{lawful, layoutOf, entryRow, headed}
+use Rattle.heading_rules.specs.Heading.{lawful, layoutOf, entryRow}
 use Rattle.heading_rules.proofs.Lawful.{is-lawful, lawful-doubles}
-use Rattle.heading_rules.proofs.Fits.{fits}
-use Rattle.workspace.specs.Memory.{Workspace, cellOf, workingBlock}
+use Rattle.workspace.specs.Memory.{cellOf, workingBlock}
 use Rattle.workspace.specs.Answers.{space}
 use Rattle.update.specs.Working.{pivotCount}
 use Rattle.worked.specs.Print.{pivotLine}
 use Rattle.worked.specs.Program.{pivotRows, pivotLines}
-use Rattle.print.proofs.Written.{Put, put-then}
+use Rattle.print.specs.Written.{Put}
+use Rattle.print.proofs.Written.{put-then}
 use Rattle.print_lines.proofs.Lines.{pivot-short}
 use Rattle.pivot_places.specs.Pivots.{rowsOf, pivotShape, pivotAt}
 use Rattle.pivot_places.proofs.Places.{shape-is, last-rows, other-rows, last-kind, diagonal-kind, packed-kind}
@@ -86,20 +85,7 @@ module _ (y : Layout) (w : List Float) (j : ℕ) (from : ℕ) (out₀ : List ℕ
 -- ---- how many pivots there are
 -- the blocks before the last have as many rows as levels
 sum-levels : (y : Layout) (n : ℕ) → n ≤ y .k → sum (rowsOf y) n ≡ sum (levels y) n
-unfolding sum
-sum-levels y zero h = refl
-sum-levels y (suc n) h = ap₂ (λ (a b : ℕ). a + b) (sum-levels y n (omega arith)) (other-rows y n (λ e. omega arith))
-
--- a sum of more is no less
-sum-le : (f : ℕ → ℕ) (a b : ℕ) → a ≤ b → sum f a ≤ sum f b
-unfolding sum
-sum-le f a zero h = let e : a ≡ 0 = omega arith in rw e (omega arith)
-sum-le f a (suc b) h =
-    by-cases (decLt b a) (λ l. let e : a ≡ suc b = omega arith in rw e (omega arith)) (λ l. omega (arith, sum-le f a b (omega arith)))
-
-sum-more : (f : ℕ → ℕ) (n : ℕ) → sum f (n + 1) ≡ sum f n + f n
-unfolding sum
-sum-more f n = ap (sum f) (add-one n)
+sum-levels y n h = sum-same (rowsOf y) (levels y) n (λ i b. other-rows y i (λ e. omega arith))
 
 -- one for each column of the random effects, each fixed effect and the response: fewer than there are doubles
 module _ (y : Layout) (ok : lawful y ≡ true) where

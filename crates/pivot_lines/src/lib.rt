@@ -9,7 +9,7 @@ ghost use Rattle.layout.specs.Shapes.{doublesNeeded};
 ghost use Rattle.heading_rules.specs.Heading.{lawful, layoutOf, headed};
 ghost use Rattle.workspace.specs.Answers.{space};
 ghost use Rattle.worked.specs.Program.{pivotLines};
-ghost use Rattle.print.proofs.Written.{Put};
+ghost use Rattle.print.specs.Written.{Put};
 ghost use Rattle.pivot_places.specs.Pivots.{rowsOf};
 ghost use Rattle.pivot_lines.specs.Lines.{rowLines, blockLines};
 

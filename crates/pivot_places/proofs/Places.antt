@@ -1,23 +1,20 @@
 -- Where the pivots of a lawful layout lie.
 use Prim.Native.Nat.{ℕ, _+_, _≤_, _<_}
-use mathlib.Core.Path.{_≡_, refl, sym, ap, subst, _∙_}
+use mathlib.Core.Path.{_≡_, refl, sym, ap, _∙_}
 use mathlib.Core.Bool.{Bool, true, false, _&&_, _||_, and-eq-true-iff, true≢false}
 use mathlib.Core.List.{List}
-use mathlib.Core.Logic.{_⊎_, inl, inr, ⊎-elim}
-use native.Mathlib.Nat.{mul-le-mul}
 use native.Mathlib.Omega.{arith}
 use lib.Dec.{eqb}
 use lib.ListN.{length, getD}
 use lib.Ieee.{Float, nan}
 use borrow.Author.Tests.{eqb-true, eqb-false, eq-eqb, ne-eqb}
-use Rattle.storage.specs.Runs.{start, triangle, single}
+use Rattle.storage.specs.Runs.{start, triangle}
 use Rattle.storage.specs.Shape.{Shape, packed, diagonal, hasCell, sizeOf, placeOf}
 use Rattle.storage.proofs.Starts.{start-le, start-single}
 use Rattle.storage.proofs.Places.{place-below}
-use Rattle.blocks.specs.Blocks.{block}
 use Rattle.blocks.proofs.Laws.{read-block, has-packed, has-diagonal}
 use Rattle.layout.specs.declared.Layout.{Layout}
-use Rattle.layout.specs.Shapes.{pick, levels, shape, sizes, factorShape, workingAt, doublesNeeded}
+use Rattle.layout.specs.Shapes.{pick, levels, shape, sizes, workingAt, doublesNeeded}
 use Rattle.heading_rules.specs.Heading.{lawful}
 use Rattle.heading_rules.proofs.Lawful.{is-lawful}
 use Rattle.heading_rules.proofs.Sorted.{packed-rows}

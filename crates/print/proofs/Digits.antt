@@ -9,7 +9,8 @@ use Rattle.storage.specs.Part.{store}
 use Rattle.storage.proofs.Parts.{store-nil}
 use Rattle.worked.specs.Print.{number, hexDigit, hexadecimal, word}
 use Rattle.print.proofs.Numbers.{number-one, number-more, hexadecimal-more, hexadecimal-length}
-use Rattle.print.proofs.Written.{Put, put-then}
+use Rattle.print.specs.Written.{Put}
+use Rattle.print.proofs.Written.{put-then}
 
 -- ---- in decimal
 

@@ -8,11 +8,8 @@ use native.Mathlib.Omega.{arith}
 use lib.ListN.{length, getD, take, set, length-append}
 use lib.Seq.{take-suc, take-all, length-take-le}
 use Rattle.storage.specs.Part.{store}
+use Rattle.print.specs.Written.{Put}
 use Rattle.storage.proofs.Parts.{length-store, store-nil, store-one, store-more}
-
--- w′ is w with l from `at` on, and r is the place behind l
-abbrev pub Put : ℕ → List ℕ → List ℕ → ℕ → List ℕ → Type 0
-Put at l w r w′ = (r ≡ at + length l) × (w′ ≡ store at l w)
 
 -- one text behind another
 pub put-then : (at : ℕ) (l m w : List ℕ) {r r′ : ℕ} {w′ w″ : List ℕ} → at + length l ≤ length w → Put at l w r w′ → Put r m w′ r′ w″ → Put at (l ++ m) w r′ w″

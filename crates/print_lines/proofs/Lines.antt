@@ -10,7 +10,8 @@ use Rattle.storage.specs.Part.{store}
 use Rattle.sheet.specs.Line.{tab, lf}
 use Rattle.worked.specs.Print.{number, word, pivotTag, refusedTag, pivotLine, refusedLine}
 use Rattle.print.proofs.Numbers.{number-length, number-short, hexadecimal-length}
-use Rattle.print.proofs.Written.{Put, put-then, put-field}
+use Rattle.print.specs.Written.{Put}
+use Rattle.print.proofs.Written.{put-then, put-field}
 
 -- a double's word has 16 digits
 pub word-length : (x : Float) → length (word x) ≡ 16

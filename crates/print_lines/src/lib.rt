@@ -4,7 +4,7 @@ ghost use Prim.Native.Nat.{_+_, _≤_};
 ghost use lib.ListN.{length};
 ghost use Rattle.storage.specs.Part.{store};
 ghost use Rattle.worked.specs.Print.{number, pivotLine, refusedLine};
-ghost use Rattle.print.proofs.Written.{Put};
+ghost use Rattle.print.specs.Written.{Put};
 use print::LF;
 use print::TAB;
 

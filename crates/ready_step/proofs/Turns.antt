@@ -11,13 +11,11 @@ use lib.ListN.{length, getD, replicate}
 use lib.Ieee.{Float}
 use Rattle.storage.specs.Runs.{start, triangle}
 use Rattle.storage.proofs.Parts.{length-part}
-use Rattle.order.specs.Steps.{Step, Named, named, after, rustOrder}
-use Rattle.order.specs.Progress.{all, join, stepsLeft, Order, done, advance, Represents, Ready}
+use Rattle.order.specs.Steps.{Step, Named, rustOrder}
+use Rattle.order.specs.Progress.{join, stepsLeft, Order, done, advance, Represents, Ready}
 use Rattle.order.proofs.Sets.{named-iff, ready-after, represents-begun, represents-moved, represents-same}
 use Rattle.order.proofs.Left.{left-moved}
 use Rattle.order.proofs.Next.{rust-order}
-use Rattle.refusal.specs.declared.Answer.{Answer}
-use Rattle.refusal.specs.declared.Answer.the-variants.{Accepted, Refused}
 use Rattle.layout.specs.declared.Layout.{Layout}
 use Rattle.heading_rules.specs.declared.Progress.{Progress}
 use Rattle.heading_rules.specs.declared.State.{State}
@@ -29,7 +27,7 @@ use Rattle.heading_rules.specs.Fits.{Fits}
 use Rattle.heading_rules.proofs.Fits.{fits}
 use Rattle.workspace.specs.Memory.{Workspace, headingWith}
 use Rattle.workspace.specs.Answers.{Outcome}
-use Rattle.update.specs.Calls.{advanced, isUnderWay, refusedBy, stepped, onPivot, stepOf}
+use Rattle.update.specs.Calls.{advanced, refusedBy, stepped, onPivot, stepOf}
 use Rattle.moves.proofs.Kept.{layout-kept, progress-read, headed-with}
 use Rattle.moves.proofs.Moves.{lawfully, length-advanced, stage-advanced, lawful-advanced}
 use Rattle.ready_step.specs.Underway.{isRefused, Underway}

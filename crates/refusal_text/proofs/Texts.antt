@@ -1,16 +1,15 @@
 -- What the program prints, from each answer on.
-use Prim.Native.Nat.{ℕ, zero, suc, _+_, _*_, _/_, _≤_, _<_}
-use mathlib.Core.Path.{_≡_, refl, sym, ap, ap₂, subst, _∙_}
-use mathlib.Core.Bool.{Bool, true, false, _&&_, cond, true≢false, and-eq-true-iff}
+use Prim.Native.Nat.{ℕ, zero, _+_, _≤_, _<_}
+use mathlib.Core.Path.{_≡_, refl, sym, ap, subst, _∙_}
+use mathlib.Core.Bool.{Bool, true, false, _&&_, true≢false, and-eq-true-iff}
 use mathlib.Core.List.{List, [], _∷_, append-nil}
 use mathlib.Core.Option.{Option, none, some}
 use native.Mathlib.Omega.{arith}
-use native.Mathlib.Nat.{mul-le-mul, add-zero}
-use lib.Dec.{ltb, eqb}
+use native.Mathlib.Nat.{mul-le-mul}
+use lib.Dec.{eqb}
 use lib.ListN.{length, take, drop, replicate}
 use lib.Ieee.{Float}
 use borrow.Author.Tests.{eqb-true, lt-ltb, le-ltb}
-use Rattle.refusal.specs.declared.Refusal.{Refusal}
 use Rattle.refusal.specs.declared.Answer.{Answer}
 use Rattle.refusal.specs.declared.Answer.the-variants.{Accepted, Refused}
 use Rattle.storage.proofs.Parts.{part-same, drop-store}
@@ -18,7 +17,6 @@ use Rattle.order.specs.Steps.{Step, named, after, rustOrder}
 use Rattle.order.specs.Progress.{all, done}
 use Rattle.rules.specs.Arithmetic.{ieee}
 use Rattle.sheet.specs.declared.Cursor.{Cursor}
-use Rattle.sheet.specs.declared.Reading.{Reading}
 use Rattle.sheet.specs.declared.Reading.the-variants.{Sheet as Read, Refused as Unread}
 use Rattle.sheet.specs.declared.Starts.{Starts}
 use Rattle.sheet.specs.Sheet.{Sheet, accepted, refused, readSheet}
@@ -35,13 +33,13 @@ use Rattle.heading_rules.proofs.Lawful.{is-lawful}
 use Rattle.workspace.specs.Memory.{Workspace, headingWith}
 use Rattle.workspace.specs.Answers.{Outcome, space, untouched, firstInfinite, unlessAt}
 use Rattle.workspace.specs.Load.{loadSheet}
-use Rattle.update.specs.Calls.{advanced, isUnderWay, stepped, dropped, refusedBy, onPivot, stepOf, goOn, runOf, begun, beginOf}
+use Rattle.update.specs.Calls.{advanced, isUnderWay, stepped, refusedBy, onPivot, stepOf, goOn, runOf, begun, beginOf}
 use Rattle.moves.proofs.Kept.{layout-kept, length-kept}
 use Rattle.ready_step.specs.Underway.{isRefused, Underway, Ran}
 use Rattle.ready_step.proofs.Turns.{just-begun}
 use Rattle.loading.proofs.Facts.{few-entries}
 use Rattle.worked.specs.Print.{refusedLine}
-use Rattle.worked.specs.Program.{bytesHeld, numbersHeld, doublesHeld, pivotLines, printSteps, afterBegin, factorWith, thetaLines, afterTheta, afterLoad, afterSheet, printOf, Prints, too-long, read}
+use Rattle.worked.specs.Program.{bytesHeld, numbersHeld, doublesHeld, printSteps, afterBegin, factorWith, thetaLines, afterLoad, afterSheet, printOf, Prints, too-long, read}
 use Rattle.refusal_text.specs.Text.{Text}
 
 -- ---- answers

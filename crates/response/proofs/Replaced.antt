@@ -1,20 +1,20 @@
 -- What `replace_response` leaves of a workspace, refusal by refusal.
-use Prim.Native.Nat.{ℕ, _≤_, _<_}
+use Prim.Native.Nat.{ℕ, _≤_}
 use mathlib.Core.Path.{_≡_, refl, sym, ap, ap₂, _∙_}
-use mathlib.Core.Bool.{Bool, true, false, not, _&&_, _||_, and-eq-true-iff}
+use mathlib.Core.Bool.{true, false}
 use mathlib.Core.List.{List}
 use native.Mathlib.Omega.{arith}
-use lib.Dec.{ltb, leb, eqb}
+use lib.Dec.{eqb}
 use lib.ListN.{length, getD}
 use lib.Ieee.{Float}
-use borrow.Author.Tests.{leb-true, eqb-true, eq-eqb, ne-eqb}
+use borrow.Author.Tests.{eqb-true, eq-eqb, ne-eqb}
 use Rattle.refusal.specs.declared.Refusal.{Refusal}
 use Rattle.refusal.specs.declared.Answer.the-variants.{Refused}
 use Rattle.refusal.specs.Numbers.{refusal}
 use Rattle.rules.specs.Arithmetic.{ieee}
 use Rattle.layout.specs.declared.Layout.{Layout}
-use Rattle.layout.specs.Shapes.{levels, loadedLength, sumAt, numbersNeeded, doublesNeeded}
-use Rattle.heading_rules.specs.Heading.{layoutOf, progressOf, entryRow, every, lawful, progressLawful, idle, headed}
+use Rattle.layout.specs.Shapes.{loadedLength, sumAt, doublesNeeded}
+use Rattle.heading_rules.specs.Heading.{layoutOf, lawful, idle, headed}
 use Rattle.workspace.specs.Memory.{headingWith}
 use Rattle.workspace.specs.Answers.{space, accept, firstInfinite}
 use Rattle.workspace.specs.Response.{responded, replaceOf}

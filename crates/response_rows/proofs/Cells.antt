@@ -1,9 +1,9 @@
 -- Where the cells of a response lie: all inside the loaded doubles.
-use Prim.Native.Nat.{ℕ, suc, _+_, _*_, _/_, _≤_, _<_}
+use Prim.Native.Nat.{ℕ, suc, _+_, _*_, _≤_, _<_}
 use mathlib.Core.Path.{_≡_, refl, ap, _∙_}
 use mathlib.Core.Bool.{true}
 use mathlib.Core.List.{List}
-use native.Mathlib.Nat.{mul-le-mul, mul-le-mul-right}
+use native.Mathlib.Nat.{mul-le-mul-right}
 use native.Mathlib.Numerals.{add-one}
 use native.Mathlib.Omega.{arith}
 use lib.ListN.{length}
@@ -20,10 +20,6 @@ use Rattle.workspace.specs.Loaded.{rowStart}
 use Rattle.response_rows.specs.Strided.{strided, from, fixedRow, fixedRows, lastAt, lastRow}
 use Rattle.response_rows.proofs.Rows.{rows-within}
 use Rattle.response_rows.proofs.Strided.{length-strided}
-
--- the cells before row p of a triangle
-pub half : (p : ℕ) → p * (p + 1) / 2 ≡ start triangle p
-half p = omega (arith, start-triangle p)
 
 module _ (y : Layout) where
   pub fixed-cells : (j : ℕ) → j < y .k → loadedSizes y (y .k) j ≡ (y .p + 1) * levels y j
@@ -45,6 +41,9 @@ module _ (y : Layout) where
   pub few-blocks : lawful y ≡ true → y .k ≤ 8
   few-blocks ok = is-lawful y ok .blocks .1
 
+  pub few-effects : lawful y ≡ true → y .p ≤ 316
+  few-effects ok = omega (arith, is-lawful y ok .effects .1)
+
   -- the first cell of factor j's fixed rows
   pub first-within : lawful y ≡ true → (j : ℕ) → j < y .k → loadedAt y (y .k) j + y .p < loadedLength y
   first-within ok j h = let l : 0 < levels y j = is-lawful y ok .level j h .0 in omega (arith, fixed-within j 0 h l)
@@ -60,21 +59,14 @@ module _ (y : Layout) (ok : lawful y ≡ true) (at len : ℕ) (room : loadedLeng
     unfolding fixedRow
     block-written zy w v e = e ∙ rw (a, b, f) refl
 
-  module _ (a : at ≡ loadedAt y (y .k) (y .k)) where
-    pub last-fits : (c : ℕ) → c ≤ y .p → at + y .p * (y .p + 1) / 2 + c < len
-    last-fits c l = omega (arith, half (y .p), last-within y c l)
+  module _ (row : ℕ) (a : at ≡ loadedAt y (y .k) (y .k)) (r : row ≡ start triangle (y .p)) where
+    pub last-fits : (c : ℕ) → c ≤ y .p → at + row + c < len
+    last-fits c l = omega (arith, last-within y c l)
 
-    pub last-written : (xy yy w v u : List Float) → v ≡ strided (at + y .p * (y .p + 1) / 2) 1 (y .p) (from xy 0) w
-        → u ≡ strided (at + y .p * (y .p + 1) / 2 + y .p) 1 1 (from yy 0) v → u ≡ lastRow y xy yy w
+    pub last-written : (xy yy w v u : List Float) → v ≡ strided (at + row) 1 (y .p) (from xy 0) w → u ≡ strided (at + row + y .p) 1 1 (from yy 0) v
+        → u ≡ lastRow y xy yy w
     unfolding lastRow lastAt
-    last-written xy yy w v u e f = f ∙ rw (e, half (y .p), a) refl
-
--- the product under the half
-pub product-small : (y : Layout) → lawful y ≡ true → y .p * (y .p + 1) ≤ 32 * 33
-product-small y ok =
-    let a : y .p ≤ 32 = is-lawful y ok .effects .1 in
-    let b : y .p + 1 ≤ 33 = omega arith in
-    mul-le-mul a b
+    last-written xy yy w v u e f = f ∙ rw (e, r, a) refl
 
 -- ---- the loop over the blocks
 

@@ -1,55 +1,20 @@
 -- The rows of a lawful layout's blocks in the sheet: all of them are the layout's q rows.
-use Prim.Native.Nat.{ℕ, zero, suc, _+_, _≤_, _<_}
-use mathlib.Core.Path.{_≡_, refl, sym, ap, ap₂, _∙_}
-use mathlib.Core.Bool.{Bool, true, false, cond}
-use mathlib.Core.List.{List, [], _∷_}
+use Prim.Native.Nat.{ℕ, _+_, _≤_, _<_}
+use mathlib.Core.Path.{_≡_, sym, ap, _∙_}
+use mathlib.Core.Bool.{true}
+use mathlib.Core.List.{List}
 use native.Mathlib.Omega.{arith}
-use lib.Dec.{ltb}
 use lib.ListN.{length, getD, take}
 use lib.Seq.{getD-take}
 use Rattle.layout.specs.declared.Layout.{Layout}
-use Rattle.layout.specs.Blocks.{insert, sorted, sum}
+use Rattle.layout.specs.Blocks.{sorted, sum}
 use Rattle.layout.specs.Shapes.{levels}
+use Rattle.layout.proofs.Sums.{sum-same, sum-over, over-sorted}
 use Rattle.heading_rules.specs.Heading.{sheetLevels, lawful}
 use Rattle.heading_rules.proofs.Lawful.{is-lawful}
 use Rattle.heading_rules.proofs.Sorted.{length-sorted, same-lists, levels-at}
 use Rattle.workspace.specs.Loaded.{rowStart}
 use Rattle.block_map.proofs.Rows.{rows-end}
-
--- the sum of f over a list
-abbrev over : (ℕ → ℕ) → List ℕ → ℕ
-over f [] = 0
-over f (s ∷ l) = f s + over f l
-
-over-insert : (m f : ℕ → ℕ) (i : ℕ) (l : List ℕ) → over f (insert m i l) ≡ f i + over f l
-unfolding insert
-over-insert m f i [] = refl
-over-insert m f i (s ∷ l) = step (over-insert m f i l) (ltb (m s) (m i))
-  where
-    step : over f (insert m i l) ≡ f i + over f l → (b : Bool) → over f (cond b (i ∷ s ∷ l) (s ∷ insert m i l)) ≡ f i + (f s + over f l)
-    step e true = refl
-    step e false = omega (arith, e)
-
--- sorted or not, the sum is one
-over-sorted : (m f : ℕ → ℕ) (k : ℕ) → over f (sorted m k) ≡ sum f k
-unfolding sorted sum
-over-sorted m f zero = refl
-over-sorted m f (suc k) = omega (arith, over-insert m f k (sorted m k), over-sorted m f k)
-
-sum-front : (f : ℕ → ℕ) (n : ℕ) → sum f (suc n) ≡ f 0 + sum (λ i. f (suc i)) n
-unfolding sum
-sum-front f zero = omega arith
-sum-front f (suc n) = omega (arith, sum-front f n)
-
-sum-over : (f : ℕ → ℕ) (l : List ℕ) → sum (λ i. f (getD l i 0)) (length l) ≡ over f l
-unfolding sum
-sum-over f [] = refl
-sum-over f (s ∷ l) = sum-front (λ i. f (getD (s ∷ l) i 0)) (length l) ∙ ap (λ (a : ℕ). f s + a) (sum-over f l)
-
-sum-same : (f g : ℕ → ℕ) (n : ℕ) → ((i : ℕ) → i < n → f i ≡ g i) → sum f n ≡ sum g n
-unfolding sum
-sum-same f g zero h = refl
-sum-same f g (suc n) h = ap₂ (λ (a b : ℕ). a + b) (sum-same f g n (λ i b. h i (omega arith))) (h n (omega arith))
 
 module _ (y : Layout) (ok : lawful y ≡ true) where
   abbrev sheetM : ℕ → ℕ

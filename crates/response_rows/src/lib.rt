@@ -82,7 +82,7 @@ fn write_last(y: Layout, m: Map, w: &mut [f64], xty: &[f64], yty: &[f64])
     ensures { λ _. ⌜ now (w .exit) ≡ lastRow y (now (xty .entry)) (now (yty .entry)) (now (w .entry)) ⌝ }
 {
     let p = y.p as usize;
-    let to = start_of(y, m, y.k as usize) + p * (p + 1) / 2;
+    let to = start_of(y, m, y.k as usize) + triangle_cells::row_start(p);
     spread(w, to, 1, p, xty, 0);
     spread(w, to + p, 1, 1, yty, 0);
 }

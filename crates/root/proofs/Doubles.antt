@@ -1,14 +1,13 @@
 -- Doubles as fractions: around a root they lie a unit of its last place apart, or below its digits.
 use mathlib.Core.Path.{_≡_, ap, sym, _∙_, subst₂}
 use mathlib.Core.Bool.{Bool, true, false, _&&_}
-use Prim.Native.Nat.{ℕ, zero, suc, _+_, _-_, _*_, _/_, _%_, _^_, _<_}
+use Prim.Native.Nat.{ℕ, zero, suc, _+_, _-_, _*_, _%_, _^_, _<_}
 use native.Mathlib.Nat.{mul-assoc, mul-one, one-mul, mul-pos}
-use native.Mathlib.Omega.{arith}
 use lib.Dec.{T, eqb, ltb, leb, ltb→lt, lit<}
 use lib.Pow.{pow-add, pow-pos}
 use lib.IntN.{ℤ, pos, negsuc}
-use lib.Ieee.{Float, nan, inf, fin, binary64, up, down, fits}
-use lib.Ieee.Positive.{positive, num, den, den-pos, value→cross}
+use lib.Ieee.{Float, fin, binary64, up, down, fits}
+use lib.Ieee.Positive.{num, den, den-pos, value→cross}
 use Rattle.root.specs.Nearest.{IsRoot, Beside}
 use Rattle.root.proofs.Value.{four}
 use Rattle.root.proofs.Middle.{Spaced, spaced, above, below}

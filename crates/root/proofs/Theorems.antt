@@ -16,7 +16,8 @@ use Rattle.double.specs.Parts.{partsOf, significand, exponent}
 use Rattle.double.specs.declared.Parts.{Parts}
 use Rattle.double.specs.declared.Kind.the-variants.{Positive}
 use Rattle.double.proofs.Tests.{at-positive}
-use Rattle.double.proofs.Value.{InPlace, in-place, value, rescale}
+use Rattle.double.specs.Parts.{InPlace}
+use Rattle.double.proofs.Value.{in-place, value, rescale}
 use Rattle.double.proofs.Bits.{same}
 use Rattle.root_parts.specs.Radicand.{rootOf}
 use Rattle.root_parts.proofs.Value.{rootOf-fits}

@@ -1,7 +1,7 @@
 -- The root of a double above 0 with given parts, as a value.
 use mathlib.Core.Path.{_≡_, refl, ap, sym, _∙_, subst}
 use mathlib.Core.Bool.{false}
-use Prim.Native.Nat.{ℕ, zero, suc, _+_, _-_, _*_, _/_, _%_, _^_, _≤_, _<_}
+use Prim.Native.Nat.{ℕ, zero, suc, _+_, _-_, _*_, _/_, _%_, _^_, _<_}
 use native.Mathlib.Nat.{pow-suc}
 use native.Mathlib.Omega.{arith}
 use lib.Dec.{lit<}
@@ -11,7 +11,8 @@ use lib.Ieee.Exact.{HasValue, odd-sign}
 use Rattle.double.specs.declared.Parts.{Parts}
 use Rattle.double.specs.declared.Kind.{Kind}
 use Rattle.double.specs.Kind.{kindOf}
-use Rattle.double.proofs.Value.{InPlace, rescale}
+use Rattle.double.specs.Parts.{InPlace}
+use Rattle.double.proofs.Value.{rescale}
 use Rattle.whole_root.specs.Whole.{rounded}
 use Rattle.whole_root.proofs.Whole.{Near}
 use Rattle.root_parts.specs.Radicand.{radicand, half, rootOf}

@@ -8,7 +8,7 @@ use lib.Dec.{T, lit<}
 use lib.Ieee.{Float, binary64, fits, odd, ofBits}
 use lib.Ieee.Bits.{ofBits-fits}
 use Rattle.double.specs.declared.Parts.{Parts}
-use Rattle.double.proofs.Value.{InPlace}
+use Rattle.double.specs.Parts.{InPlace}
 use Rattle.double.proofs.Bits.{normal-bits}
 use Rattle.whole_root.specs.Whole.{rounded}
 use Rattle.whole_root.proofs.Whole.{Near, rounded-near, digits-low, digits-high}

@@ -2,7 +2,7 @@
 
 ghost use mathlib.Core.Path.{_≡_};
 ghost use Prim.Native.Nat.{_*_, _^_, _<_};
-ghost use Rattle.double.proofs.Value.{InPlace};
+ghost use Rattle.double.specs.Parts.{InPlace};
 ghost use Rattle.root_parts.specs.Radicand.{rootOf};
 use double::Parts;
 

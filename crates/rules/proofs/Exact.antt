@@ -1,5 +1,5 @@
 -- Where nothing is rounded, T solves and C factors.
-use Prim.Native.Nat.{ℕ, zero, suc, _+_, _≤_, _<_}
+use Prim.Native.Nat.{ℕ, zero, suc, _+_, _<_}
 use mathlib.Core.Path.{_≡_, refl, sym, ap, ap₂, subst, _∙_}
 use mathlib.Core.Bool.{Bool, true, false}
 use mathlib.Core.List.{List, [], _∷_, _++_}
@@ -11,7 +11,7 @@ use lib.ListN.{length, getD, length-append, List·getD-append}
 use lib.Seq.{getD-append-seam}
 use Rattle.rules.specs.Arithmetic.{Arithmetic}
 use Rattle.rules.specs.Sums.{dot, chain, sumFrom, lessFrom}
-use Rattle.rules.specs.Cholesky.{at, forward, besidePivot, radicandOf, cellOf, rowOf, rows, factor, radicand, next, firstBad, pivots}
+use Rattle.rules.specs.Cholesky.{at, forward, besidePivot, cellOf, rowOf, rows, factor, radicand, next, firstBad, pivots}
 use Rattle.rules.specs.Exact.{Exact, Solves, Factors}
 
 -- the last of a longer list

@@ -1,22 +1,21 @@
 -- One run more, whatever the block: its cells less the sums, or less the products one by one.
 use Prim.Native.Nat.{ℕ, suc, _+_, _≤_, _<_}
-use mathlib.Core.Path.{_≡_, refl, sym, ap, ap₂, _∙_}
+use mathlib.Core.Path.{_≡_, sym, ap, ap₂, _∙_}
 use mathlib.Core.List.{List}
 use mathlib.Core.Logic.{_⊎_}
 use native.Mathlib.Omega.{arith}
 use lib.ListN.{length}
 use lib.Ieee.{Float}
-use Rattle.storage.specs.Runs.{start, tab}
+use Rattle.storage.specs.Runs.{start}
 use Rattle.storage.specs.Shape.{columns, sizeOf}
 use Rattle.storage.specs.Part.{store}
-use Rattle.storage.proofs.Starts.{start-below}
 use Rattle.storage.proofs.Cells.{tab-ext}
 use Rattle.rules.specs.Arithmetic.{ieee}
 use Rattle.rules.specs.Sums.{dot, chain}
 use Rattle.blocks.specs.Blocks.{block}
 use Rattle.blocks.specs.Done.{Done}
 use Rattle.blocks.proofs.Laws.{own, same-block, run-written}
-use Rattle.axpy.specs.Axpy.{at, run, along, products}
+use Rattle.axpy.specs.Axpy.{at, run, products}
 use Rattle.axpy.proofs.Sums.{sum-along, less-along, along-swap, summed}
 use Rattle.schur.specs.Schur.{lessSums, lessProducts}
 

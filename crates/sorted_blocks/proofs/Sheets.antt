@@ -3,12 +3,10 @@ use Prim.Native.Nat.{ℕ, zero, suc, _+_, _*_, _≤_, _<_}
 use mathlib.Core.Path.{_≡_, refl, sym, ap, ap₂, _∙_}
 use mathlib.Core.Bool.{Bool, true, false, _&&_, cond}
 use mathlib.Core.List.{List, [], _∷_}
-use mathlib.Core.Logic.{by-cases}
-use native.Mathlib.Decide.{decLt}
 use native.Mathlib.Omega.{arith}
 use native.Mathlib.Numerals.{add-one}
 use borrow.Author.Tests.{eqb-true, eqb-false}
-use lib.Dec.{ltb, eqb}
+use lib.Dec.{eqb}
 use lib.ListN.{length, getD, take, set, replicate, length-set, length-take, getD-replicate}
 use lib.Seq.{getD-set-same, getD-set-other, getD-take, ext-getD}
 use Rattle.layout.specs.declared.Layout.{Layout}
@@ -16,7 +14,7 @@ use Rattle.layout.specs.Blocks.{insert, sorted, sum, padded}
 use Rattle.layout.specs.Shapes.{levels}
 use Rattle.heading_rules.specs.Heading.{every, same, sheetLevels}
 use Rattle.heading_rules.proofs.Sorted.{All, all-map, length-sorted, below-sorted}
-use Rattle.gate.proofs.Sorting.{padded-at, length-padded}
+use Rattle.layout.proofs.Sums.{padded-at, length-padded}
 
 -- ---- the first s sorted blocks stand by sheet index
 pub record Sheets (y : Layout) (r : List ℕ) (s : ℕ) : Type 0 where

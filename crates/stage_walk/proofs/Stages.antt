@@ -1,12 +1,12 @@
 -- The stages where they lie, the number of steps, and the tests of a progress.
 use Prim.Native.Nat.{ℕ, suc, _+_, _*_, _/_, _≤_, _<_}
-use mathlib.Core.Path.{_≡_, refl, sym, ap, _∙_}
+use mathlib.Core.Path.{_≡_, sym, ap, _∙_}
 use mathlib.Core.Bool.{Bool, true, false, _&&_}
 use native.Mathlib.Nat.{mul-le-mul, zero-add}
 use native.Mathlib.Omega.{arith}
-use borrow.Author.Tests.{eqb-true, le-leb, lt-leb}
+use borrow.Author.Tests.{le-leb, lt-leb}
 use lib.Dec.{leb, ltb, eqb}
-use lib.ListN.{length, getD, take, drop}
+use lib.ListN.{length, getD, drop}
 use mathlib.Core.List.{List}
 use lib.Seq.{getD-take, getD-drop}
 use Rattle.storage.specs.Runs.{start, triangle}
@@ -16,7 +16,6 @@ use Rattle.heading_rules.specs.declared.Progress.{Progress}
 use Rattle.heading_rules.specs.declared.State.{State}
 use Rattle.heading_rules.specs.declared.State.the-variants.{Idle, UnderWay, Finished}
 use Rattle.heading_rules.specs.Heading.{every, stateLawful, progressLawful, progressOf}
-use Rattle.heading_rules.proofs.Lawful.{every-at}
 use Rattle.stage_walk.specs.declared.Walk.{Walk}
 use Rattle.stage_walk.specs.Walk.{walked, told}
 use Rattle.stage_walk.proofs.Walks.{walked-is}

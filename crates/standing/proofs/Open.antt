@@ -25,18 +25,17 @@ use Rattle.sheet.specs.Fault.{refusalOf}
 use Rattle.refusal.specs.declared.Refusal.{Refusal}
 use Rattle.refusal.specs.declared.Answer.the-variants.{Accepted}
 use Rattle.layout.specs.declared.Layout.{Layout}
-use Rattle.layout.specs.Blocks.{sorted, each}
 use Rattle.layout.specs.Shapes.{pick, levels, pairs, loadedLength, numbersNeeded, doublesNeeded}
 use Rattle.heading_rules.specs.Heading.{entryRow, written, idle}
 use Rattle.heading_rules.proofs.Lawful.{is-lawful}
 use Rattle.heading_rules.proofs.Heading.{length-written, rows-back, idle-lawful}
 use Rattle.workspace.specs.Memory.{noughts}
 use Rattle.workspace.specs.Answers.{Outcome, space, accept, untouched}
-use Rattle.workspace.specs.Loaded.{firstDenied, sheetM, sortedLayout, layoutOfSheet, entryRowIn, loadedNumbers}
+use Rattle.workspace.specs.Loaded.{firstDenied, entryRowIn, loadedNumbers}
 use Rattle.workspace.specs.Load.{Loads, headingOf, doublesOf, roomy, afterGate, loadSheet, loadParsed, loadOf}
-use Rattle.workspace.proofs.Lawful.{length-padded, sparse-columns, sheet-lawful}
+use Rattle.workspace.proofs.Lawful.{sparse-columns, sheet-lawful}
 use Rattle.workspace.proofs.Lengths.{length-loaded, length-doubles, length-heading}
-use Rattle.workspace.proofs.Headed.{row-below}
+use Rattle.workspace.proofs.Headed.{row-below, length-m, length-order}
 use Rattle.book.specs.Book.{book, layout, last, opened, fresh}
 use Rattle.memory.proofs.Clear.{noughts-length}
 use Rattle.standing.proofs.Stands.{Site, Stands, behind}
@@ -83,15 +82,6 @@ module _ (sheet : Sheet) (h : List ℕ) (w : List Float) where
 
 -- ---- the heading that load writes
 module _ (sheet : Sheet) where
-  -- levels and sheet indices are filled up to eight
-  eight-levels : length (layout sheet .m) ≡ 8
-  unfolding layoutOfSheet sortedLayout
-  eight-levels = length-padded 8 (each (sheetM sheet) (sorted (sheetM sheet) (sheet .counts .k)))
-
-  eight-places : length (layout sheet .order) ≡ 8
-  unfolding layoutOfSheet sortedLayout
-  eight-places = length-padded 8 (sorted (sheetM sheet) (sheet .counts .k))
-
   -- the rows of a sparse pair's entries are rows of block 1
   rows-below : layout sheet .sparse ≡ true → (c : ℕ) → c < levels (layout sheet) 0 → entryRow (headingOf sheet (layout sheet)) c < levels (layout sheet) 1
   unfolding headingOf
@@ -152,8 +142,8 @@ open-site bytes sheet starts h w o e l a =
     let both = and-eq-true-iff (leb (numbersNeeded (layout sheet)) (length h)) (leb (doublesNeeded (layout sheet)) (length w)) .0 (t .room) in
     record {
       layout-lawful = sheet-lawful bytes sheet starts e (t .fine) (t .gate);
-      eight-levels = eight-levels sheet;
-      eight-places = eight-places sheet;
+      eight-levels = length-m sheet;
+      eight-places = length-order sheet;
       numbers = leb-true (numbersNeeded (layout sheet)) (length h) (both .0);
       doubles = leb-true (doublesNeeded (layout sheet)) (length w) (both .1);
       rows = rows-below sheet;

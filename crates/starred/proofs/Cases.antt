@@ -7,7 +7,6 @@ use Rattle.sheet.specs.Sheet.{readSheet, sheetOf}
 use Rattle.sheet.specs.Answer.{Answers}
 use Rattle.logarithm.specs.Ln.{lnOf}
 use Rattle.heading_rules.specs.Heading.{progressOf}
-use Rattle.workspace.specs.Load.{loadOf}
 use Rattle.workspace.specs.Compute.{words}
 use Rattle.worked.specs.Compute.{readingHere, printed}
 use Rattle.starred.specs.Evaluate.{sheetBytes, inputBytes, outputBytes, oneReadingBytes, loaded, logDeterminantBits, solving, profiled, sigma2Bits, stepCounts, gateVerdicts, stepRefusals}

@@ -2,7 +2,7 @@
 ghost use mathlib.Core.Path.{_≡_};
 ghost use Prim.Native.Nat.{_≤_};
 ghost use lib.ListN.{length};
-ghost use Rattle.order.specs.Steps.{Named, S, C, T};
+ghost use Rattle.order.specs.Steps.{Named, S, T};
 ghost use Rattle.heading_rules.specs.Heading.{layoutOf, progressOf};
 ghost use Rattle.update.specs.Names.{stepOfName};
 ghost use Rattle.heading_rules.specs.Fits.{Fits};

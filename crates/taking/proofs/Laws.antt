@@ -14,7 +14,7 @@ use Rattle.refusal.specs.declared.Answer.the-variants.{Accepted}
 use Rattle.refusal.specs.Numbers.{refuse}
 use Rattle.storage.specs.Runs.{start, triangle, tab}
 use Rattle.storage.specs.Shape.{Shape, packed, diagonal, columns, entries, sizeOf}
-use Rattle.storage.specs.Part.{part, store}
+use Rattle.storage.specs.Part.{store}
 use Rattle.storage.proofs.Parts.{length-part, length-store, drop-store, part-else, store-behind}
 use Rattle.storage.proofs.Blocks.{length-fill}
 use Rattle.order.specs.Steps.{Step, S, C, T, row, col, index, Named}

@@ -1,14 +1,14 @@
 -- Begin and the steps as functions of heading, doubles and arguments, refused ones included (document 01, Records 4 and 5, "Refused because of the state").
 use Prim.Native.Nat.{ℕ, zero, suc, _+_}
-use mathlib.Core.Bool.{Bool, true, false, cond}
+use mathlib.Core.Bool.{Bool, true, false}
 use mathlib.Core.List.{List, [], _∷_}
 use mathlib.Core.Option.{Option, none, some}
 use lib.Dec.{eqb}
-use lib.ListN.{length, getD, replicate}
+use lib.ListN.{length, getD}
 use lib.Ieee.{Float}
 use Rattle.storage.specs.Runs.{start, triangle}
 use Rattle.storage.specs.Part.{store}
-use Rattle.order.specs.Steps.{Step, S, C, T, row, col, index, named, after, rustOrder}
+use Rattle.order.specs.Steps.{Step, S, C, T, row, col, index, named, after}
 use Rattle.order.specs.Progress.{all, done}
 use Rattle.rules.specs.Arithmetic.{ieee}
 use Rattle.heading_rules.specs.declared.Progress.{Progress}

@@ -1,21 +1,18 @@
 -- The layout of a heading stays through begin and the steps: only the numbers of the progress are written.
-use Prim.Native.Nat.{ℕ, zero, suc, _+_, _≤_, _<_}
-use mathlib.Core.Path.{_≡_, refl, sym, ap, ap₂, _∙_}
+use Prim.Native.Nat.{ℕ, _≤_}
+use mathlib.Core.Path.{_≡_, refl, sym, ap, _∙_}
 use mathlib.Core.Bool.{Bool, true, false, true≢false}
-use mathlib.Core.List.{List, [], _∷_, _++_}
+use mathlib.Core.List.{List, [], _∷_}
 use mathlib.Core.Option.{Option, none, some}
-use native.Mathlib.Omega.{arith}
 use lib.Dec.{eqb}
-use lib.ListN.{length, getD, take, drop, length-append}
+use lib.ListN.{length}
 use lib.Ieee.{Float}
-use Rattle.order.specs.Steps.{Step, named, after, rustOrder}
+use Rattle.order.specs.Steps.{Step, named, after}
 use Rattle.order.specs.Progress.{all, done}
 use Rattle.refusal.specs.declared.Answer.{Answer}
 use Rattle.refusal.specs.declared.Answer.the-variants.{Accepted, Refused}
-use Rattle.layout.specs.declared.Layout.{Layout}
-use Rattle.heading_rules.specs.declared.Progress.{Progress}
 use Rattle.layout.specs.Shapes.{pick}
-use Rattle.heading_rules.specs.Heading.{progressNumbers, layoutOf, progressOf, stageOf, underWay, headed}
+use Rattle.heading_rules.specs.Heading.{layoutOf, progressOf, stageOf, underWay, headed}
 use Rattle.heading_rules.proofs.Fits.{fits}
 use Rattle.moves.proofs.Kept.{layout-kept}
 use Rattle.workspace.specs.Memory.{Workspace, headingWith}

@@ -20,12 +20,11 @@ use Rattle.workspace.specs.Memory.{cellOf, workingBlock}
 use Rattle.profile.specs.Deviance.{isFinished, logDeterminant}
 use Rattle.block_sizes.proofs.Sizes.{doubles-small}
 use Rattle.deviance_tail.specs.Tail.{logDeterminantOf}
-use Rattle.views.specs.declared.Left.{Left}
 use Rattle.views.specs.declared.Left.the-variants.{Steps, Refused as Denied}
 use Rattle.views.specs.declared.Look.{Look}
 use Rattle.views.specs.declared.Look.the-variants.{Value, Absent, Refused}
-use Rattle.pivot_places.specs.Pivots.{rowsOf, isPivot, pivotShape, pivotAt}
-use Rattle.views.specs.Views.{stepsLeftOf, finishedLook, determinantOf, pivotOf, pivotLook}
+use Rattle.pivot_places.specs.Pivots.{rowsOf, isPivot, pivotAt}
+use Rattle.views.specs.Views.{stepsLeftOf, finishedLook, pivotLook}
 use Rattle.pivot_places.proofs.Places.{shape-is}
 
 -- ---- 20 by the heading alone: more doubles than any workspace has are as good as those that it needs

@@ -1,19 +1,18 @@
 -- The program by computation: the worked input, and inputs that differ from it in one place. Each refusal is the only line.
-use Prim.Native.Nat.{ℕ, _+_}
+use Prim.Native.Nat.{_+_}
 use Prim.Native.String.{String}
 use mathlib.Core.Path.{_≡_, refl}
-use mathlib.Core.Bool.{true, false}
 use mathlib.Core.List.{List, [], _∷_, _++_}
 use native.Mathlib.Omega.{arith}
-use lib.ListN.{length, replicate}
+use lib.ListN.{replicate}
 use Rattle.sheet.specs.declared.Reading.the-variants.{Refused}
-use Rattle.sheet.specs.Text.{ended, bytesOf, with-line, reading}
+use Rattle.sheet.specs.Text.{ended, with-line, reading}
 use Rattle.sheet.specs.Sheet.{readSheet}
 use Rattle.sheet.specs.Answer.{Answers}
 use Rattle.worked.specs.Print.{refusedLine}
-use Rattle.worked.specs.Program.{Prints, read, too-long, bytesHeld}
+use Rattle.worked.specs.Program.{Prints, too-long}
 use Rattle.worked.specs.Worked.{sheetLines, thetaLines, outputLines}
-use Rattle.worked.specs.Compute.{readingHere, printed}
+use Rattle.worked.specs.Compute.{printed}
 
 abbrev input : List String
 input = sheetLines ++ thetaLines

@@ -12,7 +12,7 @@ use Rattle.storage.specs.Runs.{tab}
 use Rattle.sheet.specs.Run.{Entry}
 use Rattle.sheet.specs.Sheet.{Sheet}
 use Rattle.layout.specs.Blocks.{sum}
-use Rattle.heading_rules.specs.Heading.{sheetLevels, progressOf, layoutOf}
+use Rattle.heading_rules.specs.Heading.{sheetLevels, layoutOf}
 use Rattle.workspace.specs.Compute.{leaves, word, words}
 use Rattle.workspace.specs.Memory.{thetaOf}
 use Rattle.workspace.specs.Answers.{Outcome, untouched}

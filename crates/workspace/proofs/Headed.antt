@@ -23,7 +23,8 @@ use Rattle.heading_rules.proofs.Lawful.{is-lawful, every-at}
 use Rattle.heading_rules.proofs.Heading.{never-20, idle-lawful}
 use Rattle.workspace.specs.Loaded.{rowStart, inBlock, countOf, rowOf, ofColumn, oneEach, firstDenied, sheetM, sortedLayout, layoutOfSheet, entryRowIn}
 use Rattle.workspace.specs.Load.{headingOf}
-use Rattle.workspace.proofs.Lawful.{length-padded, sparse-columns, sheet-lawful}
+use Rattle.layout.proofs.Sums.{length-padded}
+use Rattle.workspace.proofs.Lawful.{sparse-columns, sheet-lawful}
 
 -- ---- the rows of a sparse pair's entries
 
@@ -55,11 +56,11 @@ row-below sheet y one c h =
 
 -- ---- the heading, with anything behind it
 
-length-m : (sheet : Sheet) → length (layoutOfSheet sheet .m) ≡ 8
+pub length-m : (sheet : Sheet) → length (layoutOfSheet sheet .m) ≡ 8
 unfolding layoutOfSheet sortedLayout
 length-m sheet = length-padded 8 (each (sheetM sheet) (sorted (sheetM sheet) (sheet .counts .k)))
 
-length-order : (sheet : Sheet) → length (layoutOfSheet sheet .order) ≡ 8
+pub length-order : (sheet : Sheet) → length (layoutOfSheet sheet .order) ≡ 8
 unfolding layoutOfSheet sortedLayout
 length-order sheet = length-padded 8 (sorted (sheetM sheet) (sheet .counts .k))
 

@@ -22,6 +22,7 @@ use Rattle.layout.specs.declared.Pair.the-variants.{Dense, Sparse, Refused as D
 use Rattle.layout.specs.Blocks.{insert, sorted, sum, each, padded}
 use Rattle.layout.specs.Gate.{thin, pairOf}
 use Rattle.layout.specs.Shapes.{Target, target, levels, across, pairs}
+use Rattle.layout.proofs.Sums.{sum-same, sum-front, sum-over, over-sorted, padded-at, each-at}
 use Rattle.heading_rules.specs.Heading.{every, bit, within, same, sheetLevels, isDense, isSparse, pairLawful, lawful}
 use Rattle.heading_rules.proofs.Sorted.{All, all-map, all-at, length-sorted, below-sorted}
 use Rattle.heading_rules.proofs.Lawful.{both, unless, every-of, every-at}
@@ -51,11 +52,6 @@ in-at i [] a = absurd a
 in-at i (s ∷ l) (inl e) = (0, omega arith, e)
 in-at i (s ∷ l) (inr a) = let r = in-at i l a in let b = r .1 in (suc (r .0), omega arith, r .2)
 
--- the sum of f over a list
-abbrev over : (ℕ → ℕ) → List ℕ → ℕ
-over f [] = 0
-over f (s ∷ l) = f s + over f l
-
 -- ---- the sorted list: blocks 0 to k - 1, each once
 
 module _ (m : ℕ → ℕ) where
@@ -70,26 +66,12 @@ module _ (m : ℕ → ℕ) where
       step f (inr (inl e)) false = inl e
       step f (inr (inr c)) false = inr (f (inr c))
 
-  over-insert : (f : ℕ → ℕ) (i : ℕ) (l : List ℕ) → over f (insert m i l) ≡ f i + over f l
-  unfolding insert
-  over-insert f i [] = refl
-  over-insert f i (s ∷ l) = step (over-insert f i l) (ltb (m s) (m i))
-    where
-      step : over f (insert m i l) ≡ f i + over f l → (b : Bool) → over f (cond b (i ∷ s ∷ l) (s ∷ insert m i l)) ≡ f i + (f s + over f l)
-      step e true = refl
-      step e false = omega (arith, e)
-
   in-sorted : (k i : ℕ) → i < k → In i (sorted m k)
   unfolding sorted
   in-sorted zero i h = absurd (omega arith)
   in-sorted (suc k) i h =
       by-cases (decLt i k) (λ l. in-insert i k (sorted m k) (inr (in-sorted k i l)))
       (λ l. let e : k ≡ i = omega arith in in-insert i k (sorted m k) (inl e))
-
-  over-sorted : (f : ℕ → ℕ) (k : ℕ) → over f (sorted m k) ≡ sum f k
-  unfolding sorted sum
-  over-sorted f zero = refl
-  over-sorted f (suc k) = omega (arith, over-insert f k (sorted m k), over-sorted f k)
 
 -- the levels of blocks 0 to k - 1 alone decide
 insert-same : (m n : ℕ → ℕ) (i : ℕ) (l : List ℕ) → m i ≡ n i → All (λ s. m s ≡ n s) l → insert m i l ≡ insert n i l
@@ -105,50 +87,13 @@ sorted-same m n (suc k) h =
     insert-same m n k (sorted m k) (h k (omega arith)) (all-map (λ s. s < k) (λ s. m s ≡ n s) (λ s b. h s (omega arith)) (sorted m k) (below-sorted m k))
     ∙ ap (λ (z : List ℕ). insert n k z) (sorted-same m n k (λ i b. h i (omega arith)))
 
--- ---- sums
-
-sum-same : (f g : ℕ → ℕ) (n : ℕ) → ((i : ℕ) → i < n → f i ≡ g i) → sum f n ≡ sum g n
-unfolding sum
-sum-same f g zero h = refl
-sum-same f g (suc n) h = ap₂ (λ (a b : ℕ). a + b) (sum-same f g n (λ i b. h i (omega arith))) (h n (omega arith))
-
-sum-front : (f : ℕ → ℕ) (n : ℕ) → sum f (suc n) ≡ f 0 + sum (λ i. f (suc i)) n
-unfolding sum
-sum-front f zero = omega arith
-sum-front f (suc n) = omega (arith, sum-front f n)
-
-sum-over : (f : ℕ → ℕ) (l : List ℕ) → sum (λ i. f (getD l i 0)) (length l) ≡ over f l
-unfolding sum
-sum-over f [] = refl
-sum-over f (s ∷ l) = sum-front (λ i. f (getD (s ∷ l) i 0)) (length l) ∙ ap (λ (a : ℕ). f s + a) (sum-over f l)
-
 -- ---- lists with noughts behind them
-
-padded-at : (n : ℕ) (l : List ℕ) (i : ℕ) → i < n → getD (padded n l) i 0 ≡ getD l i 0
-unfolding padded
-padded-at zero l i h = absurd (omega arith)
-padded-at (suc n) [] zero h = refl
-padded-at (suc n) [] (suc i) h = padded-at n [] i (omega arith)
-padded-at (suc n) (x ∷ l) zero h = refl
-padded-at (suc n) (x ∷ l) (suc i) h = padded-at n l i (omega arith)
 
 padded-take : (n : ℕ) (l : List ℕ) → length l ≤ n → take (length l) (padded n l) ≡ l
 unfolding padded
 padded-take n [] h = refl
 padded-take zero (x ∷ l) h = absurd (omega arith)
 padded-take (suc n) (x ∷ l) h = ap (λ (z : List ℕ). x ∷ z) (padded-take n l (omega arith))
-
-pub length-padded : (n : ℕ) (l : List ℕ) → length (padded n l) ≡ n
-unfolding padded
-length-padded zero l = refl
-length-padded (suc n) [] = ap suc (length-padded n [])
-length-padded (suc n) (x ∷ l) = ap suc (length-padded n l)
-
-each-at : (f : ℕ → ℕ) (l : List ℕ) (i : ℕ) → i < length l → getD (each f l) i 0 ≡ f (getD l i 0)
-unfolding each
-each-at f [] i h = absurd (omega arith)
-each-at f (x ∷ l) zero h = refl
-each-at f (x ∷ l) (suc i) h = each-at f l i (omega arith)
 
 same-refl : (l : List ℕ) → same l l ≡ true
 unfolding same
@@ -157,12 +102,12 @@ same-refl (x ∷ l) = both (eqb x x) (same l l) (eq-eqb x x refl) (same-refl l)
 
 -- ---- the sheet's blocks: `sheetM` is `levelsIn` of them
 
-abbrev levelsIn : List Block → ℕ → ℕ
+abbrev pub levelsIn : List Block → ℕ → ℕ
 levelsIn [] i = 0
 levelsIn (b ∷ l) zero = b .m
 levelsIn (b ∷ l) (suc i) = levelsIn l i
 
-sum-levels : (l : List Block) → sum (levelsIn l) (length l) ≡ levelsOf l
+pub sum-levels : (l : List Block) → sum (levelsIn l) (length l) ≡ levelsOf l
 unfolding levelsOf sum
 sum-levels [] = refl
 sum-levels (b ∷ l) = sum-front (levelsIn (b ∷ l)) (length l) ∙ ap (λ (a : ℕ). b .m + a) (sum-levels l)
@@ -370,7 +315,7 @@ module _ (sheet : Sheet) (y : Layout) where
       by-cases (decLt j n) (λ l. allowed-across i n (r .0) j l)
       (λ l. let z : n ≡ j = omega arith in subst (λ (x : ℕ). firstDenied sheet y (target i x ∷ []) ≡ none) z (r .1))
 
-  allowed-pairs : (k : ℕ) → firstDenied sheet y (pairs k) ≡ none → (i j : ℕ) → i < k → j < i → firstDenied sheet y (target i j ∷ []) ≡ none
+  pub allowed-pairs : (k : ℕ) → firstDenied sheet y (pairs k) ≡ none → (i j : ℕ) → i < k → j < i → firstDenied sheet y (target i j ∷ []) ≡ none
   unfolding pairs
   allowed-pairs zero e i j h g = absurd (omega arith)
   allowed-pairs (suc k) e i j h g =

@@ -1,5 +1,4 @@
 -- `axpy::add_columns`: four signed factors, then one call.
-use Prim.Native.Nat.{_+_}
 use Rattle.axpy.proofs.Sums.{four-signed}
 use borrow.Author.Needs.{needs}
 use Rattle.axpy.proofs.add_columns.Statement.{statement}

@@ -1,5 +1,5 @@
 -- `axpy::add_some`: four products where four are left, else one.
-use Prim.Native.Nat.{ℕ, _≤_, _+_}
+use Prim.Native.Nat.{_+_}
 use native.Mathlib.Omega.{arith}
 use lib.ListN.{length}
 use Rattle.axpy.specs.Axpy.{at, taking}

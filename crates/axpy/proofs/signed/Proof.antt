@@ -1,5 +1,4 @@
 -- `axpy::signed`: the sign is turned where the test passes.
-use mathlib.Core.Path.{refl}
 use lib.Ieee.{neg}
 use borrow.Author.Needs.{needs}
 use Rattle.axpy.proofs.signed.Statement.{statement}

@@ -1,12 +1,13 @@
 -- `block_map::row_start`: the levels of the first i blocks of the sheet.
-use Prim.Native.Nat.{ℕ, _≤_, _-_}
-use mathlib.Core.Path.{_≡_, refl, ap, _∙_}
+use Prim.Native.Nat.{ℕ, _+_, _≤_, _-_}
+use mathlib.Core.Path.{_≡_, refl, sym, ap, ap₂, _∙_}
 use native.Mathlib.Omega.{arith}
 use lib.ListN.{getD}
 use Rattle.layout.specs.Blocks as Blocks
 use Rattle.heading_rules.specs.Heading.{sheetLevels}
 use Rattle.heading_rules.proofs.Lawful.{is-lawful}
-use Rattle.block_map.proofs.Rows.{order-below, levels-small, rows-small, sum-none, sum-more}
+use Rattle.layout.proofs.Sums.{sum-none, sum-more}
+use Rattle.block_map.proofs.Rows.{order-below, levels-small, rows-small}
 use Rattle.block_map.proofs.row_start.Statement.{statement}
 use Rattle.block_map.proofs.row_start.Tie as tie
 
@@ -48,7 +49,7 @@ loop-again : tie.Need-loop-again Inv-loop μ-loop
 loop-again c =
     let a = c .before .before .before .before .args in
     let l = c .before .before .loop in
-    (refl, l .inv .1, omega arith, sum-more (sheetLevels (a .t1) (a .t1 .k)) (l .i) (l .sum) (c .sheet-levels .result) (l .inv .3) (c .sheet-levels .ensures))
+    (refl, l .inv .1, omega arith, ap₂ (λ (t v : ℕ). t + v) (l .inv .3) (c .sheet-levels .ensures) ∙ sym (sum-more (sheetLevels (a .t1) (a .t1 .k)) (l .i)))
 
 returns : tie.Need-returns Inv-loop μ-loop
 returns c =

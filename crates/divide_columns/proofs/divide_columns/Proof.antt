@@ -1,22 +1,19 @@
 -- `divide_columns::divide_columns`: the first c columns are divided.
 use borrow.Author.Needs.{needs}
-use mathlib.Core.Path.{_≡_, refl, sym, ap, subst, _∙_}
-use Prim.Native.Nat.{ℕ, _≤_, _<_, _-_, _+_, _*_}
+use mathlib.Core.Path.{_≡_, refl, subst}
+use Prim.Native.Nat.{ℕ, _≤_, _-_, _+_}
 use native.Mathlib.Omega.{arith}
 use native.Mathlib.Numerals.{add-one}
 use lib.ListN.{length}
-use Rattle.storage.specs.Runs.{start, triangle, dense}
-use Rattle.storage.specs.Shape.{packed, diagonal, columns, fill}
-use Rattle.storage.specs.Part.{store}
+use Rattle.storage.specs.Runs.{start, dense}
+use Rattle.storage.specs.Shape.{diagonal, columns, fill}
 use Rattle.storage.proofs.Starts.{start-below, start-dense, start-single}
 use Rattle.rules.specs.Arithmetic.{ieee}
 use Rattle.rules.specs.Steps.{divide}
-use Rattle.blocks.specs.Blocks.{block, rowFrom}
+use Rattle.blocks.specs.Blocks.{block}
 use Rattle.blocks.specs.Done.{Done}
 use Rattle.blocks.proofs.Laws.{begun, ended}
-use Rattle.cross_block.specs.Blocks.{lessSparseCell}
-use Rattle.cross_block.proofs.Turns.{divide-turn, solve-turn}
-use Rattle.cross_block.proofs.Sparse.{sparse-none, sparse-more}
+use Rattle.cross_block.proofs.Turns.{divide-turn}
 use Rattle.divide_columns.proofs.divide_columns.Statement.{statement}
 use Rattle.divide_columns.proofs.divide_columns.Tie as tie
 use Rattle.divide_columns.proofs.divide_columns.Reads as reads

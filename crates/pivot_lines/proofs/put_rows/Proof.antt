@@ -2,7 +2,7 @@
 use Prim.Native.Nat.{_-_}
 use denote.Ref.{now}
 use native.Mathlib.Omega.{arith}
-use Rattle.pivot_lines.proofs.Lines.{RowsPut, rows-none, rows-room, rows-next, rows-all}
+use Rattle.pivot_lines.proofs.Lines.{RowsPut, rows-none, rows-next, rows-all}
 use borrow.Author.Needs.{needs}
 use Rattle.pivot_lines.proofs.put_rows.Statement.{statement}
 use Rattle.pivot_lines.proofs.put_rows.Tie as tie

@@ -1,6 +1,6 @@
 -- `rank_diagonal::less_sums`: the run starts where the part that is lent does.
 use Prim.Native.Nat.{ℕ}
-use mathlib.Core.Path.{_≡_, ap, _∙_}
+use mathlib.Core.Path.{ap, _∙_}
 use native.Mathlib.Nat.{add-zero}
 use Rattle.rank_diagonal.specs.Rows.{lessEach}
 use borrow.Author.Needs.{needs}

@@ -1,10 +1,6 @@
 -- `ready_step::take`: the step is ready.
-use Prim.Native.Nat.{suc, _+_, _-_}
-use mathlib.Core.Path.{_≡_, refl, sym, _∙_}
-use mathlib.Core.List.{[], _∷_, _++_}
-use native.Mathlib.Omega.{arith}
-use lib.ListN.{length}
-use Rattle.order.specs.Steps.{S, C, T, each, subtractions, columnSteps, rustOrder}
+use Prim.Native.Nat.{_-_}
+use mathlib.Core.List.{[]}
 use Rattle.workspace.specs.Answers.{space}
 use Rattle.update.specs.Names.{stepOfName}
 use Rattle.ready_step.proofs.Runs.{outcome, ran-one}

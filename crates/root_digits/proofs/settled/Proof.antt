@@ -1,7 +1,6 @@
 -- `root_digits::settled` meets its contract.
 use borrow.Author.Needs.{needs}
 use Prim.Native.Nat.{_-_, _^_}
-use native.Mathlib.Nat.{sub-add-cancel}
 use native.Mathlib.Omega.{arith}
 use lib.Dec.{lit<}
 use Rattle.root_digits.proofs.Words.{product-lt}

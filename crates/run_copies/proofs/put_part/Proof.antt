@@ -1,11 +1,10 @@
 -- `run_copies::put_part`: the first i doubles are put.
 use borrow.Author.Needs.{needs}
 use mathlib.Core.Path.{_≡_, refl}
-use Prim.Native.Nat.{ℕ, _≤_, _-_, _+_}
+use Prim.Native.Nat.{_≤_, _-_, _+_}
 use native.Mathlib.Omega.{arith}
 use native.Mathlib.Numerals.{add-one}
 use lib.ListN.{length, length-set}
-use Rattle.rules.specs.Arithmetic.{ieee}
 use Rattle.axpy.specs.Axpy.{at, run}
 use Rattle.axpy.proofs.Loops.{made-none, made-more, made-all}
 use Rattle.run_copies.proofs.put_part.Statement.{statement}

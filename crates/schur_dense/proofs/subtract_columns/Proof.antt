@@ -1,17 +1,16 @@
 -- `schur_dense::subtract_columns`: the first c columns are written.
 use borrow.Author.Needs.{needs}
-use mathlib.Core.Path.{_≡_, refl, sym, ap, ap₂, subst, _∙_}
-use Prim.Native.Nat.{ℕ, suc, _≤_, _-_, _+_, _*_, _/_}
+use mathlib.Core.Path.{_≡_, refl, ap, subst}
+use Prim.Native.Nat.{ℕ, _≤_, _-_, _+_}
 use native.Mathlib.Omega.{arith}
 use native.Mathlib.Numerals.{add-one}
 use lib.ListN.{length}
 use lib.Ieee.{Float}
-use Rattle.storage.specs.Runs.{start, triangle, dense}
-use Rattle.storage.specs.Shape.{packed, columns, fill}
-use Rattle.storage.proofs.Starts.{start-dense, start-triangle, start-below}
+use Rattle.storage.specs.Runs.{start, dense}
+use Rattle.storage.specs.Shape.{columns, fill}
+use Rattle.storage.proofs.Starts.{start-dense, start-below}
 use Rattle.rules.specs.Arithmetic.{ieee}
 use Rattle.rules.specs.Sums.{dot}
-use Rattle.rules.specs.Steps.{subtractDense}
 use Rattle.blocks.specs.Blocks.{block}
 use Rattle.blocks.specs.Done.{Done}
 use Rattle.blocks.proofs.Laws.{begun, ended, read-block, has-dense}

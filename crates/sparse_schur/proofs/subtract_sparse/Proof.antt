@@ -5,17 +5,12 @@ use Prim.Native.Nat.{ℕ, _≤_, _<_, _-_, _+_, _*_}
 use native.Mathlib.Omega.{arith}
 use native.Mathlib.Numerals.{add-one}
 use lib.ListN.{length}
-use Rattle.storage.specs.Runs.{start, triangle, dense}
-use Rattle.storage.specs.Shape.{packed, diagonal, columns, fill}
+use Rattle.storage.specs.Runs.{start, dense}
+use Rattle.storage.specs.Shape.{columns, fill}
 use Rattle.storage.specs.Part.{store}
-use Rattle.storage.proofs.Starts.{start-below, start-dense, start-single}
-use Rattle.rules.specs.Arithmetic.{ieee}
-use Rattle.rules.specs.Steps.{divide}
-use Rattle.blocks.specs.Blocks.{block, rowFrom}
-use Rattle.blocks.specs.Done.{Done}
-use Rattle.blocks.proofs.Laws.{begun, ended}
+use Rattle.storage.proofs.Starts.{start-below, start-dense}
+use Rattle.blocks.specs.Blocks.{rowFrom}
 use Rattle.cross_block.specs.Blocks.{lessSparseCell}
-use Rattle.cross_block.proofs.Turns.{divide-turn, solve-turn}
 use Rattle.cross_block.proofs.Sparse.{sparse-none, sparse-more}
 use Rattle.sparse_schur.proofs.subtract_sparse.Statement.{statement}
 use Rattle.sparse_schur.proofs.subtract_sparse.Tie as tie

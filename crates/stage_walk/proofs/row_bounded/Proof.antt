@@ -1,5 +1,5 @@
 -- `stage_walk::row_bounded`: the targets before j are.
-use Prim.Native.Nat.{suc, _+_, _-_, _≤_}
+use Prim.Native.Nat.{suc, _-_}
 use mathlib.Core.Path.{refl}
 use Rattle.stage_walk.proofs.Stages.{stage-within, stage-past}
 use lib.Dec.{leb}

@@ -1,9 +1,6 @@
 -- `theta_text::put_theta`: the lines are those that are due and the last of the input, or 2.
 use denote.Ref.{now}
-use mathlib.Core.Path.{sym, _∙_}
-use mathlib.Core.Bool.{and-eq-true-iff}
-use lib.ListN.{length, take}
-use borrow.Author.Tests.{eqb-true}
+use mathlib.Core.Path.{sym}
 use lib.Seq.{length-take-le}
 use native.Mathlib.Omega.{arith}
 use Rattle.refusal_text.proofs.Texts.{theta-good, theta-bad, theta-number}

@@ -1,6 +1,5 @@
 -- `word_field::word`: the digits to come still end as the whole word does, unless an entry before was that of no digit.
 use Prim.Native.Nat.{ℕ, _+_, _-_, _<_}
-use mathlib.Core.Path.{_≡_}
 use borrow.Author.Needs.{needs}
 use native.Mathlib.Omega.{arith}
 use lib.ListN.{getD}
