@@ -1,8 +1,8 @@
 -- The cells before a block, by the order of the targets.
 use Prim.Native.Nat.{ℕ, zero, suc, _+_, _≤_, _<_}
-use mathlib.Core.Path.{_≡_, refl, sym, ap, subst, _∙_}
+use mathlib.Core.Path.{_≡_, refl, ap, subst, _∙_}
 use mathlib.Core.Bool.{false, _&&_}
-use mathlib.Core.List.{List, [], _∷_, _++_, append-assoc, append-nil}
+use mathlib.Core.List.{List, [], _∷_, _++_, append-assoc}
 use mathlib.Core.Logic.{by-cases}
 use native.Mathlib.Decide.{decLt}
 use native.Mathlib.Omega.{arith}
@@ -10,6 +10,7 @@ use lib.Dec.{eqb}
 use borrow.Author.Tests.{eq-eqb, ne-eqb}
 use Rattle.layout.specs.Shapes.{Target, target, factors, across, pairs, targets, cellsOf, before}
 use Rattle.layout.proofs.Formula.{cells-append, cells-targets}
+use Rattle.block_sizes.proofs.Growing.{Grows, factors-grow, across-grow, pairs-grow, grow-split}
 
 -- block (i, j) is none of a list
 abbrev Without : ℕ → ℕ → List Target → Type 0
@@ -26,33 +27,31 @@ other-row i j r c h = rw (ne-eqb r i h)
 other-column : (i j r c : ℕ) → r ≡ i → (c ≡ j → ⊥) → (eqb r i && eqb c j) ≡ false
 other-column i j r c e h = rw (eq-eqb r i e, ne-eqb c j h)
 
+-- none of a list that grows, where it is none of the pieces
+without-grow : (i j : ℕ) {l g : ℕ → List Target} → Grows l g → (n : ℕ) → ((t : ℕ) → t < n → Without i j (g t)) → Without i j (l n)
+without-grow i j e zero h = rw (e .none) tt
+without-grow i j {l} {g} e (suc n) h =
+    rw (e .more n) (without-append i j (l n) (g n) (without-grow i j e n (λ t m. h t (omega arith))) (h n (omega arith)))
+
+-- none of a list of one other block
+without-one : (i j r c : ℕ) → (r ≡ i → c ≡ j → ⊥) → Without i j (target r c ∷ [])
+without-one i j r c h = (
+  by-cases (decLt r i) (λ l. other-row i j r c (λ e. omega arith))
+      (λ l. by-cases (decLt i r) (λ m. other-row i j r c (λ e. omega arith)) (λ m. let e : r ≡ i = omega arith in other-column i j r c e (h e))),
+  tt,
+)
+
 -- no factor before it, and none off the diagonal
 without-factors : (i j n : ℕ) → ((t : ℕ) → t < n → t ≡ i → t ≡ j → ⊥) → Without i j (factors n)
-unfolding factors
-without-factors i j zero h = tt
-without-factors i j (suc n) h =
-    without-append i j (factors n) (target n n ∷ []) (without-factors i j n (λ t l. h t (omega arith))) (
-      by-cases (decLt n i) (λ l. other-row i j n n (λ e. omega arith))
-          (λ l. by-cases (decLt i n) (λ m. other-row i j n n (λ e. omega arith)) (λ m. let e : n ≡ i = omega arith in other-column i j n n e (h n (omega arith) e))),
-      tt,
-    )
+without-factors i j n h = without-grow i j factors-grow n (λ t l. without-one i j t t (h t l))
 
 -- no block to its left, and none of another row
 without-across : (i j r n : ℕ) → ((c : ℕ) → c < n → r ≡ i → c ≡ j → ⊥) → Without i j (across r n)
-unfolding across
-without-across i j r zero h = tt
-without-across i j r (suc n) h =
-    without-append i j (across r n) (target r n ∷ []) (without-across i j r n (λ c l. h c (omega arith))) (
-      by-cases (decLt r i) (λ l. other-row i j r n (λ e. omega arith))
-          (λ l. by-cases (decLt i r) (λ m. other-row i j r n (λ e. omega arith)) (λ m. let e : r ≡ i = omega arith in other-column i j r n e (h n (omega arith) e))),
-      tt,
-    )
+without-across i j r n h = without-grow i j (across-grow r) n (λ c l. without-one i j r c (h c l))
 
 -- no pair of the rows above, and none at or above the diagonal
 without-pairs : (i j n : ℕ) → (n ≤ i) → Without i j (pairs n)
-unfolding pairs
-without-pairs i j zero h = tt
-without-pairs i j (suc n) h = without-append i j (pairs n) (across n n) (without-pairs i j n (omega arith)) (without-across i j n n (λ c l e q. omega arith))
+without-pairs i j n h = without-grow i j pairs-grow n (λ r l. without-across i j r r (λ c m e q. omega arith))
 
 module _ (size : ℕ → ℕ → ℕ) where
   -- what stands before a block that is the next of the list
@@ -62,34 +61,10 @@ module _ (size : ℕ → ℕ → ℕ) where
   before-split i j (t ∷ a) b h = rw (h .0) (ap (λ (x : ℕ). size (t .row) (t .col) + x) (before-split i j a b (h .1)))
 
   -- a factor: the factors before it
-  factors-split : (j n : ℕ) → j < n → (b : List Target) × (factors n ≡ factors j ++ (target j j ∷ b))
-  unfolding factors
-  factors-split j zero h = absurd (omega arith)
-  factors-split j (suc n) h =
-      by-cases (decLt j n)
-      (λ l. let r = factors-split j n l in (r .0 ++ (target n n ∷ []), ap (λ (x : List Target). x ++ (target n n ∷ [])) (r .1) ∙ append-assoc (factors j) (target j j ∷ r .0) (target n n ∷ [])))
-      (λ l. let e : n ≡ j = omega arith in ([], rw e))
-
-  across-split : (i j n : ℕ) → j < n → (b : List Target) × (across i n ≡ across i j ++ (target i j ∷ b))
-  unfolding across
-  across-split i j zero h = absurd (omega arith)
-  across-split i j (suc n) h =
-      by-cases (decLt j n)
-      (λ l. let r = across-split i j n l in (r .0 ++ (target i n ∷ []), ap (λ (x : List Target). x ++ (target i n ∷ [])) (r .1) ∙ append-assoc (across i j) (target i j ∷ r .0) (target i n ∷ [])))
-      (λ l. let e : n ≡ j = omega arith in ([], rw e))
-
-  pairs-split : (i n : ℕ) → i < n → (b : List Target) × (pairs n ≡ pairs i ++ (across i i ++ b))
-  unfolding pairs
-  pairs-split i zero h = absurd (omega arith)
-  pairs-split i (suc n) h =
-      by-cases (decLt i n)
-      (λ l. let r = pairs-split i n l in (r .0 ++ across n n, ap (λ (x : List Target). x ++ across n n) (r .1) ∙ simp append-assoc))
-      (λ l. let e : n ≡ i = omega arith in ([], rw e (ap (λ (x : List Target). pairs i ++ x) (sym (append-nil (across i i))))))
-
   pub before-factor : (k j : ℕ) → j < k → before size (targets k) j j ≡ cellsOf size (factors j)
   unfolding targets
   before-factor k j h =
-      let r = factors-split j k h in
+      let r = grow-split factors-grow j k h in
       let e : targets k ≡ factors j ++ (target j j ∷ (r .0 ++ (pairs k ++ (across k k ++ (target k k ∷ []))))) =
       rw (r .1) (simp append-assoc) in
       ap (λ (l : List Target). before size l j j) e ∙ before-split j j (factors j) _ (without-factors j j j (λ t l p q. omega arith))
@@ -109,15 +84,15 @@ module _ (size : ℕ → ℕ → ℕ) where
   before-pair : (k i j : ℕ) → j < i → i < k → before size (targets k) i j ≡ cellsOf size (factors k) + cellsOf size (pairs i) + cellsOf size (across i j)
   unfolding targets
   before-pair k i j h g =
-      let r = pairs-split i k g in
-      let s = across-split i j i h in
+      let r = grow-split pairs-grow i k g in
+      let s = grow-split (across-grow i) j i h in
       row-split i j (s .0 ++ (r .0 ++ (across k k ++ (target k k ∷ [])))) k (omega arith) (without-factors i j k (λ t l p q. omega arith))
       (rw (r .1, s .1) (simp append-assoc))
 
   before-fixed : (k j : ℕ) → j < k → before size (targets k) k j ≡ cellsOf size (factors k) + cellsOf size (pairs k) + cellsOf size (across k j)
   unfolding targets
   before-fixed k j h =
-      let s = across-split k j k h in
+      let s = grow-split (across-grow k) j k h in
       row-split k j (s .0 ++ (target k k ∷ [])) k (omega arith) (without-factors k j k (λ t l p q. omega arith))
       (rw (s .1) (simp append-assoc))
 

@@ -1,21 +1,18 @@
 -- The cells of each block of a lawful layout, loaded or working, in closed form and in bounds.
-use Prim.Native.Nat.{ℕ, zero, suc, _+_, _*_, _/_, _≤_, _<_}
+use Prim.Native.Nat.{ℕ, _+_, _*_, _/_, _≤_, _<_}
 use mathlib.Core.Path.{_≡_, refl, sym, subst, _∙_}
 use mathlib.Core.Bool.{Bool, true, false, _&&_, and-eq-true-iff}
-use mathlib.Core.List.{[], _∷_}
 use mathlib.Core.Logic.{_⊎_, inl, inr, by-cases}
 use native.Mathlib.Decide.{decLt}
 use native.Mathlib.Nat.{mul-le-mul}
-use native.Mathlib.Numerals.{add-one}
 use native.Mathlib.Omega.{arith}
 use lib.Dec.{eqb}
 use borrow.Author.Tests.{eqb-true}
 use Rattle.layout.specs.declared.Layout.{Layout}
-use Rattle.layout.specs.Shapes.{levels, sizes, target, factors, across, pairs, targets, cellsOf, loadedLength, doublesNeeded, sumAt}
+use Rattle.layout.specs.Shapes.{levels, sizes, factors, across, pairs, targets, cellsOf, loadedLength, doublesNeeded, sumAt}
 use Rattle.heading_rules.specs.Heading.{lawful}
 use Rattle.heading_rules.proofs.Lawful.{is-lawful}
 use Rattle.layout.proofs.Formula.{
-  cells-append,
   cells-targets,
   first-factor,
   diagonal-factor,
@@ -29,6 +26,7 @@ use Rattle.layout.proofs.Formula.{
   loaded-last,
 }
 use Rattle.block_sizes.specs.Kind.{sizesOf}
+use Rattle.block_sizes.proofs.Growing.{sums-small, factors-sums, across-sums, pairs-sums}
 
 -- more than the cells of any block
 abbrev pub many : ℕ
@@ -135,65 +133,31 @@ module _ (y : Layout) (ok : lawful y ≡ true) where
       (λ l. let e : y .k ≡ i = omega arith in subst (λ (x : ℕ). sizesOf y b x j ≤ many) e (last-small b j (omega arith)))
 
   -- nor have several
-  pub factors-small : (b : Bool) (n : ℕ) → n ≤ y .k → cellsOf (sizesOf y b) (factors n) ≤ n * many
-  unfolding factors cellsOf
-  factors-small b zero h = omega arith
-  factors-small b (suc n) h =
-      omega (arith, cells-append (sizesOf y b) (factors n) (target n n ∷ []), factors-small b n (omega arith), block-small b n n (omega arith) (omega arith))
+  factors-small : (b : Bool) (n : ℕ) → n ≤ y .k → cellsOf (sizesOf y b) (factors n) ≤ n * many
+  factors-small b n h = sums-small (factors-sums (sizesOf y b)) many n (λ j g. block-small b j j (omega arith) (omega arith))
 
-  pub across-small : (b : Bool) (i n : ℕ) → n ≤ i → i ≤ y .k → cellsOf (sizesOf y b) (across i n) ≤ n * many
-  unfolding across cellsOf
-  across-small b i zero h g = omega arith
-  across-small b i (suc n) h g =
-      omega (arith, cells-append (sizesOf y b) (across i n) (target i n ∷ []), across-small b i n (omega arith) g, block-small b i n (omega arith) g)
+  across-small : (b : Bool) (i n : ℕ) → n ≤ i → i ≤ y .k → cellsOf (sizesOf y b) (across i n) ≤ n * many
+  across-small b i n h g = sums-small (across-sums (sizesOf y b) i) many n (λ j l. block-small b i j (omega arith) g)
 
-  pub pairs-small : (b : Bool) (n : ℕ) → n ≤ y .k → cellsOf (sizesOf y b) (pairs n) ≤ n * (8 * many)
-  unfolding pairs cellsOf
-  pairs-small b zero h = omega arith
-  pairs-small b (suc n) h =
-      omega (arith, cells-append (sizesOf y b) (pairs n) (across n n), pairs-small b n (omega arith), across-small b n n (omega arith) (omega arith), few-blocks)
+  -- a row of pairs, and all of them
+  pub row-small : (b : Bool) (i : ℕ) → i ≤ y .k → cellsOf (sizesOf y b) (across i i) ≤ 8 * many
+  row-small b i h = omega (arith, across-small b i i (omega arith) h, few-blocks)
 
-  -- all blocks
+  pairs-small : (b : Bool) (n : ℕ) → n ≤ y .k → cellsOf (sizesOf y b) (pairs n) ≤ n * (8 * many)
+  pairs-small b n h = sums-small (pairs-sums (sizesOf y b)) (8 * many) n (λ i g. row-small b i (omega arith))
+
+  -- nor all that a block may have before it
+  pub before-small : (b : Bool) (i j : ℕ) → j ≤ i → i ≤ y .k
+      → cellsOf (sizesOf y b) (factors (y .k)) + cellsOf (sizesOf y b) (pairs i) + cellsOf (sizesOf y b) (across i j) ≤ 127 * many
+  before-small b i j h g = omega (arith, factors-small b (y .k) (omega arith), pairs-small b i g, across-small b i j h g, few-blocks)
+
+  -- nor all blocks
   pub cells-small : (b : Bool) → cellsOf (sizesOf y b) (targets (y .k)) ≤ 128 * many
   cells-small b =
-      omega (
-        arith,
-        cells-targets (sizesOf y b) (y .k),
-        factors-small b (y .k) (omega arith),
-        pairs-small b (y .k) (omega arith),
-        across-small b (y .k) (y .k) (omega arith) (omega arith),
-        block-small b (y .k) (y .k) (omega arith) (omega arith),
-        few-blocks,
-      )
+      let k = y .k in
+      omega (arith, cells-targets (sizesOf y b) k, before-small b k k (omega arith) (omega arith), block-small b k k (omega arith) (omega arith))
 
   -- THE BOUND: a workspace of a lawful layout has fewer than 2^41 doubles, so each of its places is far below 2^63.
   pub doubles-small : doublesNeeded y < 2199023255552
   unfolding sumAt loadedLength
   doubles-small = omega (arith, cells-small true, cells-small false, few-blocks)
-
--- ---- sums, one block or row at a time
-
-module _ (y : Layout) (b : Bool) where
-  pub factors-none : 0 ≡ cellsOf (sizesOf y b) (factors 0)
-  unfolding factors cellsOf
-  factors-none = refl
-
-  pub factors-more : (j cells more : ℕ) → cells ≡ cellsOf (sizesOf y b) (factors j) → more ≡ sizesOf y b j j → cells + more ≡ cellsOf (sizesOf y b) (factors (j + 1))
-  unfolding factors cellsOf
-  factors-more j cells more e f = rw add-one (omega (arith, cells-append (sizesOf y b) (factors j) (target j j ∷ [])))
-
-  pub across-none : (i : ℕ) → 0 ≡ cellsOf (sizesOf y b) (across i 0)
-  unfolding across cellsOf
-  across-none i = refl
-
-  pub across-more : (i j cells more : ℕ) → cells ≡ cellsOf (sizesOf y b) (across i j) → more ≡ sizesOf y b i j → cells + more ≡ cellsOf (sizesOf y b) (across i (j + 1))
-  unfolding across cellsOf
-  across-more i j cells more e f = rw add-one (omega (arith, cells-append (sizesOf y b) (across i j) (target i j ∷ [])))
-
-  pub pairs-none : 0 ≡ cellsOf (sizesOf y b) (pairs 0)
-  unfolding pairs cellsOf
-  pairs-none = refl
-
-  pub pairs-more : (i cells more : ℕ) → cells ≡ cellsOf (sizesOf y b) (pairs i) → more ≡ cellsOf (sizesOf y b) (across i i) → cells + more ≡ cellsOf (sizesOf y b) (pairs (i + 1))
-  unfolding pairs
-  pairs-more i cells more e f = rw add-one (omega (arith, cells-append (sizesOf y b) (pairs i) (across i i)))

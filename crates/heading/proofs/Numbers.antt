@@ -4,6 +4,7 @@ use mathlib.Core.Path.{_≡_, refl, sym, ap, _∙_}
 use mathlib.Core.List.{List, [], _∷_, _++_}
 use native.Mathlib.Nat.{add-zero}
 use native.Mathlib.Omega.{arith}
+use lib.Dec.{eqb}
 use lib.ListN.{length, getD, take, drop, set, replicate, length-drop}
 use lib.Seq.{getD-drop, take-all}
 use Rattle.storage.specs.Part.{store}
@@ -11,9 +12,10 @@ use Rattle.storage.proofs.Cells.{take-tab}
 use Rattle.storage.proofs.Parts.{store-nil, store-one, store-more}
 use Rattle.layout.specs.declared.Layout.{Layout}
 use Rattle.heading_rules.specs.declared.Progress.{Progress}
+use Rattle.heading_rules.specs.declared.State.{State}
 use Rattle.heading_rules.specs.declared.State.the-variants.{Finished}
 use Rattle.layout.specs.Blocks.{padded}
-use Rattle.heading_rules.specs.Heading.{bit, stateNumber, stateOf, layoutNumbers, progressNumbers, written}
+use Rattle.heading_rules.specs.Heading.{bit, stateNumber, stateOf, layoutOf, progressOf, layoutNumbers, progressNumbers, written}
 use Rattle.gate.proofs.Filling.{Filling, filling-done, array-done}
 use Rattle.layout.proofs.Sums.{padded-at, length-padded}
 
@@ -33,6 +35,17 @@ pub state-else : (v : ℕ) → (v ≡ 0 → ⊥) → (v ≡ 1 → ⊥) → Finis
 state-else zero a b = absurd (a refl)
 state-else (suc zero) a b = absurd (b refl)
 state-else (suc (suc v)) a b = refl
+
+-- a layout and a progress, made of the numbers that were read
+pub layout-read : (h : List ℕ) {n p q k s d : ℕ} {m order : List ℕ} → m ≡ take 8 (drop 4 h) → order ≡ take 8 (drop 12 h) → n ≡ getD h 0 0 → p ≡ getD h 1 0 → q ≡ getD h 2 0 → k ≡ getD h 3 0
+    → s ≡ getD h 20 0 → d ≡ getD h 21 0 → _≡_ {A = Layout} (record { n = n; p = p; q = q; k = k; m = m; order = order; sparse = eqb s 1; diagonal = eqb d 1 }) (layoutOf h)
+unfolding layoutOf
+layout-read h a b c d e f g i = rw (a, b, c, d, e, f, g, i)
+
+pub progress-read : (h : List ℕ) {s : State} {v left : ℕ} {stages : List ℕ} → v ≡ getD h 22 0 → s ≡ stateOf v → stages ≡ take 45 (drop 24 h) → left ≡ getD h 23 0
+    → _≡_ {A = Progress} (record { state = s; left = left; stages = stages }) (progressOf h)
+unfolding progressOf
+progress-read h a b c d = rw (b, a, c, d)
 
 -- ---- writing
 
@@ -108,9 +121,9 @@ module _ (w : List ℕ) {w₁ w₂ w₃ : List ℕ} where
       (then w 22 24 (stateNumber (g .state) ∷ g .left ∷ []) (padded 45 (g .stages)) refl (omega arith))
 
   -- the whole heading: layout, progress, noughts
-  pub all-stored : (y : Layout) (g : Progress) → w₃ ≡ store 69 (replicate 59 0) w₂ → w₂ ≡ store 22 (progressNumbers g) w₁ → w₁ ≡ store 0 (layoutNumbers y) w → 128 ≤ length w
+  pub all-stored : (y : Layout) (g : Progress) → w₃ ≡ store 69 (padded 59 (replicate 59 0)) w₂ → w₂ ≡ store 22 (progressNumbers g) w₁ → w₁ ≡ store 0 (layoutNumbers y) w → 128 ≤ length w
       → w₃ ≡ store 0 (written y g) w
-  unfolding written
+  unfolding written padded
   all-stored y g e₃ e₂ e₁ h =
       rw (e₃, e₂, e₁)
       (ap (λ (x : List ℕ). store 69 (replicate 59 0) x) (then w 0 22 (layoutNumbers y) (progressNumbers g) (long-layout y) (omega arith))

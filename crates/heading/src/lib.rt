@@ -23,17 +23,26 @@ fn number(h: &[u32], at: usize) -> u64
     wide(h[at])
 }
 
+// Fills a list with the numbers from a place on.
+fn fill(h: &[u32], at: usize, r: &mut [u64])
+    requires { ⌜ at + length (now r) ≤ length (now h) ⌝ }
+    ensures { λ _. ⌜ now (r .exit) ≡ take (length (now (r .entry))) (drop at (now (h .entry))) ⌝ }
+{
+    let n = r.len();
+    let mut j: usize = 0;
+    while j < n {
+        r[j] = number(h, at + j);
+        j += 1;
+    }
+}
+
 // The eight numbers from a place on: a number of each sorted block.
 fn eight(h: &[u32], at: usize) -> [u64; 8]
     requires { ⌜ at + 8 ≤ length (now h) ⌝ }
     ensures { λ r. ⌜ r ≡ take 8 (drop at (now (h .entry))) ⌝ }
 {
     let mut r = [0u64; 8];
-    let mut j: usize = 0;
-    while j < 8 {
-        r[j] = number(h, at + j);
-        j += 1;
-    }
+    fill(h, at, &mut r);
     r
 }
 
@@ -43,11 +52,7 @@ fn stages(h: &[u32]) -> [u64; 45]
     ensures { λ r. ⌜ r ≡ take 45 (drop 24 (now (h .entry))) ⌝ }
 {
     let mut r = [0u64; 45];
-    let mut j: usize = 0;
-    while j < 45 {
-        r[j] = number(h, 24 + j);
-        j += 1;
-    }
+    fill(h, 24, &mut r);
     r
 }
 

@@ -6,7 +6,7 @@ use Rattle.heading_rules.specs.Heading.{idle}
 use Rattle.progress.proofs.Count.{triple-small, step-count}
 use Rattle.heading_writer.specs.Small.{SmallProgress}
 
-noughts-small : (n i : ℕ) → getD (replicate n 0) i 0 < 4294967296
+pub noughts-small : (n i : ℕ) → getD (replicate n 0) i 0 < 4294967296
 noughts-small zero i = omega arith
 noughts-small (suc n) zero = omega arith
 noughts-small (suc n) (suc i) = noughts-small n i

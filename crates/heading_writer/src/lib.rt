@@ -2,7 +2,7 @@
 ghost use mathlib.Core.Path.{_≡_};
 ghost use mathlib.Core.List.{[], _∷_};
 ghost use Prim.Native.Nat.{ℕ, _+_, _<_, _≤_};
-ghost use lib.ListN.{length, getD, replicate};
+ghost use lib.ListN.{length, getD};
 ghost use Rattle.storage.specs.Part.{store};
 ghost use Rattle.layout.specs.Blocks.{padded};
 ghost use Rattle.heading_rules.specs.Heading.{bit, stateNumber, layoutNumbers, progressNumbers, written};
@@ -45,38 +45,14 @@ fn put(h: &mut [u32], at: usize, v: u64)
     h[at] = narrow(v);
 }
 
-// Writes a number of each sorted block.
-fn write_eight(h: &mut [u32], at: usize, l: [u64; 8])
-    requires { ⌜ (at + 8 ≤ length (now h)) × ((i : ℕ) → getD l i 0 < 4294967296) ⌝ }
-    ensures { λ _. ⌜ now (h .exit) ≡ store at (padded 8 l) (now (h .entry)) ⌝ }
+// Writes the first n numbers of a list.
+fn write_numbers(h: &mut [u32], at: usize, l: &[u64], n: usize)
+    requires { ⌜ (at + n ≤ length (now h)) × (n ≤ length (now l)) × ((i : ℕ) → getD (now l) i 0 < 4294967296) ⌝ }
+    ensures { λ _. ⌜ now (h .exit) ≡ store at (padded n (now (l .entry))) (now (h .entry)) ⌝ }
 {
     let mut j: usize = 0;
-    while j < 8 {
+    while j < n {
         h[at + j] = narrow(l[j]);
-        j += 1;
-    }
-}
-
-// Writes the stages of the target blocks.
-fn write_stages(h: &mut [u32], l: [u64; 45])
-    requires { ⌜ (69 ≤ length (now h)) × ((i : ℕ) → getD l i 0 < 4294967296) ⌝ }
-    ensures { λ _. ⌜ now (h .exit) ≡ store 24 (padded 45 l) (now (h .entry)) ⌝ }
-{
-    let mut j: usize = 0;
-    while j < 45 {
-        h[24 + j] = narrow(l[j]);
-        j += 1;
-    }
-}
-
-// Writes noughts behind the progress.
-fn write_noughts(h: &mut [u32])
-    requires { ⌜ 128 ≤ length (now h) ⌝ }
-    ensures { λ _. ⌜ now (h .exit) ≡ store 69 (replicate 59 0) (now (h .entry)) ⌝ }
-{
-    let mut j: usize = 0;
-    while j < 59 {
-        h[69 + j] = 0;
         j += 1;
     }
 }
@@ -108,9 +84,9 @@ fn write_layout(h: &mut [u32], y: Layout)
 {
     write_counts(h, y.n, y.p, y.q, y.k);
     let m = y.m;
-    write_eight(h, 4, m);
+    write_numbers(h, 4, &m, 8);
     let order = y.order;
-    write_eight(h, 12, order);
+    write_numbers(h, 12, &order, 8);
     write_flags(h, y.sparse, y.diagonal);
 }
 
@@ -123,7 +99,7 @@ pub fn write_progress(h: &mut [u32], g: Progress)
     put(h, 22, state_number(state));
     put(h, 23, g.left);
     let stages = g.stages;
-    write_stages(h, stages);
+    write_numbers(h, 24, &stages, 45);
 }
 
 // Writes all 128 numbers of a heading.
@@ -133,5 +109,6 @@ pub fn write(h: &mut [u32], y: Layout, g: Progress)
 {
     write_layout(h, y);
     write_progress(h, g);
-    write_noughts(h);
+    let noughts = [0u64; 59];
+    write_numbers(h, 69, &noughts, 59);
 }

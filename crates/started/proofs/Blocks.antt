@@ -21,6 +21,7 @@ use Rattle.layout.specs.declared.Layout.{Layout}
 use Rattle.layout.specs.Shapes.{Target, target, factors, across, pairs, targets, levels, shape, sizes, loadedSizes, loadedAt, workingAt, doublesNeeded}
 use Rattle.layout.proofs.Places.{size-working}
 use Rattle.layout.proofs.Formula.{loaded-factor, loaded-other, loaded-last}
+use Rattle.block_sizes.proofs.Growing.{Grows}
 use Rattle.block_sizes.proofs.Sizes.{below}
 use Rattle.re_factor.specs.Factor as factor
 use Rattle.cross_block.specs.Blocks.{scaledTwice, scaledOnce}
@@ -98,36 +99,46 @@ module _ (y : Layout) (row : ℕ → ℕ) (t : ℕ → Float) where
 
   started-next : (l : List Target) (i j : ℕ) (v : List Float) → startedBlocks y row t (l ++ (target i j ∷ [])) v ≡ startedBlock y row t i j (startedBlocks y row t l v)
   unfolding startedBlocks
-  started-next [] i j v = refl
-  started-next (u ∷ l) i j v = started-next l i j (startedBlock y row t (u .row) (u .col) v)
+  started-next l i j v = started-append l (target i j ∷ []) v
+
+-- a loop over a list that grows: the first j of its n pieces are begun
+pub record Starting (y : Layout) (t : ℕ → Float) (l g : ℕ → List Target) (n : ℕ) (w v : List Float) (j : ℕ) : Type 0 where
+  pub grows : Grows l g
+  pub within : j ≤ n
+  pub far : BlocksStarted y t (l j) w v
+  pub long : length v ≡ length w
+
+module _ {y : Layout} {t : ℕ → Float} {l g : ℕ → List Target} {n : ℕ} {w : List Float} where
+  pub starting-none : Grows l g → Starting y t l g n w w 0
+  unfolding startedBlocks
+  starting-none e =
+      record {
+        grows = e;
+        within = omega arith;
+        far = λ row. sym (ap (λ (x : List Target). startedBlocks y row t x w) (e .none));
+        long = refl;
+      }
+
+  module _ {v : List Float} {j : ℕ} (e : Starting y t l g n w v j) where
+    -- one piece more
+    pub starting-more : {u : List Float} → j < n → BlocksStarted y t (g j) v u → length u ≡ length v → Starting y t l g n w u (j + 1)
+    starting-more h f q =
+        record {
+          grows = e .grows;
+          within = omega arith;
+          far = λ row. rw (add-one, e .grows .more j) (f row ∙ ap (startedBlocks y row t (g j)) (e .far row) ∙ sym (started-append y row t (l j) (g j) w));
+          long = q ∙ e .long;
+        }
+
+    -- a piece that is one block
+    pub starting-block : {u : List Float} {r c : ℕ} → g j ≡ (target r c ∷ []) → j < n → BlockStarted y t r c v u → length u ≡ length v → Starting y t l g n w u (j + 1)
+    unfolding startedBlocks
+    starting-block z h f q = starting-more h (λ row. rw z (f row)) q
+
+    pub starting-all : n ≤ j → BlocksStarted y t (l n) w v
+    starting-all h = let within = e .within in subst (λ (x : ℕ). BlocksStarted y t (l x) w v) (omega arith) (e .far)
 
 module _ (y : Layout) (t : ℕ → Float) (w : List Float) where
-  pub factors-none : BlocksStarted y t (factors 0) w w
-  unfolding factors startedBlocks
-  factors-none row = refl
-
-  pub across-none : (i : ℕ) → BlocksStarted y t (across i 0) w w
-  unfolding across startedBlocks
-  across-none i row = refl
-
-  pub pairs-none : BlocksStarted y t (pairs 0) w w
-  unfolding pairs startedBlocks
-  pairs-none row = refl
-
-  module _ (v u : List Float) where
-    pub factors-more : (j : ℕ) → BlocksStarted y t (factors j) w v → BlockStarted y t j j v u → BlocksStarted y t (factors (j + 1)) w u
-    unfolding factors
-    factors-more j e f row = rw add-one (f row ∙ ap (startedBlock y row t j j) (e row) ∙ sym (started-next y row t (factors j) j j w))
-
-    pub across-more : (i j : ℕ) → BlocksStarted y t (across i j) w v → BlockStarted y t i j v u → BlocksStarted y t (across i (j + 1)) w u
-    unfolding across
-    across-more i j e f row = rw add-one (f row ∙ ap (startedBlock y row t i j) (e row) ∙ sym (started-next y row t (across i j) i j w))
-
-    pub pairs-more : (i : ℕ) → BlocksStarted y t (pairs i) w v → BlocksStarted y t (across i i) v u → BlocksStarted y t (pairs (i + 1)) w u
-    unfolding pairs
-    pairs-more i e f row =
-        rw add-one (f row ∙ ap (startedBlocks y row t (across i i)) (e row) ∙ sym (started-append y row t (pairs i) (across i i) w))
-
   -- all of them
   pub targets-done : (v₁ v₂ v₃ u : List Float) → BlocksStarted y t (factors (y .k)) w v₁ → BlocksStarted y t (pairs (y .k)) v₁ v₂ → BlocksStarted y t (across (y .k) (y .k)) v₂ v₃
       → BlockStarted y t (y .k) (y .k) v₃ u → BlocksStarted y t (targets (y .k)) w u

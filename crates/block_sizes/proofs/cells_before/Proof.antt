@@ -5,7 +5,7 @@ use mathlib.Core.Logic.{⊎-elim}
 use native.Mathlib.Omega.{arith}
 use Rattle.layout.specs.Shapes.{targets, factors, cellsOf, before}
 use Rattle.block_sizes.specs.Kind.{sizesOf}
-use Rattle.block_sizes.proofs.Sizes.{few-blocks, factors-small, pairs-small, across-small}
+use Rattle.block_sizes.proofs.Sizes.{before-small}
 use Rattle.block_sizes.proofs.Before.{before-factor, before-row}
 use borrow.Author.Needs.{needs}
 use Rattle.block_sizes.proofs.cells_before.Statement.{statement}
@@ -32,14 +32,8 @@ pair-cells-requires c κs = search needs
 add-result : tie.Need-add-result
 add-result c =
     let s = c .before .before .before in
-    omega (
-      arith,
-      few-blocks (s .args .y) (s .pre .0),
-      factors-small (s .args .y) (s .pre .0) (s .args .loaded) (s .args .y .k) (omega arith),
-      pairs-small (s .args .y) (s .pre .0) (s .args .loaded) (s .args .i) (omega arith),
-      c .before .factor-cells2 .ensures,
-      c .pair-cells .ensures,
-    )
+    let a = s .args in
+    omega (arith, before-small (a .y) (s .pre .0) (a .loaded) (a .i) (a .j) (s .pre .1) (s .pre .2), c .before .factor-cells2 .ensures, c .pair-cells .ensures)
 
 row-cells-requires : tie.Need-row-cells-requires
 row-cells-requires c κs = search needs
@@ -47,12 +41,10 @@ row-cells-requires c κs = search needs
 add-result-2 : tie.Need-add-result-2
 add-result-2 c =
     let s = c .before .before .before .before in
+    let a = s .args in
     omega (
       arith,
-      few-blocks (s .args .y) (s .pre .0),
-      factors-small (s .args .y) (s .pre .0) (s .args .loaded) (s .args .y .k) (omega arith),
-      pairs-small (s .args .y) (s .pre .0) (s .args .loaded) (s .args .i) (omega arith),
-      across-small (s .args .y) (s .pre .0) (s .args .loaded) (s .args .i) (s .args .j) (omega arith) (omega arith),
+      before-small (a .y) (s .pre .0) (a .loaded) (a .i) (a .j) (s .pre .1) (s .pre .2),
       c .before .before .factor-cells2 .ensures,
       c .before .pair-cells .ensures,
       c .row-cells .ensures,

@@ -1,34 +1,29 @@
 -- `block_sizes::factor_cells`: the cells of the first j factors.
-use Prim.Native.Nat.{ℕ, _≤_, _-_}
-use mathlib.Core.Path.{_≡_, ap, _∙_}
+use Prim.Native.Nat.{_-_}
 use native.Mathlib.Omega.{arith}
 use Rattle.layout.specs.Shapes.{factors, cellsOf}
 use Rattle.block_sizes.specs.Kind.{sizesOf}
-use Rattle.block_sizes.proofs.Sizes.{few-blocks, factors-small, block-small, factors-none, factors-more}
+use Rattle.block_sizes.proofs.Growing.{Summing, summing-none, summing-fits, summing-more, summing-all, factors-sums}
+use Rattle.block_sizes.proofs.Sizes.{few-blocks, block-small}
 use Rattle.block_sizes.proofs.factor_cells.Statement.{statement}
 use Rattle.block_sizes.proofs.factor_cells.Tie as tie
 
 abbrev Inv-loop : tie.InvT-loop
-Inv-loop y loaded n cells₀ j₀ cells j = (j ≤ n) × (cells ≡ cellsOf (sizesOf y loaded) (factors j))
+Inv-loop y loaded n cells₀ j₀ cells j = Summing (λ x. cellsOf (sizesOf y loaded) (factors x)) (λ x. sizesOf y loaded x x) n cells j
 
 abbrev μ-loop : tie.MeasureT-loop
 μ-loop y loaded n cells₀ j₀ cells j = n - j
 
 loop-holds : tie.Need-loop-holds Inv-loop μ-loop
-loop-holds c = (omega arith, factors-none (c .args .y) (c .args .loaded))
+loop-holds c =
+    let a = c .args in
+    summing-none (factors-sums (sizesOf (a .y) (a .loaded))) (λ x h. omega (arith, block-small (a .y) (c .pre .0) (a .loaded) x x (omega arith) (omega arith))) (omega (arith, few-blocks (a .y) (c .pre .0)))
 
 size-of-requires : tie.Need-size-of-requires Inv-loop μ-loop
-size-of-requires c κs =
-    let s = c .before .before in
-    (s .pre .0, omega arith, omega arith)
+size-of-requires c κs = (c .before .before .pre .0, omega arith, omega arith)
 
 add-cells : tie.Need-add-cells Inv-loop μ-loop
-add-cells c =
-    let s = c .before .before .before in
-    let l = c .before .before .loop in
-    let h = factors-small (s .args .y) (s .pre .0) (s .args .loaded) (l .j) (omega arith) in
-    let b = block-small (s .args .y) (s .pre .0) (s .args .loaded) (l .j) (l .j) (omega arith) (omega arith) in
-    omega (arith, few-blocks (s .args .y) (s .pre .0), l .inv .1, c .size-of .ensures)
+add-cells c = omega (arith, summing-fits (c .before .before .loop .inv) (omega arith) (c .size-of .ensures))
 
 add-j : tie.Need-add-j Inv-loop μ-loop
 add-j c = omega arith
@@ -37,15 +32,10 @@ loop-less : tie.Need-loop-less Inv-loop μ-loop
 loop-less c = omega arith
 
 loop-again : tie.Need-loop-again Inv-loop μ-loop
-loop-again c =
-    let s = c .before .before .before in
-    let l = c .before .before .loop in
-    (omega arith, factors-more (s .args .y) (s .args .loaded) (l .j) (l .cells) (c .size-of .result) (l .inv .1) (c .size-of .ensures))
+loop-again c = summing-more (c .before .before .loop .inv) (omega arith) (c .size-of .ensures)
 
 returns : tie.Need-returns Inv-loop μ-loop
-returns c =
-    let l = c .before .loop in
-    l .inv .1 ∙ ap (λ (x : ℕ). cellsOf (sizesOf (c .before .before .args .y) (c .before .before .args .loaded)) (factors x)) (omega arith)
+returns c = summing-all (c .before .loop .inv) (omega arith)
 
 pub factor-cells-spec : {M : Type 1} → statement M
 factor-cells-spec =

@@ -1,6 +1,6 @@
 -- `heading::layout`: number by number, as defined.
 use borrow.Author.Needs.{needs}
-use Rattle.heading_rules.specs.Heading.{layoutOf}
+use Rattle.heading.proofs.Numbers.{layout-read}
 use Rattle.heading.proofs.layout.Statement.{statement}
 use Rattle.heading.proofs.layout.Tie as tie
 use Rattle.heading.proofs.layout.Reads as reads
@@ -33,8 +33,8 @@ number-requires-6 : tie.Need-number-requires-6
 number-requires-6 c κs = search needs
 
 returns : tie.Need-returns
-unfolding layoutOf
-returns c = cc
+returns c =
+    layout-read (c .before .before .before .before .before .before .before .before .before .args .h .now) (c .before .before .before .before .before .before .before .eight .ensures) (c .before .before .before .before .before .before .eight2 .ensures) (c .before .before .before .before .before .number .ensures) (c .before .before .before .before .number2 .ensures) (c .before .before .before .number3 .ensures) (c .before .before .number4 .ensures) (c .before .number5 .ensures) (c .number6 .ensures)
 
 pub layout-spec : {M : Type 1} → statement M
 layout-spec =

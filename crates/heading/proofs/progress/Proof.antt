@@ -1,6 +1,6 @@
 -- `heading::progress`: number by number, as defined.
 use borrow.Author.Needs.{needs}
-use Rattle.heading_rules.specs.Heading.{progressOf}
+use Rattle.heading.proofs.Numbers.{progress-read}
 use Rattle.heading.proofs.progress.Statement.{statement}
 use Rattle.heading.proofs.progress.Tie as tie
 use Rattle.heading.proofs.progress.Reads as reads
@@ -22,8 +22,8 @@ number-requires-2 : tie.Need-number-requires-2
 number-requires-2 c κs = search needs
 
 returns : tie.Need-returns
-unfolding progressOf
-returns c = cc
+returns c =
+    progress-read (c .before .before .before .before .before .args .h .now) (c .before .before .before .number .ensures) (c .before .before .state .ensures) (c .before .stages .ensures) (c .number2 .ensures)
 
 pub progress-spec : {M : Type 1} → statement M
 progress-spec =

@@ -1,4 +1,5 @@
 -- `heading_writer::write_layout`: part by part.
+use native.Mathlib.Omega.{arith}
 use borrow.Author.Needs.{needs}
 use Rattle.heading.proofs.Numbers.{layout-stored}
 use Rattle.heading_writer.proofs.write_layout.Statement.{statement}
@@ -6,17 +7,23 @@ use Rattle.heading_writer.proofs.write_layout.Tie as tie
 use Rattle.heading_writer.proofs.write_layout.Reads as reads
 use Rattle.heading_writer.proofs.write_layout.Lts as lts
 use Rattle.heading_writer.proofs.write_counts.Reads as write-counts-reads
-use Rattle.heading_writer.proofs.write_eight.Reads as write-eight-reads
 use Rattle.heading_writer.proofs.write_flags.Reads as write-flags-reads
+use Rattle.heading_writer.proofs.write_numbers.Reads as write-numbers-reads
 
 write-counts-requires : tie.Need-write-counts-requires
 write-counts-requires c κs = search needs
 
-write-eight-requires : tie.Need-write-eight-requires
-write-eight-requires c κs = search needs
+slice-aggregate-write-numbers : tie.Need-slice-aggregate-write-numbers
+slice-aggregate-write-numbers c = search needs
 
-write-eight-requires-2 : tie.Need-write-eight-requires-2
-write-eight-requires-2 c κs = search needs
+write-numbers-requires : tie.Need-write-numbers-requires
+write-numbers-requires c κs = (search needs, omega (arith, slice-aggregate-write-numbers c), c .before .before .before .before .before .before .before .before .pre .1 .m)
+
+slice-aggregate-write-numbers-2 : tie.Need-slice-aggregate-write-numbers-2
+slice-aggregate-write-numbers-2 c = search needs
+
+write-numbers-requires-2 : tie.Need-write-numbers-requires-2
+write-numbers-requires-2 c κs = (search needs, omega (arith, slice-aggregate-write-numbers-2 c), c .before .before .before .before .before .before .before .before .before .before .before .before .before .before .pre .1 .order)
 
 write-flags-requires : tie.Need-write-flags-requires
 write-flags-requires c κs = search needs
@@ -26,17 +33,18 @@ same-length c = search needs
 
 returns : tie.Need-returns
 returns c =
-    let start = c .before .before .before .before .before .before .before .before .before .before .before .before .before .before .before .before .before .before .before in
-    let w = start .args .h .now in
-    layout-stored w (start .args .y) (c .before .before .write-flags .ensures) (c .before .before .before .before .before .before .write-eight2 .ensures) (c .before .before .before .before .before .before .before .before .before .before .before .write-eight .ensures) (c .before .before .before .before .before .before .before .before .before .before .before .before .before .before .before .before .write-counts .ensures) (start .pre .0)
+    let start = c .before .before .before .before .before .before .before .before .before .before .before .before .before .before .before .before .before .before .before .before .before in
+    layout-stored (start .args .h .now) (start .args .y) (c .before .before .write-flags .ensures) (c .before .before .before .before .before .before .write-numbers2 .ensures) (c .before .before .before .before .before .before .before .before .before .before .before .before .write-numbers .ensures) (c .before .before .before .before .before .before .before .before .before .before .before .before .before .before .before .before .before .before .write-counts .ensures) (start .pre .0)
 
 pub write-layout-spec : {M : Type 1} → statement M
 write-layout-spec =
     tie.close
     (tie.spec
     write-counts-requires
-    write-eight-requires
-    write-eight-requires-2
+    slice-aggregate-write-numbers
+    write-numbers-requires
+    slice-aggregate-write-numbers-2
+    write-numbers-requires-2
     write-flags-requires
     same-length
     returns)

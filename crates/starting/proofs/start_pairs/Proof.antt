@@ -1,12 +1,11 @@
 -- `starting::start_pairs`: the pairs of the first i factors are begun.
-use Prim.Native.Nat.{ℕ, _-_, _≤_}
-use mathlib.Core.Path.{_≡_, refl, subst}
+use Prim.Native.Nat.{_-_}
 use native.Mathlib.Omega.{arith}
-use lib.ListN.{length}
-use Rattle.layout.specs.Shapes.{pairs}
+use Rattle.layout.specs.Shapes.{across, pairs}
+use Rattle.block_sizes.proofs.Growing.{pairs-grow}
 use Rattle.block_sizes.proofs.Sizes.{few-blocks}
-use Rattle.started.specs.Started.{sortedTheta, BlocksStarted}
-use Rattle.started.proofs.Blocks.{pairs-none, pairs-more}
+use Rattle.started.specs.Started.{sortedTheta}
+use Rattle.started.proofs.Blocks.{Starting, starting-none, starting-more, starting-all}
 use Rattle.starting.proofs.start_pairs.Statement.{statement}
 use Rattle.starting.proofs.start_pairs.Tie as tie
 use Rattle.starting.proofs.start_pairs.Reads as reads
@@ -14,42 +13,37 @@ use Rattle.starting.proofs.start_pairs.Lts as lts
 use Rattle.starting.proofs.start_row.Reads as start-row-reads
 
 abbrev Inv-loop : tie.InvT-loop
-Inv-loop y w₀ theta k i₀ w i = (i ≤ y .k) × BlocksStarted y (sortedTheta y theta) (pairs i) w₀ w × (length w ≡ length w₀)
+Inv-loop y w₀ theta k i₀ w i = Starting y (sortedTheta y theta) pairs (λ x. across x x) (y .k) w₀ w i
 
 abbrev μ-loop : tie.MeasureT-loop
 μ-loop y w₀ theta k i₀ w i = y .k - i
 
 loop-holds : tie.Need-loop-holds Inv-loop μ-loop
-loop-holds c = (omega arith, pairs-none _ _ _, refl)
+loop-holds c = starting-none pairs-grow
 
 start-row-requires : tie.Need-start-row-requires Inv-loop μ-loop
 start-row-requires c κs =
     let s = c .before .before .before .before .before in
     let l = c .before .before .loop in
-    (s .pre .0, s .pre .1, omega (arith, s .pre .2, l .inv .2), omega (arith, c .before .loop-test .taken))
+    (s .pre .0, s .pre .1, omega (arith, s .pre .2, l .inv .long), omega (arith, c .before .loop-test .taken))
 
 add-i : tie.Need-add-i Inv-loop μ-loop
 add-i c =
     let s = c .before .before .before .before .before .before .before .before in
-    omega (arith, few-blocks (s .args .y) (s .pre .0), c .before .before .before .before .before .loop .inv .0, c .before .before .before .before .loop-test .taken)
+    omega (arith, few-blocks (s .args .y) (s .pre .0), c .before .before .before .before .before .loop .inv .within, c .before .before .before .before .loop-test .taken)
 
 loop-less : tie.Need-loop-less Inv-loop μ-loop
 loop-less c = omega (arith, c .before .before .before .before .loop-test .taken)
 
 loop-again : tie.Need-loop-again Inv-loop μ-loop
 loop-again c =
-    let s = c .before .before .before .before .before .before .before .before in
-    let l = c .before .before .before .before .before .loop in
-    (omega (arith, c .before .before .before .before .loop-test .taken), pairs-more (s .args .y) (sortedTheta (s .args .y) (s .args .theta .now)) (s .args .w .now) _ _ (l .i) (l .inv .1) (c .before .before .start-row .ensures), omega arith)
+    starting-more (c .before .before .before .before .before .loop .inv) (c .before .before .before .before .loop-test .taken) (c .before .before .start-row .ensures) (omega arith)
 
 same-length : tie.Need-same-length Inv-loop μ-loop
-same-length c = c .before .loop .inv .2
+same-length c = c .before .loop .inv .long
 
 returns : tie.Need-returns Inv-loop μ-loop
-returns c =
-    let s = c .before .before .before .before in
-    let l = c .before .loop in
-    subst (λ (x : ℕ). BlocksStarted (s .args .y) (sortedTheta (s .args .y) (s .args .theta .now)) (pairs x) (s .args .w .now) (l .w)) (omega arith) (l .inv .1)
+returns c = starting-all (c .before .loop .inv) (omega arith)
 
 pub start-pairs-spec : {M : Type 1} → statement M
 start-pairs-spec =

@@ -1,22 +1,24 @@
--- `heading::stages`: the numbers before j are read.
+-- `heading::fill`: the numbers before j are read.
 use Prim.Native.Nat.{_-_}
+use native.Mathlib.Omega.{arith}
 use borrow.Author.Needs.{needs}
-use Rattle.gate.proofs.Filling.{Filling, filling-none, array-more}
+use lib.ListN.{length}
+use Rattle.gate.proofs.Filling.{Filling, filling-none, filling-length, array-more}
 use Rattle.heading.proofs.Numbers.{behind, read-all}
-use Rattle.heading.proofs.stages.Statement.{statement}
-use Rattle.heading.proofs.stages.Tie as tie
-use Rattle.heading.proofs.stages.Reads as reads
-use Rattle.heading.proofs.stages.Lts as lts
+use Rattle.heading.proofs.fill.Statement.{statement}
+use Rattle.heading.proofs.fill.Tie as tie
+use Rattle.heading.proofs.fill.Reads as reads
+use Rattle.heading.proofs.fill.Lts as lts
 use Rattle.heading.proofs.number.Reads as number-reads
 
 abbrev Inv-loop : tie.InvT-loop
-Inv-loop h r₀ j₀ r j = Filling (behind h 24) 0 45 r₀ r j
+Inv-loop h at r₀ n j₀ r j = Filling (behind h at) 0 (length r₀) r₀ r j
 
 abbrev μ-loop : tie.MeasureT-loop
-μ-loop h r₀ j₀ r j = 45 - j
+μ-loop h at r₀ n j₀ r j = length r₀ - j
 
 loop-holds : tie.Need-loop-holds Inv-loop μ-loop
-loop-holds c = search (filling-none, needs)
+loop-holds c = filling-none _ 0 _ _ (omega arith)
 
 add-number : tie.Need-add-number Inv-loop μ-loop
 add-number c = search needs
@@ -27,8 +29,8 @@ number-requires c κs = search needs
 mul-r : tie.Need-mul-r Inv-loop μ-loop
 mul-r c = search needs
 
-array-write-r : tie.Need-array-write-r Inv-loop μ-loop
-array-write-r c = search needs
+slice-write-r : tie.Need-slice-write-r Inv-loop μ-loop
+slice-write-r c = search (filling-length, needs)
 
 add-j : tie.Need-add-j Inv-loop μ-loop
 add-j c = search needs
@@ -39,11 +41,14 @@ loop-less c = search needs
 loop-again : tie.Need-loop-again Inv-loop μ-loop
 loop-again c = search array-more
 
+same-length : tie.Need-same-length Inv-loop μ-loop
+same-length c = search filling-length
+
 returns : tie.Need-returns Inv-loop μ-loop
 returns c = search (read-all, needs)
 
-pub stages-spec : {M : Type 1} → statement M
-stages-spec =
+pub fill-spec : {M : Type 1} → statement M
+fill-spec =
     tie.close
     (tie.spec
     Inv-loop
@@ -52,8 +57,9 @@ stages-spec =
     add-number
     number-requires
     mul-r
-    array-write-r
+    slice-write-r
     add-j
     loop-less
     loop-again
+    same-length
     returns)

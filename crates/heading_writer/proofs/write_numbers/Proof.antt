@@ -1,19 +1,19 @@
--- `heading_writer::write_eight`: the numbers before j are written.
+-- `heading_writer::write_numbers`: the numbers before j are written.
 use Prim.Native.Nat.{_-_}
 use borrow.Author.Needs.{needs}
 use Rattle.gate.proofs.Filling.{Filling, filling-none, filling-below, filling-more, filling-length}
 use Rattle.heading.proofs.Numbers.{each, stored-all}
-use Rattle.heading_writer.proofs.write_eight.Statement.{statement}
-use Rattle.heading_writer.proofs.write_eight.Tie as tie
-use Rattle.heading_writer.proofs.write_eight.Reads as reads
-use Rattle.heading_writer.proofs.write_eight.Lts as lts
+use Rattle.heading_writer.proofs.write_numbers.Statement.{statement}
+use Rattle.heading_writer.proofs.write_numbers.Tie as tie
+use Rattle.heading_writer.proofs.write_numbers.Reads as reads
+use Rattle.heading_writer.proofs.write_numbers.Lts as lts
 use Rattle.heading_writer.proofs.narrow.Reads as narrow-reads
 
 abbrev Inv-loop : tie.InvT-loop
-Inv-loop h₀ at l j₀ h j = Filling (each l) at 8 h₀ h j
+Inv-loop h₀ at l n j₀ h j = Filling (each l) at n h₀ h j
 
 abbrev μ-loop : tie.MeasureT-loop
-μ-loop h₀ at l j₀ h j = 8 - j
+μ-loop h₀ at l n j₀ h j = n - j
 
 loop-holds : tie.Need-loop-holds Inv-loop μ-loop
 loop-holds c = search (filling-none, needs)
@@ -21,11 +21,11 @@ loop-holds c = search (filling-none, needs)
 mul-narrow : tie.Need-mul-narrow Inv-loop μ-loop
 mul-narrow c = search needs
 
-array-read-narrow : tie.Need-array-read-narrow Inv-loop μ-loop
-array-read-narrow c = search needs
+shared-slice-read-narrow : tie.Need-shared-slice-read-narrow Inv-loop μ-loop
+shared-slice-read-narrow c = search needs
 
 narrow-requires : tie.Need-narrow-requires Inv-loop μ-loop
-narrow-requires c κs = c .before .before .before .pre .1 (c .before .loop .j)
+narrow-requires c κs = c .before .before .before .before .before .pre .2 (c .before .before .loop .j)
 
 add-h : tie.Need-add-h Inv-loop μ-loop
 add-h c = search needs
@@ -51,15 +51,15 @@ same-length c = search filling-length
 returns : tie.Need-returns Inv-loop μ-loop
 returns c = search (stored-all, needs)
 
-pub write-eight-spec : {M : Type 1} → statement M
-write-eight-spec =
+pub write-numbers-spec : {M : Type 1} → statement M
+write-numbers-spec =
     tie.close
     (tie.spec
     Inv-loop
     μ-loop
     loop-holds
     mul-narrow
-    array-read-narrow
+    shared-slice-read-narrow
     narrow-requires
     add-h
     mul-h
