@@ -16,7 +16,7 @@ use Rattle.heading_rules.specs.declared.State.{State}
 use Rattle.heading_rules.specs.declared.State.the-variants.{Finished}
 use Rattle.layout.specs.Blocks.{padded}
 use Rattle.heading_rules.specs.Heading.{bit, stateNumber, stateOf, layoutOf, progressOf, layoutNumbers, progressNumbers, written}
-use Rattle.gate.proofs.Filling.{Filling, filling-done, array-done}
+use Rattle.storage.proofs.Filling.{Filling, filling-done, array-done}
 use Rattle.layout.proofs.Sums.{padded-at, length-padded}
 
 -- ---- reading

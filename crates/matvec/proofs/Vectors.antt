@@ -1,6 +1,6 @@
 -- Vectors read while a loop writes another.
-use Prim.Native.Nat.{ℕ, suc, _+_, _≤_, _<_}
-use mathlib.Core.Path.{_≡_, sym, ap, ap₂, _∙_}
+use Prim.Native.Nat.{ℕ, _+_, _≤_, _<_}
+use mathlib.Core.Path.{_≡_, refl, sym, ap, ap₂, _∙_}
 use mathlib.Core.List.{List}
 use mathlib.Core.Logic.{_⊎_, inl, inr, ⊎-elim}
 use native.Mathlib.Omega.{arith}
@@ -9,12 +9,12 @@ use lib.Ieee.{Float, nan}
 use Rattle.storage.specs.Runs.{tab}
 use Rattle.storage.proofs.Cells.{length-tab}
 use Rattle.storage.proofs.Parts.{getD-part, store-else}
+use Rattle.storage.proofs.Filling.{Filling, filling-apart, filling-next}
 use Rattle.rules.specs.Arithmetic.{ieee}
 use Rattle.rules.specs.Solves.{lessSparseT}
 use Rattle.blocks.specs.Blocks.{entry}
 use Rattle.blocks.proofs.Laws.{any-default}
 use Rattle.axpy.specs.Axpy.{at, run}
-use Rattle.axpy.proofs.Loops.{made-next}
 
 -- a double read at its place is the vector's entry
 pub read-entry : (off n : ℕ) (w : List Float) (i : ℕ) → i < n → off + n ≤ length w → at w (off + i) ≡ entry off n w i
@@ -29,7 +29,7 @@ run-else to n g w fits k h =
 -- a vector that lies apart from those that are written is read as it was
 module _ (off n : ℕ) (g : ℕ → Float) (w₀ : List Float) (fits : off + n ≤ length w₀) (i : ℕ) (here : i ≤ n) (w : List Float) (so : w ≡ run off i g w₀)
     (z m : ℕ) (apart : (off + n ≤ z) ⊎ (z + m ≤ off)) (j : ℕ) (l : j < m) where
-  pub same-read : at w (z + j) ≡ at w₀ (z + j)
+  same-read : at w (z + j) ≡ at w₀ (z + j)
   same-read =
       ap (λ (x : List Float). at x (z + j)) so
       ∙ run-else off i g w₀ (omega arith) (z + j) (⊎-elim (λ h. inr (omega arith)) (λ h. inl (omega arith)) apart)
@@ -43,11 +43,10 @@ module _ (off cols z rows x : ℕ) (row : ℕ → ℕ) (w v₀ : List Float) (fi
   abbrev rule : ℕ → Float
   rule = lessSparseT ieee row (entry x cols w) (entry z rows v₀) (entry off cols v₀)
 
-  pub sparse-less : (c : ℕ) → c < cols → (v : List Float) → v ≡ run off c rule v₀ → (r : ℕ) → r < rows → r ≡ row c
-      → set v (off + c) (ieee .minus (at v (off + c)) (ieee .plus (ieee .zero) (ieee .times (at w (x + c)) (at v (z + r))))) ≡ run off (suc c) rule v₀
-  sparse-less c more v so r below e =
-      made-next off cols rule v₀ fits c (omega arith) v so more (off + c) (omega arith)
-      (λ (s : Float). ieee .minus s (ieee .plus (ieee .zero) (ieee .times (at w (x + c)) (at v (z + r)))))
+  pub sparse-less : {c : ℕ} {v : List Float} → Filling rule off cols v₀ v c → c < cols → (r : ℕ) → r < rows → r ≡ row c
+      → Filling rule off cols v₀ (set v (off + c) (ieee .minus (at v (off + c)) (ieee .plus (ieee .zero) (ieee .times (at w (x + c)) (at v (z + r)))))) (c + 1)
+  sparse-less {c} {v} h more r below e =
+      filling-next h (λ (s : Float). ieee .minus s (ieee .plus (ieee .zero) (ieee .times (at w (x + c)) (at v (z + r))))) nan refl more
       (ap₂ (λ (s t : Float). ieee .minus s (ieee .plus (ieee .zero) t)) (read-entry off cols v₀ c more fits)
       (ap₂ (ieee .times) (read-entry x cols w c more fits-x)
-      (same-entry off cols rule v₀ fits c (omega arith) v so z rows apart r below fits-z ∙ ap (entry z rows v₀) e)))
+      (filling-apart h nan z rows apart r below ∙ read-entry z rows v₀ r below fits-z ∙ ap (entry z rows v₀) e)))

@@ -3,7 +3,7 @@ use Prim.Native.Nat.{ℕ, suc, _+_, _≤_, _<_}
 use mathlib.Core.Path.{_≡_, refl, sym, ap, ap₂, subst, _∙_}
 use mathlib.Core.Bool.{Bool, true, false, not, _&&_, cond}
 use mathlib.Core.List.{List}
-use mathlib.Core.Logic.{by-cases}
+use mathlib.Core.Logic.{by-cases, inr}
 use native.Mathlib.Decide.{ℕ-discrete}
 use native.Mathlib.Nat.{zero-add}
 use native.Mathlib.Omega.{arith}
@@ -12,44 +12,17 @@ use lib.Dec.{eqb}
 use lib.ListN.{length, getD, set}
 use lib.Seq.{getD-set-same, getD-set-other}
 use lib.Ieee.{Float, nan}
-use Rattle.storage.specs.Runs.{start, dense, tab, cells}
+use Rattle.storage.specs.Runs.{start, dense, tab}
 use Rattle.storage.specs.Shape.{Shape, columns, entries, hasCell, sizeOf}
-use Rattle.storage.proofs.Starts.{start-single, start-dense}
+use Rattle.storage.proofs.Starts.{start-single}
 use Rattle.storage.proofs.Cells.{length-tab, getD-tab}
 use Rattle.storage.proofs.Parts.{store-in}
+use Rattle.storage.proofs.Filling.{Filling, filling-else, filling-done, array-more}
 use Rattle.rules.specs.Arithmetic.{ieee}
 use Rattle.rules.specs.Sums.{sumFrom}
 use Rattle.blocks.specs.Blocks.{block}
-use Rattle.blocks.specs.Done.{Done}
-use Rattle.blocks.proofs.Laws.{read-block, has-dense, begun, own, next}
+use Rattle.blocks.proofs.Laws.{read-block, has-dense}
 use Rattle.rank_diagonal.specs.Rows.{plusSquare, Zeros, Summed, withCell, Added, AddedEntry}
-
--- ---- a loop that writes m doubles from `off` on
-
-module _ (off m : ℕ) (g : ℕ → Float) (w₀ : List Float) (fits : off + m ≤ length w₀) where
-  room : off + start (dense m) 1 ≤ length w₀
-  room = omega (arith, start-dense m 1)
-
-  run-none : Done off (dense m) (λ j. g) w₀ 0 0 w₀
-  run-none = begun off (dense m) (λ j. g) w₀ 1 room
-
-  module _ (i : ℕ) (more : i < m) (w : List Float) (so : Done off (dense m) (λ j. g) w₀ 0 i w) (k : ℕ) (e : k ≡ off + i) where
-    at : k ≡ off + (start (dense m) 0 + i)
-    at = omega (arith, start-dense m 0)
-
-    -- its own double is not written yet
-    run-own : getD w k nan ≡ getD w₀ k nan
-    run-own = own off (dense m) (λ j. g) w₀ 1 room 0 (omega arith) i (omega arith) w so k nan (omega (arith, at))
-
-    run-more : (v : Float) → v ≡ g i → Done off (dense m) (λ j. g) w₀ 0 (suc i) (set w k v)
-    run-more = next off (dense m) (λ j. g) w₀ 1 room 0 (omega arith) i (omega arith) w so more k at
-
-  -- what it wrote
-  run-read : (w : List Float) → Done off (dense m) (λ j. g) w₀ 0 m w → (i : ℕ) → i < m → getD w (off + i) nan ≡ g i
-  unfolding cells
-  run-read w so i h =
-      ap (λ (l : List Float). getD l (off + i) nan) so
-      ∙ store-in off (tab m g) w₀ (omega (arith, length-tab m g)) nan i (omega (arith, length-tab m g)) ∙ getD-tab m g i nan h
 
 -- ---- one square
 
@@ -72,15 +45,16 @@ module _ (s : Shape) (a src : ℕ) (w : List Float) (from m : ℕ) where
 
 -- ---- a dense column: each row has a cell there
 
-module _ (n a inner src : ℕ) (w : List Float) (x : ℕ) (t₀ : List Float) (long : 0 + n ≤ length t₀) where
-  abbrev added : ℕ → Float
-  added i = withCell (columns n inner) a src w (0 + i) x (getD t₀ i nan)
+-- sum i with the square of column x
+abbrev pub added : (n a inner src : ℕ) → List Float → ℕ → List Float → ℕ → Float
+added n a inner src w x t i = withCell (columns n inner) a src w (0 + i) x (getD t i nan)
 
-  pub column-none : Done 0 (dense n) (λ j. added) t₀ 0 0 t₀
-  column-none = run-none 0 n added t₀ long
-
-  pub column-added : (t : List Float) → Done 0 (dense n) (λ j. added) t₀ 0 n t → Added (columns n inner) a src w 0 n x t₀ t
-  column-added t so i h = ap (λ (k : ℕ). getD t k nan) (sym (zero-add i)) ∙ run-read 0 n added t₀ long t so i h
+module _ (n a inner src : ℕ) (w : List Float) (x : ℕ) (t₀ : List Float) where
+  pub column-added : {t : List Float} {r : ℕ} → Filling (added n a inner src w x t₀) 0 n t₀ t r → n ≤ r → Added (columns n inner) a src w 0 n x t₀ t
+  column-added {t} e top i h =
+      let g : ℕ → Float = added n a inner src w x t₀ in
+      ap₂ (λ (l : List Float) (k : ℕ). getD l k nan) (filling-done e top) (sym (zero-add i))
+      ∙ store-in 0 (tab n g) t₀ (omega (arith, length-tab n g)) nan i (omega (arith, length-tab n g)) ∙ getD-tab n g i nan h
 
   module _ (here : x < inner) (fits : a + sizeOf (columns n inner) ≤ length w) (fits-src : src + sizeOf (columns n inner) ≤ length w)
       (p q : ℕ) (e : p ≡ a + start (dense n) x) (f : q ≡ src + start (dense n) x) (r : ℕ) (h : r < n) where
@@ -91,12 +65,11 @@ module _ (n a inner src : ℕ) (w : List Float) (x : ℕ) (t₀ : List Float) (l
         ap₂ (λ (c v : Float). plusSquare true c v y) (read-block s src w r x (q + r) k fits-src (omega arith)) (read-block s a w r x (p + r) k fits (omega arith))
         ∙ ap (λ (b : Bool). plusSquare b (block src s w r x) (block a s w r x) y) (sym k) ∙ ap (λ (i : ℕ). withCell s a src w i x y) (sym (zero-add r))
 
-    pub column-more : (t : List Float) → Done 0 (dense n) (λ j. added) t₀ 0 r t
-        → (v : Float) → v ≡ plusSquare true (getD w (q + r) nan) (getD w (p + r) nan) (getD t r nan) → Done 0 (dense n) (λ j. added) t₀ 0 (suc r) (set t r v)
-    column-more t so v k =
-        let z : r ≡ 0 + r = omega arith in
-        run-more 0 n added t₀ long r h t so r z v
-        (k ∙ dense-square (getD t r nan) ∙ ap (withCell (columns n inner) a src w (0 + r) x) (run-own 0 n added t₀ long r h t so r z))
+    pub column-more : {t : List Float} → Filling (added n a inner src w x t₀) 0 n t₀ t r
+        → (v : Float) → v ≡ plusSquare true (getD w (q + r) nan) (getD w (p + r) nan) (getD t r nan) → Filling (added n a inner src w x t₀) 0 n t₀ (set t r v) (r + 1)
+    column-more {t} so v k =
+        array-more so h
+        (k ∙ dense-square (getD t r nan) ∙ ap (withCell (columns n inner) a src w (0 + r) x) (filling-else so nan r (inr (omega arith))))
 
 -- ---- a sparse column: one row has a cell there
 

@@ -8,18 +8,19 @@ use native.Mathlib.Omega.{arith}
 use borrow.Author.Tests.{eq-eqb, ne-eqb}
 use lib.ListN.{length, getD, set}
 use lib.Ieee.{Float, nan, div, binary64}
-use Rattle.storage.specs.Runs.{start, dense, tab, cells}
+use Rattle.storage.specs.Runs.{start, tab, cells}
 use Rattle.storage.specs.Shape.{Shape, diagonal, runs, runLength, runOf, inRun, rowAt, columnAt, hasCell, sizeOf, placeOf, fill}
 use Rattle.storage.specs.Part.{store}
 use Rattle.storage.proofs.Starts.{start-below, start-single}
 use Rattle.storage.proofs.Cells.{length-cells, tab-ext}
 use Rattle.storage.proofs.Places.{lies}
 use Rattle.storage.proofs.Parts.{getD-part, store-more}
+use Rattle.storage.proofs.Filling.{Filling, filling-next}
 use Rattle.rules.specs.Arithmetic.{ieee}
 use Rattle.rules.specs.Begin.{diagonalCell}
 use Rattle.blocks.specs.Blocks.{block, entry}
 use Rattle.blocks.specs.Done.{Done}
-use Rattle.blocks.proofs.Laws.{any-default, read-block, has-diagonal, begun, ended, next-run, done-length, same-block, own, next}
+use Rattle.blocks.proofs.Laws.{any-default, read-block, has-diagonal, begun, ended, next-run, done-length, same-block, next}
 use Rattle.re_factor.specs.Factor.{pivotAt, startedCell, started}
 
 -- a pivot that is read at its place
@@ -85,41 +86,13 @@ pub beside-zero : (n src : ℕ) (t : Float) (w : List Float) (r : ℕ) → tab r
 beside-zero n src t w r =
     tab-ext r (λ i. ieee .zero) (startedCell n src t w r) (λ i h. rw (ne-eqb r i (λ e. omega arith)))
 
--- ---- n doubles from `off` on, written one by one: one run
-abbrev pub Written : (off n : ℕ) → (ℕ → Float) → List Float → ℕ → List Float → Type 0
-Written off n g w₀ i w = Done off (dense n) (λ j. g) w₀ 0 i w
-
-module _ (off n : ℕ) (g : ℕ → Float) (w₀ : List Float) (fits : off + n ≤ length w₀) where
-  one-run : off + start (dense n) 1 ≤ length w₀
-  unfolding start
-  one-run = omega arith
-
-  pub written-none : Written off n g w₀ 0 w₀
-  written-none = begun off (dense n) (λ j. g) w₀ 1 one-run
-
-  pub written-all : (i : ℕ) → i ≡ n → (w : List Float) → Written off n g w₀ i w → w ≡ store off (tab n g) w₀
-  unfolding cells
-  written-all i e w so = rw e at so
-
-  module _ (i : ℕ) (more : i < n) (w : List Float) (so : Written off n g w₀ i w) where
-    pub written-next : (v : Float) → v ≡ g i → Written off n g w₀ (suc i) (set w (off + i) v)
-    unfolding start
-    written-next v e = next off (dense n) (λ j. g) w₀ 1 one-run 0 (omega arith) i (omega arith) w so more (off + i) (omega arith) v e
-
-    -- the double itself is not written yet
-    pub not-yet : getD w (off + i) nan ≡ entry off n w₀ i
-    unfolding start
-    not-yet =
-        own off (dense n) (λ j. g) w₀ 1 one-run 0 (omega arith) i (omega arith) w so (off + i) nan (omega arith)
-        ∙ any-default w₀ (off + i) nan (ieee .zero) (omega arith) ∙ sym (getD-part off n w₀ i (ieee .zero) more)
-
+-- ---- each entry over its pivot
 -- entry i over its pivot
 abbrev pub quotient : (z off n : ℕ) (w v : List Float) → ℕ → Float
 quotient z off n w v i = ieee .over (entry z n v i) (pivotAt off (diagonal n) w i)
 
-pub divide-turn : (z off n : ℕ) (w v₀ : List Float) → z + n ≤ length v₀ → off + n ≤ length w
-    → (i : ℕ) → i < n → (v : List Float) → Written z n (quotient z off n w v₀) v₀ i v
-    → Written z n (quotient z off n w v₀) v₀ (suc i) (set v (z + i) (div binary64 (getD v (z + i) nan) (getD w (off + i) nan)))
-divide-turn z off n w v₀ fits from i more v so =
-    written-next z n (quotient z off n w v₀) v₀ fits i more v so _
-    (ap₂ (ieee .over) (not-yet z n (quotient z off n w v₀) v₀ fits i more v so) (read-pivot off n w i more from))
+pub divide-turn : {z n : ℕ} {v₀ v : List Float} {i : ℕ} (off : ℕ) (w : List Float) → off + n ≤ length w → Filling (quotient z off n w v₀) z n v₀ v i → i < n
+    → Filling (quotient z off n w v₀) z n v₀ (set v (z + i) (div binary64 (getD v (z + i) nan) (getD w (off + i) nan))) (i + 1)
+divide-turn {z} {n} {v₀} {v} {i} off w from so more =
+    filling-next so (λ (x : Float). div binary64 x (getD w (off + i) nan)) nan refl more
+    (ap₂ (ieee .over) (any-default v₀ (z + i) nan (ieee .zero) (omega arith) ∙ sym (getD-part z n v₀ i (ieee .zero) more)) (read-pivot off n w i more from))

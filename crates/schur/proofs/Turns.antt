@@ -1,30 +1,30 @@
--- One run more, whatever the block: its cells less the sums, or less the products one by one.
-use Prim.Native.Nat.{ℕ, suc, _+_, _≤_, _<_}
-use mathlib.Core.Path.{_≡_, sym, ap, ap₂, _∙_}
+-- A run less its sums, or less its products one by one, and one run more of a block of any shape.
+use Prim.Native.Nat.{ℕ, _+_, _≤_, _<_}
+use mathlib.Core.Path.{_≡_, refl, ap, ap₂, _∙_}
 use mathlib.Core.List.{List}
 use mathlib.Core.Logic.{_⊎_}
-use native.Mathlib.Omega.{arith}
 use lib.ListN.{length}
 use lib.Ieee.{Float}
-use Rattle.storage.specs.Runs.{start}
-use Rattle.storage.specs.Shape.{columns, sizeOf}
+use Rattle.storage.specs.Shape.{Shape, columns, sizeOf, runLength, runs, rowAt, columnAt}
 use Rattle.storage.specs.Part.{store}
 use Rattle.storage.proofs.Cells.{tab-ext}
 use Rattle.rules.specs.Arithmetic.{ieee}
 use Rattle.rules.specs.Sums.{dot, chain}
 use Rattle.blocks.specs.Blocks.{block}
-use Rattle.blocks.specs.Done.{Done}
-use Rattle.blocks.proofs.Laws.{own, same-block, run-written}
-use Rattle.axpy.specs.Axpy.{at, run, products}
+use Rattle.blocks.proofs.Runs.{Writing, writing-same, writing-more, writing-cell}
+use Rattle.axpy.specs.Axpy.{at, run, along, products}
 use Rattle.axpy.proofs.Sums.{sum-along, less-along, along-swap, summed}
 use Rattle.schur.specs.Schur.{lessSums, lessProducts}
 
--- rows r and c of a block in either order
-pub dot-swap : (a b : ℕ → Float) (n : ℕ) → dot ieee a b n ≡ dot ieee b a n
-dot-swap a b n = sym (sum-along (ieee .zero) a b n) ∙ along-swap (ieee .plus) (ieee .zero) a b n ∙ sum-along (ieee .zero) b a n
+-- a cell less its products: of two rows of one block the later comes first in the rule
+pub sums-dot : (n : ℕ) (z : Float) (x y : ℕ → Float) → ieee .minus z (along (ieee .plus) (ieee .zero) x y n) ≡ ieee .minus z (dot ieee x y n)
+sums-dot n z x y = ap (ieee .minus z) (sum-along (ieee .zero) x y n)
 
-pub chain-swap : (s : Float) (a b : ℕ → Float) (n : ℕ) → chain ieee s a b n ≡ chain ieee s b a n
-chain-swap s a b n = sym (less-along s a b n) ∙ along-swap (ieee .minus) s a b n ∙ less-along s b a n
+pub sums-swapped : (n : ℕ) (z : Float) (x y : ℕ → Float) → ieee .minus z (along (ieee .plus) (ieee .zero) x y n) ≡ ieee .minus z (dot ieee y x n)
+sums-swapped n z x y = ap (ieee .minus z) (along-swap (ieee .plus) (ieee .zero) x y n) ∙ sums-dot n z y x
+
+pub products-swapped : (n : ℕ) (z : Float) (x y : ℕ → Float) → along (ieee .minus) z x y n ≡ chain ieee z y x n
+products-swapped n z x y = along-swap (ieee .minus) z x y n ∙ less-along z y x n
 
 module _ (w w′ acc acc₁ acc₂ : List Float) (to n a rows b step r inner : ℕ) (room : n ≤ length acc) where
   pub sums-less : acc₁ ≡ run 0 n (λ i. ieee .zero) acc → acc₂ ≡ products (ieee .plus) acc₁ n w a rows w b step r inner
@@ -42,40 +42,23 @@ module _ (w w′ acc acc₁ acc₂ : List Float) (to n a rows b step r inner : �
       ∙ ap (λ (l : List Float). store to l w)
       (tab-ext n _ _ (summed (ieee .minus) n w a rows w b step r inner acc acc₁ acc₂ (λ i. at w (to + i)) room first then))
 
-module _ (off : ℕ) (len : ℕ → ℕ) (rule : ℕ → ℕ → Float) (w₀ : List Float) (n : ℕ) (fits : off + start len n ≤ length w₀) (j : ℕ) (more : j < n)
-    (w w′ : List Float) (so : Done off len rule w₀ j 0 w) (a rows b step r inner : ℕ)
-    (apart : (off + start len n ≤ a) ⊎ (a + sizeOf (columns rows inner) ≤ off)) (apart′ : (off + start len n ≤ b) ⊎ (b + sizeOf (columns step inner) ≤ off)) where
-  here : (to i : ℕ) → to ≡ off + start len j → at w (to + i) ≡ at w₀ (off + start len j + i)
-  here to i e = ap (λ (k : ℕ). at w (k + i)) e ∙ own off len rule w₀ n fits j more 0 (omega arith) w so (off + start len j + i) _ (omega arith)
+-- cell i of run j of the block at off: G of itself, row i of the block at a and row j of the block at b
+abbrev byRows : (Float → (ℕ → Float) → (ℕ → Float) → Float) → Shape → (off a rows b step inner : ℕ) → List Float → ℕ → ℕ → Float
+byRows G s off a rows b step inner w j i =
+    G (block off s w (rowAt s j i) (columnAt s j i)) (block a (columns rows inner) w i) (block b (columns step inner) w j)
 
-  same : block a (columns rows inner) w ≡ block a (columns rows inner) w₀
-  same = same-block off len rule w₀ n fits j more 0 (omega arith) w so a (columns rows inner) apart
-
-  same′ : block b (columns step inner) w ≡ block b (columns step inner) w₀
-  same′ = same-block off len rule w₀ n fits j more 0 (omega arith) w so b (columns step inner) apart′
-
-  pub sums-turn : (to k : ℕ) → to ≡ off + start len j → k ≡ len j
-      → ((i : ℕ) → i < len j
-      → ieee .minus (at w₀ (off + start len j + i)) (dot ieee (block a (columns rows inner) w₀ i) (block b (columns step inner) w₀ r) inner) ≡ rule j i)
-      → w′ ≡ lessSums to k a rows b step r inner w → Done off len rule w₀ (suc j) 0 w′
-  sums-turn to k e d is then =
-      run-written off len rule w₀ n fits j more w w′ so to k _ e d
-      (λ i l.
-      ap₂ (ieee .minus) (here to i e)
-      (sum-along (ieee .zero) (block a (columns rows inner) w i) (block b (columns step inner) w r) inner
-      ∙ ap₂ (λ (x y : ℕ → ℕ → Float). dot ieee (x i) (y r) inner) same same′)
-      ∙ is i l)
-      then
-
-  pub products-turn : (to k : ℕ) → to ≡ off + start len j → k ≡ len j
-      → ((i : ℕ) → i < len j
-      → chain ieee (at w₀ (off + start len j + i)) (block a (columns rows inner) w₀ i) (block b (columns step inner) w₀ r) inner ≡ rule j i)
-      → w′ ≡ lessProducts to k a rows b step r inner w → Done off len rule w₀ (suc j) 0 w′
-  products-turn to k e d is then =
-      run-written off len rule w₀ n fits j more w w′ so to k _ e d
-      (λ i l.
-      less-along (at w (to + i)) (block a (columns rows inner) w i) (block b (columns step inner) w r) inner
-      ∙ ap (λ (s : Float). chain ieee s (block a (columns rows inner) w i) (block b (columns step inner) w r) inner) (here to i e)
-      ∙ ap₂ (λ (x y : ℕ → ℕ → Float). chain ieee (at w₀ (off + start len j + i)) (x i) (y r) inner) same same′
-      ∙ is i l)
-      then
+-- one run more, each cell by F, which is G as the code computes it
+pub turn : {F G : Float → (ℕ → Float) → (ℕ → Float) → Float} {off end : ℕ} {w₀ : List Float} {j to : ℕ} {w w′ : List Float} {to′ : ℕ}
+    → ((z : Float) (x y : ℕ → Float) → F z x y ≡ G z x y) → (s : Shape) (a rows b step inner k : ℕ)
+    → Writing off end (runLength s) (runs s) (byRows G s off a rows b step inner w₀) w₀ j to w
+    → j < runs s → (off + sizeOf s ≤ a) ⊎ (a + sizeOf (columns rows inner) ≤ off) → (off + sizeOf s ≤ b) ⊎ (b + sizeOf (columns step inner) ≤ off)
+    → k ≡ runLength s j → to′ ≡ to + k
+    → w′ ≡ run (off + to) k (λ i. F (at w (off + to + i)) (block a (columns rows inner) w i) (block b (columns step inner) w j)) w
+    → Writing off end (runLength s) (runs s) (byRows G s off a rows b step inner w₀) w₀ (j + 1) to′ w′
+turn {F} {G} {off} {end} {w₀} {j} {to} {w} same s a rows b step inner k e more apart apart′ d next then =
+    writing-more e more (off + to) k _ refl d next
+    (λ i l.
+    same (at w (off + to + i)) (block a (columns rows inner) w i) (block b (columns step inner) w j)
+    ∙ ap₂ (λ (x y : ℕ → ℕ → Float). G (at w (off + to + i)) (x i) (y j)) (writing-same e more a (columns rows inner) apart) (writing-same e more b (columns step inner) apart′)
+    ∙ ap (λ (z : Float). G z (block a (columns rows inner) w₀ i) (block b (columns step inner) w₀ j)) (writing-cell s e more i l))
+    then

@@ -1,5 +1,5 @@
 -- Sums by rows of the target, and the target less them.
-use Prim.Native.Nat.{ℕ, suc, _+_, _-_, _*_, _≤_, _<_}
+use Prim.Native.Nat.{ℕ, _+_, _-_, _*_, _≤_, _<_}
 use mathlib.Core.Path.{_≡_, refl, ap, ap₂, _∙_}
 use mathlib.Core.List.{List}
 use native.Mathlib.Nat.{mul-le-mul}
@@ -16,8 +16,8 @@ use Rattle.storage.proofs.Parts.{store-store, store-in, store-lent, getD-part}
 use Rattle.rules.specs.Arithmetic.{ieee}
 use Rattle.rules.specs.Steps.{subtractDense}
 use Rattle.blocks.specs.Blocks.{block}
-use Rattle.blocks.specs.Done.{Done}
-use Rattle.blocks.proofs.Laws.{read-block, has-dense, own, run-written}
+use Rattle.blocks.proofs.Laws.{read-block, has-dense}
+use Rattle.blocks.proofs.Runs.{Writing, writing-own, writing-more}
 use Rattle.axpy.specs.Axpy.{at, run, along, products}
 use Rattle.axpy.proofs.Sums.{read-run, sum-along, along-swap}
 use Rattle.schur_few.specs.Few.{rowSums, lessSum, lessSums}
@@ -37,15 +37,14 @@ row-summed w t t₁ t₂ n a rows b r inner room first then =
     (read-run 0 n z t (omega arith) i i l (omega arith))))
 
 -- one column more
-pub column-less : (rows cols : ℕ) (sums t₀ : List Float) → sizeOf (columns rows cols) ≤ length t₀ → (c : ℕ) → c < cols → (t t′ : List Float)
-    → Done 0 (dense rows) (lessSums rows cols sums t₀) t₀ c 0 t → (to : ℕ) → to ≡ start (dense rows) c → t′ ≡ run to rows (lessSum to cols sums c t) t
-    → Done 0 (dense rows) (lessSums rows cols sums t₀) t₀ (suc c) 0 t′
-column-less rows cols sums t₀ fits c more t t′ so to e then =
-    run-written 0 (dense rows) (lessSums rows cols sums t₀) t₀ cols (omega arith) c more t t′ so to rows _ (omega arith) refl
+pub column-less : {end rows cols : ℕ} {t₀ : List Float} {c to : ℕ} {t t′ : List Float} {to′ : ℕ} (sums : List Float)
+    → Writing 0 end (dense rows) cols (lessSums rows cols sums t₀) t₀ c to t → c < cols → to′ ≡ to + rows → t′ ≡ run to rows (lessSum to cols sums c t) t
+    → Writing 0 end (dense rows) cols (lessSums rows cols sums t₀) t₀ (c + 1) to′ t′
+column-less {end} {rows} {cols} {t₀} {c} {to} {t} sums e more next then =
+    writing-more e more to rows _ (omega arith) refl next
     (λ i l.
     ap (λ (s : Float). ieee .minus s (at sums (start (dense cols) i + c)))
-    (ap (λ (k : ℕ). at t (k + i)) e
-    ∙ own 0 (dense rows) (lessSums rows cols sums t₀) t₀ cols (omega arith) c more 0 (omega arith) t so (start (dense rows) c + i) _ (omega arith)))
+    (writing-own e more (to + i) (omega arith) ∙ ap (λ (k : ℕ). at t₀ (k + i)) (e .place)))
     then
 
 -- a sum that is read

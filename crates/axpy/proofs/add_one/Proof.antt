@@ -1,29 +1,25 @@
 -- `axpy::add_one`: the first i of the sums have their product.
 use borrow.Author.Needs.{needs}
-use mathlib.Core.Path.{_≡_, refl}
-use Prim.Native.Nat.{_≤_, _-_, _+_}
+use mathlib.Core.Path.{refl}
+use Prim.Native.Nat.{_-_, _+_}
 use native.Mathlib.Omega.{arith}
-use native.Mathlib.Numerals.{add-one}
-use lib.ListN.{length, length-set}
-use lib.Ieee.{Float}
+use lib.Ieee.{Float, nan}
+use Rattle.storage.proofs.Filling.{Filling, filling-none, filling-next, filling-done}
 use Rattle.rules.specs.Arithmetic.{ieee}
-use Rattle.axpy.specs.Axpy.{at, run, oneMore}
-use Rattle.axpy.proofs.Loops.{made-none, made-next, made-all}
+use Rattle.axpy.specs.Axpy.{at, oneMore}
 use Rattle.axpy.proofs.add_one.Statement.{statement}
 use Rattle.axpy.proofs.add_one.Tie as tie
 use Rattle.axpy.proofs.add_one.Reads as reads
 use Rattle.axpy.proofs.add_one.Lts as lts
 
 abbrev Inv-loop : tie.InvT-loop
-Inv-loop acc₀ n w p f i₀ acc i = (i ≤ n) × (length acc ≡ length acc₀) × (acc ≡ run 0 i (oneMore (ieee .plus) w p f (at acc₀)) acc₀)
+Inv-loop acc₀ n w p f i₀ acc i = Filling (oneMore (ieee .plus) w p f (at acc₀)) 0 n acc₀ acc i
 
 abbrev μ-loop : tie.MeasureT-loop
 μ-loop acc₀ n w p f i₀ acc i = n - i
 
 loop-holds : tie.Need-loop-holds Inv-loop μ-loop
-loop-holds c =
-    let a = c .args in
-    (omega arith, refl, made-none 0 (a .n) (oneMore (ieee .plus) (a .w .now) (a .p) (a .f) (at (a .acc .now))) (a .acc .now) (omega arith))
+loop-holds c = let a = c .args in filling-none _ 0 (a .n) (a .acc .now) (omega arith)
 
 mul-acc : tie.Need-mul-acc Inv-loop μ-loop
 mul-acc c = search needs
@@ -56,18 +52,13 @@ loop-again : tie.Need-loop-again Inv-loop μ-loop
 loop-again c =
     let a = c .before .before .before .before .args in
     let l = c .before .before .before .loop in
-    let t = made-next 0 (a .n) (oneMore (ieee .plus) (a .w .now) (a .p) (a .f) (at (a .acc .now))) (a .acc .now) (omega arith) (l .i) (omega arith) (l .acc) (l .inv .2) (omega arith) (l .i) (omega arith)
-    (λ (s : Float). ieee .plus s (ieee .times (at (a .w .now) (a .p + l .i)) (a .f))) refl in
-    (omega arith, simp length-set (omega arith), rw add-one t)
+    filling-next (l .inv) (λ (s : Float). ieee .plus s (ieee .times (at (a .w .now) (a .p + l .i)) (a .f))) nan (omega arith) (omega arith) refl
 
 same-length : tie.Need-same-length Inv-loop μ-loop
 same-length c = search needs
 
 returns : tie.Need-returns Inv-loop μ-loop
-returns c =
-    let a = c .before .before .args in
-    let l = c .before .loop in
-    made-all 0 (a .n) (oneMore (ieee .plus) (a .w .now) (a .p) (a .f) (at (a .acc .now))) (a .acc .now) (omega arith) (l .i) (omega arith) (l .acc) (l .inv .2) (omega arith)
+returns c = filling-done (c .before .loop .inv) (omega arith)
 
 pub add-one-spec : {M : Type 1} → statement M
 add-one-spec =

@@ -1,25 +1,22 @@
 -- `block_divide::divide`: the first i entries are divided.
 use borrow.Author.Needs.{needs}
-use mathlib.Core.Path.{_≡_, refl}
-use Prim.Native.Nat.{_≤_, _-_}
+use Prim.Native.Nat.{_-_}
 use native.Mathlib.Omega.{arith}
-use native.Mathlib.Numerals.{add-one}
-use lib.ListN.{length, length-set}
-use Rattle.re_factor.proofs.Turns.{Written, written-none, written-all, quotient, divide-turn}
+use Rattle.storage.proofs.Filling.{Filling, filling-none, filling-done}
+use Rattle.re_factor.proofs.Turns.{quotient, divide-turn}
 use Rattle.block_divide.proofs.divide.Statement.{statement}
 use Rattle.block_divide.proofs.divide.Tie as tie
 use Rattle.block_divide.proofs.divide.Reads as reads
 use Rattle.block_divide.proofs.divide.Lts as lts
 
 abbrev Inv-loop : tie.InvT-loop
-Inv-loop v₀ z w off n i₀ v i =
-    (i ≤ n) × (length v ≡ length v₀) × Written z n (quotient z off n w v₀) v₀ i v
+Inv-loop v₀ z w off n i₀ v i = Filling (quotient z off n w v₀) z n v₀ v i
 
 abbrev μ-loop : tie.MeasureT-loop
 μ-loop v₀ z w off n i₀ v i = n - i
 
 loop-holds : tie.Need-loop-holds Inv-loop μ-loop
-loop-holds c = let a = c .args in (omega arith, refl, written-none (a .z) (a .n) (quotient (a .z) (a .off) (a .n) (a .w .now) (a .v .now)) (a .v .now) (omega arith))
+loop-holds c = let a = c .args in filling-none _ (a .z) (a .n) (a .v .now) (omega arith)
 
 add-v : tie.Need-add-v Inv-loop μ-loop
 add-v c = search needs
@@ -57,18 +54,13 @@ loop-less c = search needs
 loop-again : tie.Need-loop-again Inv-loop μ-loop
 loop-again c =
     let a = c .before .before .before .before .args in
-    let l = c .before .before .before .loop in
-    let t = divide-turn (a .z) (a .off) (a .n) (a .w .now) (a .v .now) (omega arith) (omega arith) (l .i) (omega arith) (l .v) (l .inv .2) in
-    (omega arith, simp length-set (omega arith), rw add-one t)
+    divide-turn (a .off) (a .w .now) (omega arith) (c .before .before .before .loop .inv) (omega arith)
 
 same-length : tie.Need-same-length Inv-loop μ-loop
 same-length c = search needs
 
 returns : tie.Need-returns Inv-loop μ-loop
-returns c =
-    let a = c .before .before .args in
-    let l = c .before .loop in
-    written-all (a .z) (a .n) (quotient (a .z) (a .off) (a .n) (a .w .now) (a .v .now)) (a .v .now) (omega arith) (l .i) (omega arith) (l .v) (l .inv .2)
+returns c = filling-done (c .before .loop .inv) (omega arith)
 
 pub divide-spec : {M : Type 1} → statement M
 divide-spec =

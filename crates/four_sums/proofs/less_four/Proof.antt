@@ -6,9 +6,9 @@ use native.Mathlib.Omega.{arith}
 use native.Mathlib.Numerals.{add-one}
 use lib.ListN.{length-set}
 use lib.Ieee.{ofBits}
+use Rattle.storage.proofs.Filling.{filling-none, filling-done}
 use Rattle.storage.proofs.Starts.{start-dense}
 use Rattle.axpy.specs.Axpy.{along}
-use Rattle.axpy.proofs.Loops.{made-none}
 use Rattle.matvec.specs.Products.{columnSum, columnLess}
 use Rattle.matvec.proofs.Dense.{sum-more, column-less}
 use Rattle.four_sums.proofs.less_four.Statement.{statement}
@@ -171,15 +171,11 @@ returns : tie.Need-returns Inv-loop μ-loop
 returns c =
     let a = c .before .before .before .before .before .before .args in
     let l = c .before .before .before .before .before .loop in
-    let t0 = column-less (a .to) 4 (a .p) (a .rows) (a .z) (a .w .now) (a .v .now) (omega arith) 0 (a .v .now) (omega arith)
-    (made-none (a .to) 4 (columnLess (a .to) (a .p) (a .rows) (a .z) (a .w .now) (a .v .now)) (a .v .now) (omega arith)) (a .to) (a .p) (omega arith) (omega (arith, start-dense (a .rows) 0)) (l .s) (l .r) (omega arith) (l .inv .1) in
-    let t1 = column-less (a .to) 4 (a .p) (a .rows) (a .z) (a .w .now) (a .v .now) (omega arith) 1 _ (omega arith)
-    t0 (a .to + 1) (a .p + a .rows) (omega arith) (omega (arith, start-dense (a .rows) 1)) (l .s1) (l .r) (omega arith) (l .inv .2) in
-    let t2 = column-less (a .to) 4 (a .p) (a .rows) (a .z) (a .w .now) (a .v .now) (omega arith) 2 _ (omega arith)
-    t1 (a .to + 2) (a .p + a .rows + a .rows) (omega arith) (omega (arith, start-dense (a .rows) 2)) (l .s2) (l .r) (omega arith) (l .inv .3) in
-    let t3 = column-less (a .to) 4 (a .p) (a .rows) (a .z) (a .w .now) (a .v .now) (omega arith) 3 _ (omega arith)
-    t2 (a .to + 3) (a .p + a .rows + a .rows + a .rows) (omega arith) (omega (arith, start-dense (a .rows) 3)) (l .s3) (l .r) (omega arith) (l .inv .4) in
-    t3
+    let t0 = filling-none (columnLess (a .to) (a .p) (a .rows) (a .z) (a .w .now) (a .v .now)) (a .to) 4 (a .v .now) (omega arith) in
+    let t1 = column-less (a .p) (a .z) (a .w .now) t0 (omega arith) (a .to) (a .p) (omega arith) (omega (arith, start-dense (a .rows) 0)) (l .s) (l .r) (omega arith) (l .inv .1) in
+    let t2 = column-less (a .p) (a .z) (a .w .now) t1 (omega arith) (a .to + 1) (a .p + a .rows) (omega arith) (omega (arith, start-dense (a .rows) 1)) (l .s1) (l .r) (omega arith) (l .inv .2) in
+    let t3 = column-less (a .p) (a .z) (a .w .now) t2 (omega arith) (a .to + 2) (a .p + a .rows + a .rows) (omega arith) (omega (arith, start-dense (a .rows) 2)) (l .s2) (l .r) (omega arith) (l .inv .3) in
+    filling-done (column-less (a .p) (a .z) (a .w .now) t3 (omega arith) (a .to + 3) (a .p + a .rows + a .rows + a .rows) (omega arith) (omega (arith, start-dense (a .rows) 3)) (l .s3) (l .r) (omega arith) (l .inv .4)) (omega arith)
 
 pub less-four-spec : {M : Type 1} → statement M
 less-four-spec =

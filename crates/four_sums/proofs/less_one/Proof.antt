@@ -5,9 +5,9 @@ use Prim.Native.Nat.{_≤_, _-_}
 use native.Mathlib.Omega.{arith}
 use native.Mathlib.Numerals.{add-one}
 use lib.Ieee.{ofBits}
+use Rattle.storage.proofs.Filling.{filling-none, filling-done}
 use Rattle.storage.proofs.Starts.{start-dense}
 use Rattle.axpy.specs.Axpy.{along}
-use Rattle.axpy.proofs.Loops.{made-none}
 use Rattle.matvec.specs.Products.{columnSum, columnLess}
 use Rattle.matvec.proofs.Dense.{sum-more, column-less}
 use Rattle.four_sums.proofs.less_one.Statement.{statement}
@@ -74,9 +74,8 @@ returns : tie.Need-returns Inv-loop μ-loop
 returns c =
     let a = c .before .before .before .args in
     let l = c .before .before .loop in
-    column-less (a .to) 1 (a .p) (a .rows) (a .z) (a .w .now) (a .v .now) (omega arith) 0 (a .v .now) (omega arith)
-    (made-none (a .to) 1 (columnLess (a .to) (a .p) (a .rows) (a .z) (a .w .now) (a .v .now)) (a .v .now) (omega arith))
-    (a .to) (a .p) (omega arith) (omega (arith, start-dense (a .rows) 0)) (l .s) (l .r) (omega arith) (l .inv .1)
+    let t = filling-none (columnLess (a .to) (a .p) (a .rows) (a .z) (a .w .now) (a .v .now)) (a .to) 1 (a .v .now) (omega arith) in
+    filling-done (column-less (a .p) (a .z) (a .w .now) t (omega arith) (a .to) (a .p) (omega arith) (omega (arith, start-dense (a .rows) 0)) (l .s) (l .r) (omega arith) (l .inv .1)) (omega arith)
 
 pub less-one-spec : {M : Type 1} → statement M
 less-one-spec =

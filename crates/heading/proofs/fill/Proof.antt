@@ -3,7 +3,7 @@ use Prim.Native.Nat.{_-_}
 use native.Mathlib.Omega.{arith}
 use borrow.Author.Needs.{needs}
 use lib.ListN.{length}
-use Rattle.gate.proofs.Filling.{Filling, filling-none, filling-length, array-more}
+use Rattle.storage.proofs.Filling.{Filling, filling-none, array-more}
 use Rattle.heading.proofs.Numbers.{behind, read-all}
 use Rattle.heading.proofs.fill.Statement.{statement}
 use Rattle.heading.proofs.fill.Tie as tie
@@ -30,7 +30,7 @@ mul-r : tie.Need-mul-r Inv-loop μ-loop
 mul-r c = search needs
 
 slice-write-r : tie.Need-slice-write-r Inv-loop μ-loop
-slice-write-r c = search (filling-length, needs)
+slice-write-r c = search needs
 
 add-j : tie.Need-add-j Inv-loop μ-loop
 add-j c = search needs
@@ -42,7 +42,7 @@ loop-again : tie.Need-loop-again Inv-loop μ-loop
 loop-again c = search array-more
 
 same-length : tie.Need-same-length Inv-loop μ-loop
-same-length c = search filling-length
+same-length c = search needs
 
 returns : tie.Need-returns Inv-loop μ-loop
 returns c = search (read-all, needs)

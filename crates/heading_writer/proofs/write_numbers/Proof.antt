@@ -1,7 +1,7 @@
 -- `heading_writer::write_numbers`: the numbers before j are written.
 use Prim.Native.Nat.{_-_}
 use borrow.Author.Needs.{needs}
-use Rattle.gate.proofs.Filling.{Filling, filling-none, filling-below, filling-more, filling-length}
+use Rattle.storage.proofs.Filling.{Filling, filling-none, filling-more}
 use Rattle.heading.proofs.Numbers.{each, stored-all}
 use Rattle.heading_writer.proofs.write_numbers.Statement.{statement}
 use Rattle.heading_writer.proofs.write_numbers.Tie as tie
@@ -34,7 +34,7 @@ mul-h : tie.Need-mul-h Inv-loop μ-loop
 mul-h c = search needs
 
 slice-write-h : tie.Need-slice-write-h Inv-loop μ-loop
-slice-write-h c = search filling-below
+slice-write-h c = search needs
 
 add-j : tie.Need-add-j Inv-loop μ-loop
 add-j c = search needs
@@ -46,7 +46,7 @@ loop-again : tie.Need-loop-again Inv-loop μ-loop
 loop-again c = search filling-more
 
 same-length : tie.Need-same-length Inv-loop μ-loop
-same-length c = search filling-length
+same-length c = search needs
 
 returns : tie.Need-returns Inv-loop μ-loop
 returns c = search (stored-all, needs)

@@ -1,13 +1,13 @@
 -- `matvec_t::less_product_t`: the first c entries are written, p is where column c starts.
 use borrow.Author.Needs.{needs}
 use mathlib.Core.Path.{_≡_, refl, _∙_}
-use Prim.Native.Nat.{_≤_, _-_, _+_}
+use Prim.Native.Nat.{_-_, _+_}
 use native.Mathlib.Omega.{arith}
 use lib.ListN.{length}
+use Rattle.storage.proofs.Filling.{Filling, filling-none, filling-done}
 use Rattle.storage.specs.Runs.{start, dense}
-use Rattle.axpy.proofs.Loops.{made-none, made-all}
 use Rattle.axpy.proofs.Sums.{left-fits, next-start}
-use Rattle.matvec.specs.Products.{columnLess, lessColumns}
+use Rattle.matvec.specs.Products.{columnLess}
 use Rattle.matvec.proofs.Dense.{columns-more, columns-done}
 use Rattle.matvec_t.proofs.less_product_t.Statement.{statement}
 use Rattle.matvec_t.proofs.less_product_t.Tie as tie
@@ -17,16 +17,14 @@ use Rattle.matvec_t.proofs.less_some.Reads as less-some-reads
 
 abbrev Inv-loop : tie.InvT-loop
 Inv-loop v₀ off cols z rows w a c₀ p₀ v c p =
-    (c ≤ cols) × (p ≡ a + start (dense rows) c) × (length v ≡ length v₀) × (v ≡ lessColumns off c a rows z w v₀)
+    (p ≡ a + start (dense rows) c) × Filling (columnLess off a rows z w v₀) off cols v₀ v c
 
 abbrev μ-loop : tie.MeasureT-loop
 μ-loop v₀ off cols z rows w a c₀ p₀ v c p = cols - c
 
 loop-holds : tie.Need-loop-holds Inv-loop μ-loop
 unfolding start
-loop-holds c =
-    let a = c .before .before .args in
-    (omega arith, omega arith, refl, made-none (a .off) (a .cols) (columnLess (a .off) (a .a) (a .rows) (a .z) (a .w .now) (a .v .now)) (a .v .now) (omega arith))
+loop-holds c = let a = c .before .before .args in (omega arith, filling-none _ (a .off) (a .cols) (a .v .now) (omega arith))
 
 add-less-some : tie.Need-add-less-some Inv-loop μ-loop
 add-less-some c = search needs
@@ -62,14 +60,12 @@ loop-less c = search needs
 
 loop-again : tie.Need-loop-again Inv-loop μ-loop
 loop-again c =
-    let a = c .before .before .before .before .before .before .before .before .args in
+    let s = c .before .before .before .before .before .before .before .before in
+    let a = s .args in
     let l = c .before .before .before .before .before .loop in
-    let s = c .before .before .less-some in (
-      omega arith,
-      next-start (a .a) (a .rows) (l .c) (s .result) (a .cols) (l .p) (length (a .w .now)) (omega arith) (omega arith) (omega arith) .1,
-      omega arith,
-      columns-more (a .off) (a .cols) (a .z) (a .rows) (a .a) (a .w .now) (a .v .now) (omega arith) (l .c) (s .result) (omega arith) (c .before .before .before .before .before .before .before .before .pre .1)
-          (a .off + l .c) (l .p) refl (l .inv .1) (l .v) _ (l .inv .3) (s .ensures .2),
+    let k = c .before .before .less-some in (
+      next-start (a .a) (a .rows) (l .c) (k .result) (a .cols) (l .p) (length (a .w .now)) (omega arith) (omega arith) (omega arith) .1,
+      columns-more (a .off) (a .cols) (a .z) (a .rows) (a .a) (a .w .now) (a .v .now) (omega arith) (k .result) (l .inv .1) (omega arith) (s .pre .1) (a .off + l .c) (l .p) refl (l .inv .0) (k .ensures .2),
     )
 
 same-length : tie.Need-same-length Inv-loop μ-loop
@@ -78,9 +74,7 @@ same-length c = search needs
 returns : tie.Need-returns Inv-loop μ-loop
 returns c =
     let a = c .before .before .before .before .args in
-    let l = c .before .loop in
-    made-all (a .off) (a .cols) (columnLess (a .off) (a .a) (a .rows) (a .z) (a .w .now) (a .v .now)) (a .v .now) (omega arith) (l .c) (omega arith) (l .v) (l .inv .3) (omega arith)
-    ∙ columns-done (a .off) (a .cols) (a .z) (a .rows) (a .a) (a .w .now) (a .v .now) (omega arith) (omega arith) (omega arith)
+    filling-done (c .before .loop .inv .1) (omega arith) ∙ columns-done (a .off) (a .cols) (a .z) (a .rows) (a .a) (a .w .now) (a .v .now) (omega arith) (omega arith) (omega arith)
 
 pub less-product-t-spec : {M : Type 1} → statement M
 less-product-t-spec =

@@ -1,36 +1,25 @@
 -- `rank_diagonal::add_column`: the first r rows have the column.
 use borrow.Author.Needs.{needs}
 use Prim.Native.Nat.{_≤_, _-_, _+_}
-use mathlib.Core.Path.{_≡_, refl}
-use lib.ListN.{length, getD, length-set}
-use lib.Ieee.{nan}
 use native.Mathlib.Omega.{arith}
-use native.Mathlib.Numerals.{add-one}
 use Rattle.storage.specs.Runs.{start, dense}
-use Rattle.storage.specs.Shape.{columns}
 use Rattle.storage.proofs.Starts.{start-below}
-use Rattle.blocks.specs.Done.{Done}
-use Rattle.rank_diagonal.specs.Rows.{withCell}
-use Rattle.rank_diagonal.proofs.Squares.{column-none, column-more, column-added}
+use Rattle.storage.proofs.Filling.{Filling, filling-none}
+use Rattle.rank_diagonal.proofs.Squares.{added, column-more, column-added}
 use Rattle.rank_diagonal.proofs.add_column.Statement.{statement}
 use Rattle.rank_diagonal.proofs.add_column.Tie as tie
 
 abbrev Inv-loop : tie.InvT-loop
 Inv-loop sums₀ w n a inner src x p q r₀ sums r =
-    (r ≤ n) × (start (dense n) x + n ≤ start (dense n) inner) × (length sums ≡ length sums₀)
-    × Done 0 (dense n) (λ j i. withCell (columns n inner) a src w (0 + i) x (getD sums₀ i nan)) sums₀ 0 r sums
+    (start (dense n) x + n ≤ start (dense n) inner) × Filling (added n a inner src w x sums₀) 0 n sums₀ sums r
 
 abbrev μ-loop : tie.MeasureT-loop
 μ-loop sums₀ w n a inner src x p q r₀ sums r = n - r
 
 loop-holds : tie.Need-loop-holds Inv-loop μ-loop
 loop-holds c =
-    let a = c .before .before .args in (
-      search needs,
-      start-below (dense (a .n)) (a .x) (a .inner) (omega arith),
-      refl,
-      column-none (a .n) (a .a) (a .inner) (a .src) (a .w .now) (a .x) (a .sums .now) (omega arith),
-    )
+    let a = c .before .before .args in
+    (start-below (dense (a .n)) (a .x) (a .inner) (omega arith), filling-none _ 0 (a .n) (a .sums .now) (omega arith))
 
 add-cell : tie.Need-add-cell Inv-loop μ-loop
 add-cell c = search needs
@@ -76,11 +65,8 @@ loop-again c =
     let a = c .before .before .before .before .before .before .before .before .args in
     let l = c .before .before .before .before .before .loop in (
       omega arith,
-      omega arith,
-      simp length-set (omega arith),
-      rw add-one
-          (column-more (a .n) (a .a) (a .inner) (a .src) (a .w .now) (a .x) (a .sums .now) (omega arith) (omega arith) (omega arith) (omega arith)
-          (a .p) (a .q) (omega arith) (omega arith) (l .r) (omega arith) (l .sums) (l .inv .3) (c .plus-square .result) (c .plus-square .ensures)),
+      column-more (a .n) (a .a) (a .inner) (a .src) (a .w .now) (a .x) (a .sums .now) (omega arith) (omega arith) (omega arith)
+          (a .p) (a .q) (omega arith) (omega arith) (l .r) (omega arith) (l .inv .1) (c .plus-square .result) (c .plus-square .ensures),
     )
 
 same-length : tie.Need-same-length Inv-loop μ-loop
@@ -89,9 +75,7 @@ same-length c = search needs
 returns : tie.Need-returns Inv-loop μ-loop
 returns c =
     let a = c .before .before .before .before .args in
-    let l = c .before .loop in
-    let e : l .r ≡ a .n = omega arith in
-    column-added (a .n) (a .a) (a .inner) (a .src) (a .w .now) (a .x) (a .sums .now) (omega arith) (l .sums) (rw e at (l .inv .3))
+    column-added (a .n) (a .a) (a .inner) (a .src) (a .w .now) (a .x) (a .sums .now) (c .before .loop .inv .1) (omega arith)
 
 pub add-column-spec : {M : Type 1} → statement M
 add-column-spec =

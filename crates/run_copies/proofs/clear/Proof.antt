@@ -1,28 +1,23 @@
 -- `run_copies::clear`: the first i doubles are +0.
 use borrow.Author.Needs.{needs}
-use mathlib.Core.Path.{_≡_, refl}
-use Prim.Native.Nat.{_≤_, _-_}
+use mathlib.Core.Path.{refl}
+use Prim.Native.Nat.{_-_}
 use native.Mathlib.Omega.{arith}
-use native.Mathlib.Numerals.{add-one}
-use lib.ListN.{length, length-set}
+use Rattle.storage.proofs.Filling.{Filling, filling-none, array-more, filling-done}
 use Rattle.rules.specs.Arithmetic.{ieee}
-use Rattle.axpy.specs.Axpy.{run}
-use Rattle.axpy.proofs.Loops.{made-none, made-more, made-all}
 use Rattle.run_copies.proofs.clear.Statement.{statement}
 use Rattle.run_copies.proofs.clear.Tie as tie
 use Rattle.run_copies.proofs.clear.Reads as reads
 use Rattle.run_copies.proofs.clear.Lts as lts
 
 abbrev Inv-loop : tie.InvT-loop
-Inv-loop acc₀ n i₀ acc i = (i ≤ n) × (length acc ≡ length acc₀) × (acc ≡ run 0 i (λ x. ieee .zero) acc₀)
+Inv-loop acc₀ n i₀ acc i = Filling (λ x. ieee .zero) 0 n acc₀ acc i
 
 abbrev μ-loop : tie.MeasureT-loop
 μ-loop acc₀ n i₀ acc i = n - i
 
 loop-holds : tie.Need-loop-holds Inv-loop μ-loop
-loop-holds c =
-    let a = c .args in
-    (omega arith, refl, made-none 0 (a .n) (λ x. ieee .zero) (a .acc .now) (omega arith))
+loop-holds c = let a = c .args in filling-none _ 0 (a .n) (a .acc .now) (omega arith)
 
 mul-acc : tie.Need-mul-acc Inv-loop μ-loop
 mul-acc c = search needs
@@ -37,20 +32,13 @@ loop-less : tie.Need-loop-less Inv-loop μ-loop
 loop-less c = search needs
 
 loop-again : tie.Need-loop-again Inv-loop μ-loop
-loop-again c =
-    let a = c .before .before .args in
-    let l = c .before .loop in
-    let t = made-more 0 (a .n) (λ x. ieee .zero) (a .acc .now) (omega arith) (l .i) (omega arith) (l .acc) (l .inv .2) (omega arith) (l .i) (omega arith) (ieee .zero) refl in
-    (omega arith, simp length-set (omega arith), rw add-one t)
+loop-again c = array-more (c .before .loop .inv) (omega arith) refl
 
 same-length : tie.Need-same-length Inv-loop μ-loop
 same-length c = search needs
 
 returns : tie.Need-returns Inv-loop μ-loop
-returns c =
-    let a = c .before .before .args in
-    let l = c .before .loop in
-    made-all 0 (a .n) (λ x. ieee .zero) (a .acc .now) (omega arith) (l .i) (omega arith) (l .acc) (l .inv .2) (omega arith)
+returns c = filling-done (c .before .loop .inv) (omega arith)
 
 pub clear-spec : {M : Type 1} → statement M
 clear-spec =

@@ -1,16 +1,15 @@
 -- `schur_few::less_column`: the first i doubles are lessened.
 use mathlib.Core.Path.{_≡_, refl, ap}
-use Prim.Native.Nat.{ℕ, _+_, _-_, _≤_}
+use Prim.Native.Nat.{ℕ, _+_, _-_}
 use native.Mathlib.Omega.{arith}
 use native.Mathlib.Numerals.{add-one}
 use borrow.Author.Needs.{needs}
-use lib.ListN.{length, length-set}
-use lib.Ieee.{Float}
+use lib.Ieee.{Float, nan}
+use Rattle.storage.proofs.Filling.{Filling, filling-none, filling-next, filling-done}
 use Rattle.storage.specs.Runs.{start, dense}
 use Rattle.storage.proofs.Starts.{start-below}
 use Rattle.rules.specs.Arithmetic.{ieee}
-use Rattle.axpy.specs.Axpy.{at, run}
-use Rattle.axpy.proofs.Loops.{made-none, made-next, made-all}
+use Rattle.axpy.specs.Axpy.{at}
 use Rattle.schur_few.specs.Few.{lessSum}
 use Rattle.schur_few.proofs.less_column.Statement.{statement}
 use Rattle.schur_few.proofs.less_column.Tie as tie
@@ -18,16 +17,14 @@ use Rattle.schur_few.proofs.less_column.Reads as reads
 use Rattle.schur_few.proofs.less_column.Lts as lts
 
 abbrev Inv-loop : tie.InvT-loop
-Inv-loop t₀ to rows cols c sums i₀ k₀ t i k = (i ≤ rows) × (k ≡ start (dense cols) i + c) × (length t ≡ length t₀) × (t ≡ run to i (lessSum to cols sums c t₀) t₀)
+Inv-loop t₀ to rows cols c sums i₀ k₀ t i k = (k ≡ start (dense cols) i + c) × Filling (lessSum to cols sums c t₀) to rows t₀ t i
 
 abbrev μ-loop : tie.MeasureT-loop
 μ-loop t₀ to rows cols c sums i₀ k₀ t i k = rows - i
 
 loop-holds : tie.Need-loop-holds Inv-loop μ-loop
 unfolding start
-loop-holds c =
-    let a = c .args in
-    (omega arith, omega arith, refl, made-none (a .to) (a .rows) (lessSum (a .to) (a .cols) (a .sums .now) (a .c) (a .t .now)) (a .t .now) (omega arith))
+loop-holds c = let a = c .args in (omega arith, filling-none _ (a .to) (a .rows) (a .t .now) (omega arith))
 
 add-t : tie.Need-add-t Inv-loop μ-loop
 add-t c = search needs
@@ -72,20 +69,17 @@ loop-again : tie.Need-loop-again Inv-loop μ-loop
 unfolding start
 loop-again c =
     let a = c .before .before .before .before .args in
-    let l = c .before .before .before .loop in
-    let e : l .k ≡ start (dense (a .cols)) (l .i) + a .c = l .inv .1 in
-    let t = made-next (a .to) (a .rows) (lessSum (a .to) (a .cols) (a .sums .now) (a .c) (a .t .now)) (a .t .now) (omega arith) (l .i) (omega arith) (l .t) (l .inv .3) (omega arith) (a .to + l .i) (omega arith) (λ (s : Float). ieee .minus s (at (a .sums .now) (l .k)))
-    (ap (λ (k : ℕ). ieee .minus (at (a .t .now) (a .to + l .i)) (at (a .sums .now) k)) e) in
-    (omega arith, rw add-one (omega arith), simp length-set (omega arith), rw add-one t)
+    let l = c .before .before .before .loop in (
+      rw add-one (omega arith),
+      filling-next (l .inv .1) (λ (s : Float). ieee .minus s (at (a .sums .now) (l .k))) nan refl (omega arith)
+          (ap (λ (k : ℕ). ieee .minus (at (a .t .now) (a .to + l .i)) (at (a .sums .now) k)) (l .inv .0)),
+    )
 
 same-length : tie.Need-same-length Inv-loop μ-loop
 same-length c = search needs
 
 returns : tie.Need-returns Inv-loop μ-loop
-returns c =
-    let a = c .before .before .args in
-    let l = c .before .loop in
-    made-all (a .to) (a .rows) (lessSum (a .to) (a .cols) (a .sums .now) (a .c) (a .t .now)) (a .t .now) (omega arith) (l .i) (omega arith) (l .t) (l .inv .3) (omega arith)
+returns c = filling-done (c .before .loop .inv .1) (omega arith)
 
 pub less-column-spec : {M : Type 1} → statement M
 less-column-spec =

@@ -1,14 +1,11 @@
 -- `sparse_matvec_t::less_sparse_t`: the first c entries are written.
-use mathlib.Core.Path.{_≡_, refl, sym, subst}
-use Prim.Native.Nat.{ℕ, _≤_, _<_, _-_}
+use mathlib.Core.Path.{sym, subst}
+use Prim.Native.Nat.{ℕ, _<_, _-_}
 use native.Mathlib.Omega.{arith}
-use native.Mathlib.Numerals.{add-one}
-use lib.ListN.{length, length-set}
+use Rattle.storage.proofs.Filling.{Filling, filling-none, filling-done}
 use Rattle.rules.specs.Arithmetic.{ieee}
 use Rattle.rules.specs.Solves.{lessSparseT}
 use Rattle.blocks.specs.Blocks.{entry, rowFrom}
-use Rattle.axpy.specs.Axpy.{run}
-use Rattle.axpy.proofs.Loops.{made-none, made-all}
 use Rattle.matvec.proofs.Vectors.{sparse-less}
 use Rattle.sparse_matvec_t.proofs.less_sparse_t.Statement.{statement}
 use Rattle.sparse_matvec_t.proofs.less_sparse_t.Tie as tie
@@ -18,8 +15,7 @@ use Rattle.sparse_matvec.proofs.wide.Reads as wide-reads
 
 abbrev Inv-loop : tie.InvT-loop
 Inv-loop v₀ off cols z rows w x h first c₀ v c =
-    (c ≤ cols) × (length v ≡ length v₀)
-    × (v ≡ run off c (lessSparseT ieee (rowFrom h first) (entry x cols w) (entry z rows v₀) (entry off cols v₀)) v₀)
+    Filling (lessSparseT ieee (rowFrom h first) (entry x cols w) (entry z rows v₀) (entry off cols v₀)) off cols v₀ v c
 
 abbrev μ-loop : tie.MeasureT-loop
 μ-loop v₀ off cols z rows w x h first c₀ v c = cols - c
@@ -29,9 +25,7 @@ below : (c : tie.After-wide Inv-loop μ-loop) → c .wide .result < c .before .b
 below c = subst (λ (i : ℕ). i < c .before .before .before .before .before .before .before .args .rows) (sym (c .wide .ensures)) (c .before .before .before .before .before .before .before .pre .1 .1 (c .before .before .before .loop .c) (omega arith))
 
 loop-holds : tie.Need-loop-holds Inv-loop μ-loop
-loop-holds c =
-    let a = c .before .before .before .args in
-    (omega arith, refl, made-none (a .off) (a .cols) (lessSparseT ieee (rowFrom (a .h .now) (a .first)) (entry (a .x) (a .cols) (a .w .now)) (entry (a .z) (a .rows) (a .v .now)) (entry (a .off) (a .cols) (a .v .now))) (a .v .now) (omega arith))
+loop-holds c = let a = c .before .before .before .args in filling-none _ (a .off) (a .cols) (a .v .now) (omega arith)
 
 add-wide : tie.Need-add-wide Inv-loop μ-loop
 add-wide c = omega arith
@@ -92,19 +86,15 @@ loop-again c =
     let p = c .before .before .before .before .before .before .before .before .before .before in
     let a = p .args in
     let l = c .before .before .before .before .before .before .loop in
-    let k = c .before .before .before .wide .result in
-    let t = sparse-less (a .off) (a .cols) (a .z) (a .rows) (a .x) (rowFrom (a .h .now) (a .first)) (a .w .now) (a .v .now) (omega arith) (omega arith) (omega arith) (p .pre .1 .0)
-    (l .c) (omega arith) (l .v) (l .inv .2) k (below (c .before .before .before)) (c .before .before .before .wide .ensures) in
-    (omega arith, simp length-set (omega arith), rw add-one t)
+    let k = c .before .before .before .wide in
+    sparse-less (a .off) (a .cols) (a .z) (a .rows) (a .x) (rowFrom (a .h .now) (a .first)) (a .w .now) (a .v .now) (omega arith) (omega arith) (omega arith) (p .pre .1 .0)
+    (l .inv) (omega arith) (k .result) (below (c .before .before .before)) (k .ensures)
 
 same-length : tie.Need-same-length Inv-loop μ-loop
 same-length c = omega arith
 
 returns : tie.Need-returns Inv-loop μ-loop
-returns c =
-    let a = c .before .before .before .before .before .args in
-    let l = c .before .loop in
-    made-all (a .off) (a .cols) (lessSparseT ieee (rowFrom (a .h .now) (a .first)) (entry (a .x) (a .cols) (a .w .now)) (entry (a .z) (a .rows) (a .v .now)) (entry (a .off) (a .cols) (a .v .now))) (a .v .now) (omega arith) (l .c) (omega arith) (l .v) (l .inv .2) (omega arith)
+returns c = filling-done (c .before .loop .inv) (omega arith)
 
 pub less-sparse-t-spec : {M : Type 1} → statement M
 less-sparse-t-spec =

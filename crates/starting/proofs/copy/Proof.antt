@@ -1,17 +1,14 @@
 -- `starting::copy`: the first i doubles are copied.
 use borrow.Author.Needs.{needs}
-use Prim.Native.Nat.{_+_, _-_, _≤_}
-use mathlib.Core.Path.{_≡_, refl, ap, _∙_}
+use Prim.Native.Nat.{_+_, _-_}
+use mathlib.Core.Path.{ap, _∙_}
 use mathlib.Core.List.{List}
 use mathlib.Core.Logic.{inr}
-use native.Mathlib.Numerals.{add-one}
 use native.Mathlib.Omega.{arith}
-use lib.ListN.{length, length-set}
-use lib.Ieee.{Float}
+use lib.Ieee.{Float, nan}
+use Rattle.storage.proofs.Filling.{Filling, filling-none, filling-apart, filling-more, filling-done}
 use Rattle.storage.specs.Part.{store}
-use Rattle.axpy.specs.Axpy.{at, run}
-use Rattle.axpy.proofs.Loops.{made-none, made-more, made-all}
-use Rattle.cross_block.proofs.Turns.{source-same}
+use Rattle.axpy.specs.Axpy.{at}
 use Rattle.started.proofs.Blocks.{copied}
 use Rattle.starting.proofs.copy.Statement.{statement}
 use Rattle.starting.proofs.copy.Tie as tie
@@ -19,15 +16,13 @@ use Rattle.starting.proofs.copy.Reads as reads
 use Rattle.starting.proofs.copy.Lts as lts
 
 abbrev Inv-loop : tie.InvT-loop
-Inv-loop w₀ off src n i₀ w i = (i ≤ n) × (length w ≡ length w₀) × (w ≡ run off i (λ x. at w₀ (src + x)) w₀)
+Inv-loop w₀ off src n i₀ w i = Filling (λ x. at w₀ (src + x)) off n w₀ w i
 
 abbrev μ-loop : tie.MeasureT-loop
 μ-loop w₀ off src n i₀ w i = n - i
 
 loop-holds : tie.Need-loop-holds Inv-loop μ-loop
-loop-holds c =
-    let a = c .args in
-    (omega arith, refl, made-none (a .off) (a .n) (λ x. at (a .w .now) (a .src + x)) (a .w .now) (omega arith))
+loop-holds c = let a = c .args in filling-none _ (a .off) (a .n) (a .w .now) (omega arith)
 
 add-w : tie.Need-add-w Inv-loop μ-loop
 add-w c = search needs
@@ -55,11 +50,10 @@ loop-less c = search needs
 
 loop-again : tie.Need-loop-again Inv-loop μ-loop
 loop-again c =
-    let a = c .before .before .before .args in
+    let p = c .before .before .before in
+    let a = p .args in
     let l = c .before .before .loop in
-    let u = source-same (a .off) (a .n) (a .src) (a .w .now) (λ (y : Float). y) (omega arith) (omega arith) (inr (c .before .before .before .pre .1)) (l .i) (omega arith) (l .w) (l .inv .2) in
-    let t = made-more (a .off) (a .n) (λ x. at (a .w .now) (a .src + x)) (a .w .now) (omega arith) (l .i) (omega arith) (l .w) (l .inv .2) (omega arith) (a .off + l .i) (omega arith) (at (l .w) (a .src + l .i)) u in
-    (omega arith, simp length-set (omega arith), rw add-one t)
+    filling-more (l .inv) (omega arith) (filling-apart (l .inv) nan (a .src) (a .n) (inr (p .pre .1)) (l .i) (omega arith))
 
 same-length : tie.Need-same-length Inv-loop μ-loop
 same-length c = search needs
@@ -67,9 +61,7 @@ same-length c = search needs
 returns : tie.Need-returns Inv-loop μ-loop
 returns c =
     let a = c .before .before .args in
-    let l = c .before .loop in
-    made-all (a .off) (a .n) (λ x. at (a .w .now) (a .src + x)) (a .w .now) (omega arith) (l .i) (omega arith) (l .w) (l .inv .2) (omega arith)
-    ∙ ap (λ (m : List Float). store (a .off) m (a .w .now)) (copied (a .src) (a .n) (a .w .now) (omega arith))
+    filling-done (c .before .loop .inv) (omega arith) ∙ ap (λ (m : List Float). store (a .off) m (a .w .now)) (copied (a .src) (a .n) (a .w .now) (omega arith))
 
 pub copy-spec : {M : Type 1} → statement M
 copy-spec =

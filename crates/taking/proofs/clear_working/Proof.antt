@@ -5,7 +5,7 @@ use Rattle.rules.specs.Arithmetic.{ieee}
 use mathlib.Core.Path.{refl}
 use native.Mathlib.Omega.{arith}
 use Rattle.taking.proofs.Laws.{sum-small, theta-before, working-fit, all-cleared}
-use Rattle.gate.proofs.Filling.{Filling, filling-none, filling-length, filling-below, filling-more, filling-done}
+use Rattle.storage.proofs.Filling.{Filling, filling-none, filling-more, filling-done}
 use Rattle.taking.proofs.clear_working.Statement.{statement}
 use Rattle.taking.proofs.clear_working.Tie as tie
 use Rattle.taking.proofs.clear_working.Reads as reads
@@ -48,13 +48,13 @@ loop-holds c =
     filling-none (λ x. ieee .zero) _ _ (a .w .now) (omega arith)
 
 add-w : tie.Need-add-w Inv-loop μ-loop
-add-w c = let b = filling-below (c .before .loop .inv) (search needs) in search needs
+add-w c = search needs
 
 mul-w : tie.Need-mul-w Inv-loop μ-loop
-mul-w c = let b = filling-below (c .before .loop .inv) (search needs) in search needs
+mul-w c = search needs
 
 slice-write-w : tie.Need-slice-write-w Inv-loop μ-loop
-slice-write-w c = filling-below (c .before .loop .inv) (search needs)
+slice-write-w c = search needs
 
 add-i : tie.Need-add-i Inv-loop μ-loop
 add-i c = search needs
@@ -66,7 +66,7 @@ loop-again : tie.Need-loop-again Inv-loop μ-loop
 loop-again c = filling-more (c .before .loop .inv) (search needs) refl
 
 same-length : tie.Need-same-length Inv-loop μ-loop
-same-length c = filling-length (c .before .loop .inv)
+same-length c = search needs
 
 returns : tie.Need-returns Inv-loop μ-loop
 returns c =
