@@ -542,6 +542,15 @@ def cases(accepted):
             text = f.read()
         c = case(text[:text.index(b"theta\t")])
         assert c.answer[0] == 0, path
+
+    # accepted: five, six and seven blocks, with room to spare, none, and one short, and another response
+    rng = random.Random(567)
+    for sizes in ([2, 1, 3, 1, 2], [1, 2, 2, 1, 3, 1], [2, 1, 1, 3, 1, 2, 1]):
+        for p in (1, 3):
+            lines = write(20, p, [(m, 1) for m in sizes], symmetric(sizes, rng, 0.5), rng)
+            for room in ((0, 0), (0, -1), (-1, 0)):
+                case(lines, heading=room[0], doubles=room[1])
+            case(lines, heading=3, doubles=4).then((draws(sum(sizes)), draws(p), draws(1)))
     return out
 
 
