@@ -1,14 +1,13 @@
 // The kernels of divide_columns, sparse_schur, scaling and cross_block.
-ghost use Rattle.kernels.specs.Sizes.{Small};
+ghost use Rattle.kernels.specs.Cases.{Small};
 use super::answer::OUT_OF_FORM;
-use super::sizes;
-use super::sizes::Case;
+use super::case::Case;
 
 pub fn divide_columns(x: Case, w: &mut [f64]) -> u64
     requires { ⌜ Small x ⌝ }
 {
-    let size = sizes::columns_size(x.p1, x.p2);
-    if sizes::clash(w.len(), x.p0, size, x.p3, x.p2) {
+    let size = kernel_sizes::columns_size(x.p1, x.p2);
+    if kernel_sizes::clash(w.len(), x.p0, size, x.p3, x.p2) {
         return OUT_OF_FORM;
     }
     divide_columns::divide_columns(w, x.p0, x.p1, x.p2, x.p3);
@@ -18,9 +17,9 @@ pub fn divide_columns(x: Case, w: &mut [f64]) -> u64
 pub fn solve_rows(x: Case, w: &mut [f64]) -> u64
     requires { ⌜ Small x ⌝ }
 {
-    let size = sizes::columns_size(x.p1, x.p2);
-    let factor = sizes::packed_size(x.p2);
-    if (x.p1 > sizes::ROWS) | sizes::clash(w.len(), x.p0, size, x.p3, factor) {
+    let size = kernel_sizes::columns_size(x.p1, x.p2);
+    let factor = kernel_sizes::packed_size(x.p2);
+    if (x.p1 > kernel_sizes::ROWS) | kernel_sizes::clash(w.len(), x.p0, size, x.p3, factor) {
         return OUT_OF_FORM;
     }
     cross_block::solve_rows(w, x.p0, x.p1, x.p2, x.p3);
@@ -30,12 +29,12 @@ pub fn solve_rows(x: Case, w: &mut [f64]) -> u64
 pub fn subtract_sparse(x: Case, w: &mut [f64], h: &[u32]) -> u64
     requires { ⌜ Small x ⌝ }
 {
-    let size = sizes::columns_size(x.p1, x.p2);
-    let source = sizes::columns_size(x.p1, x.p5);
-    if (x.p1 > sizes::ROWS)
-        | sizes::clash(w.len(), x.p0, size, x.p3, source)
-        | sizes::clash(w.len(), x.p0, size, x.p4, x.p5)
-        | sizes::bad_rows(h, x.p6, x.p5, x.p2)
+    let size = kernel_sizes::columns_size(x.p1, x.p2);
+    let source = kernel_sizes::columns_size(x.p1, x.p5);
+    if (x.p1 > kernel_sizes::ROWS)
+        | kernel_sizes::clash(w.len(), x.p0, size, x.p3, source)
+        | kernel_sizes::clash(w.len(), x.p0, size, x.p4, x.p5)
+        | kernel_sizes::bad_rows(h, x.p6, x.p5, x.p2)
     {
         return OUT_OF_FORM;
     }
@@ -47,7 +46,7 @@ pub fn subtract_sparse(x: Case, w: &mut [f64], h: &[u32]) -> u64
 pub fn scale(x: Case, w: &mut [f64]) -> u64
     requires { ⌜ Small x ⌝ }
 {
-    if sizes::clash(w.len(), x.p0, x.p2, x.p1, x.p2) {
+    if kernel_sizes::clash(w.len(), x.p0, x.p2, x.p1, x.p2) {
         return OUT_OF_FORM;
     }
     if x.kernel == 10 {

@@ -1,16 +1,15 @@
 // The kernels of rank_diagonal and rank_diagonal_sparse.
-ghost use Rattle.kernels.specs.Sizes.{Small};
+ghost use Rattle.kernels.specs.Cases.{Small};
 use super::answer::OUT_OF_FORM;
-use super::sizes;
-use super::sizes::Case;
+use super::case::Case;
 
 pub fn rank_sub_diagonal(x: Case, w: &mut [f64]) -> u64
     requires { ⌜ Small x ⌝ }
 {
-    let size = sizes::columns_size(x.p1, x.p3);
-    if (x.p1 > sizes::ROWS)
-        | sizes::clash(w.len(), x.p0, x.p1, x.p2, size)
-        | sizes::clash(w.len(), x.p0, x.p1, x.p4, size)
+    let size = kernel_sizes::columns_size(x.p1, x.p3);
+    if (x.p1 > kernel_sizes::ROWS)
+        | kernel_sizes::clash(w.len(), x.p0, x.p1, x.p2, size)
+        | kernel_sizes::clash(w.len(), x.p0, x.p1, x.p4, size)
     {
         return OUT_OF_FORM;
     }
@@ -22,8 +21,8 @@ pub fn rank_sub_diagonal_sparse(x: Case, w: &mut [f64], h: &[u32]) -> u64
     requires { ⌜ Small x ⌝ }
 {
     if (x.p5 + x.p3 > h.len())
-        | sizes::clash(w.len(), x.p0, x.p1, x.p2, x.p3)
-        | sizes::clash(w.len(), x.p0, x.p1, x.p4, x.p3)
+        | kernel_sizes::clash(w.len(), x.p0, x.p1, x.p2, x.p3)
+        | kernel_sizes::clash(w.len(), x.p0, x.p1, x.p4, x.p3)
     {
         return OUT_OF_FORM;
     }

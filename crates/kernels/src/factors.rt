@@ -1,15 +1,14 @@
 // The kernels of triangle_init, diagonal_init, re_factor, block_logs, block_solve and block_divide; a solve's vector lies in w, its factor in v.
-ghost use Rattle.kernels.specs.Sizes.{Small};
+ghost use Rattle.kernels.specs.Cases.{Small};
 use super::answer;
 use super::answer::OUT_OF_FORM;
-use super::sizes;
-use super::sizes::Case;
+use super::case::Case;
 
 pub fn init(x: Case, w: &mut [f64]) -> u64
     requires { ⌜ Small x ⌝ }
 {
-    let size = sizes::packed_size(x.p1);
-    if sizes::clash(w.len(), x.p0, size, x.p2, x.p1) {
+    let size = kernel_sizes::packed_size(x.p1);
+    if kernel_sizes::clash(w.len(), x.p0, size, x.p2, x.p1) {
         return OUT_OF_FORM;
     }
     triangle_init::init(w, x.p0, x.p1, x.p2, x.s);
@@ -19,7 +18,7 @@ pub fn init(x: Case, w: &mut [f64]) -> u64
 pub fn init_diagonal(x: Case, w: &mut [f64]) -> u64
     requires { ⌜ Small x ⌝ }
 {
-    if sizes::clash(w.len(), x.p0, x.p1, x.p2, x.p1) {
+    if kernel_sizes::clash(w.len(), x.p0, x.p1, x.p2, x.p1) {
         return OUT_OF_FORM;
     }
     diagonal_init::init_diagonal(w, x.p0, x.p1, x.p2, x.s);
@@ -30,7 +29,7 @@ pub fn init_diagonal(x: Case, w: &mut [f64]) -> u64
 pub fn packed_block(x: Case, w: &mut [f64]) -> u64
     requires { ⌜ Small x ⌝ }
 {
-    if sizes::no_packed(w.len(), x.p0, x.p1) {
+    if kernel_sizes::no_packed(w.len(), x.p0, x.p1) {
         return OUT_OF_FORM;
     }
     if x.kernel == 22 {
@@ -62,7 +61,7 @@ pub fn diagonal_block(x: Case, w: &mut [f64]) -> u64
 pub fn solve(x: Case, w: &mut [f64], v: &[f64]) -> u64
     requires { ⌜ Small x ⌝ }
 {
-    if (x.p0 + x.p2 > w.len()) | sizes::no_packed(v.len(), x.p1, x.p2) {
+    if (x.p0 + x.p2 > w.len()) | kernel_sizes::no_packed(v.len(), x.p1, x.p2) {
         return OUT_OF_FORM;
     }
     if x.kernel == 28 {

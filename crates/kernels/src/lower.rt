@@ -4,17 +4,16 @@ ghost use mathlib.Core.Path.{_≡_};
 ghost use mathlib.Core.Bool.{false};
 ghost use Prim.Native.Nat.{_+_, _≤_, _<_};
 ghost use Rattle.storage.specs.Shape.{packed, sizeOf};
-ghost use Rattle.kernels.specs.Sizes.{Small};
+ghost use Rattle.kernels.specs.Cases.{Small};
 use super::answer;
 use super::answer::OUT_OF_FORM;
-use super::sizes;
-use super::sizes::Case;
+use super::case::Case;
 
 // chol and log_pivots.
 pub fn packed_block(x: Case, t: &mut [f64]) -> u64
     requires { ⌜ Small x ⌝ }
 {
-    if sizes::no_packed(t.len(), 0, x.p0) {
+    if kernel_sizes::no_packed(t.len(), 0, x.p0) {
         return OUT_OF_FORM;
     }
     if x.kernel == 0 {
@@ -38,7 +37,7 @@ pub fn diagonal_block(x: Case, t: &mut [f64]) -> u64 {
 pub fn solve(x: Case, t: &mut [f64], l: &[f64]) -> u64
     requires { ⌜ Small x ⌝ }
 {
-    if (x.p0 > t.len()) | sizes::no_packed(l.len(), 0, x.p0) {
+    if (x.p0 > t.len()) | kernel_sizes::no_packed(l.len(), 0, x.p0) {
         return OUT_OF_FORM;
     }
     if x.kernel == 4 {
@@ -54,8 +53,8 @@ fn no_cell(len: usize, r: usize, c: usize) -> bool
     requires { ⌜ (r ≤ 65535) × (c ≤ 65535) ⌝ }
     ensures { λ n. ⌜ (n ≡ false → (c ≤ r) × (r ≤ 315) × (sizeOf (packed r) + c < len)) ⌝ }
 {
-    let size = sizes::packed_size(r);
-    (c > r) | (r >= sizes::ROWS) | (size + c >= len)
+    let size = kernel_sizes::packed_size(r);
+    (c > r) | (r >= kernel_sizes::ROWS) | (size + c >= len)
 }
 
 // get and set.

@@ -7,14 +7,14 @@ mod factors;
 mod lower;
 mod numbered;
 mod products;
-mod sizes;
+mod case;
 mod vectors;
 
 ghost use Prim.Native.Nat.{_≤_};
-ghost use Rattle.kernels.specs.Sizes.{Small};
+ghost use Rattle.kernels.specs.Cases.{Small};
 use answer::OUT_OF_FORM;
 use libc::STDOUT_FILENO;
-use sizes::Case;
+use case::Case;
 
 // How many words a case has before its lists, and how many doubles, row numbers and words these have at most.
 const HEAD: usize = 19;

@@ -1,18 +1,17 @@
 // The kernels of schur_dense, rank_dense and schur_last.
-ghost use Rattle.kernels.specs.Sizes.{Small};
+ghost use Rattle.kernels.specs.Cases.{Small};
 use super::answer::OUT_OF_FORM;
-use super::sizes;
-use super::sizes::Case;
+use super::case::Case;
 
 pub fn subtract_dense(x: Case, w: &mut [f64]) -> u64
     requires { ⌜ Small x ⌝ }
 {
-    let size = sizes::columns_size(x.p1, x.p2);
-    let left = sizes::columns_size(x.p1, x.p5);
-    let right = sizes::columns_size(x.p2, x.p5);
-    if (x.p1 > sizes::ROWS)
-        | sizes::clash(w.len(), x.p0, size, x.p3, left)
-        | sizes::clash(w.len(), x.p0, size, x.p4, right)
+    let size = kernel_sizes::columns_size(x.p1, x.p2);
+    let left = kernel_sizes::columns_size(x.p1, x.p5);
+    let right = kernel_sizes::columns_size(x.p2, x.p5);
+    if (x.p1 > kernel_sizes::ROWS)
+        | kernel_sizes::clash(w.len(), x.p0, size, x.p3, left)
+        | kernel_sizes::clash(w.len(), x.p0, size, x.p4, right)
     {
         return OUT_OF_FORM;
     }
@@ -24,9 +23,9 @@ pub fn subtract_dense(x: Case, w: &mut [f64]) -> u64
 pub fn subtract_square(x: Case, w: &mut [f64]) -> u64
     requires { ⌜ Small x ⌝ }
 {
-    let size = sizes::packed_size(x.p1);
-    let source = sizes::columns_size(x.p1, x.p3);
-    if (x.p1 > sizes::ROWS) | sizes::clash(w.len(), x.p0, size, x.p2, source) {
+    let size = kernel_sizes::packed_size(x.p1);
+    let source = kernel_sizes::columns_size(x.p1, x.p3);
+    if (x.p1 > kernel_sizes::ROWS) | kernel_sizes::clash(w.len(), x.p0, size, x.p2, source) {
         return OUT_OF_FORM;
     }
     if x.kernel == 14 {

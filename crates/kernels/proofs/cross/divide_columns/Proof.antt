@@ -1,7 +1,7 @@
 -- `kernels::cross::divide_columns` meets its contract.
 use mathlib.Core.Path.{sym}
 use Rattle.storage.proofs.Places.{size-diagonal}
-use Rattle.kernels.proofs.Laws.{clear-at}
+use Rattle.kernel_sizes.proofs.Laws.{clear-at}
 use borrow.Author.Needs.{needs}
 use Rattle.kernels.proofs.cross.divide_columns.Statement.{statement}
 use Rattle.kernels.proofs.cross.divide_columns.Tie as tie

@@ -1,6 +1,6 @@
 -- `kernels::cross::solve_rows` meets its contract.
 use borrow.Author.Tests.{ltb-false}
-use Rattle.kernels.proofs.Laws.{clear-at, neither}
+use Rattle.kernel_sizes.proofs.Laws.{clear-at, neither}
 use borrow.Author.Needs.{needs}
 use Rattle.kernels.proofs.cross.solve_rows.Statement.{statement}
 use Rattle.kernels.proofs.cross.solve_rows.Tie as tie

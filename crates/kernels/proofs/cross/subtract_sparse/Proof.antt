@@ -1,7 +1,7 @@
 -- `kernels::cross::subtract_sparse` meets its contract.
 use mathlib.Core.Path.{refl}
 use borrow.Author.Tests.{ltb-false}
-use Rattle.kernels.proofs.Laws.{clear-at, neither}
+use Rattle.kernel_sizes.proofs.Laws.{clear-at, neither}
 use borrow.Author.Needs.{needs}
 use Rattle.kernels.proofs.cross.subtract_sparse.Statement.{statement}
 use Rattle.kernels.proofs.cross.subtract_sparse.Tie as tie

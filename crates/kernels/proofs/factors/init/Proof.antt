@@ -1,6 +1,6 @@
 -- `kernels::factors::init` meets its contract.
 use mathlib.Core.Path.{refl}
-use Rattle.kernels.proofs.Laws.{clear-at}
+use Rattle.kernel_sizes.proofs.Laws.{clear-at}
 use borrow.Author.Needs.{needs}
 use Rattle.kernels.proofs.factors.init.Statement.{statement}
 use Rattle.kernels.proofs.factors.init.Tie as tie

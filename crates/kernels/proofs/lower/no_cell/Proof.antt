@@ -1,6 +1,6 @@
 -- `kernels::lower::no_cell` meets its contract.
 use Prim.Native.Nat.{_+_}
-use Rattle.kernels.proofs.Laws.{neither}
+use Rattle.kernel_sizes.proofs.Laws.{neither}
 use borrow.Author.Tests.{leb-false, ltb-false}
 use native.Mathlib.Omega.{arith}
 use borrow.Author.Needs.{needs}

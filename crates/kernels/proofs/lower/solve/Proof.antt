@@ -1,7 +1,7 @@
 -- `kernels::lower::solve` meets its contract.
 use native.Mathlib.Omega.{arith}
 use borrow.Author.Tests.{ltb-false}
-use Rattle.kernels.proofs.Laws.{neither}
+use Rattle.kernel_sizes.proofs.Laws.{neither}
 use borrow.Author.Needs.{needs}
 use Rattle.kernels.proofs.lower.solve.Statement.{statement}
 use Rattle.kernels.proofs.lower.solve.Tie as tie

@@ -1,6 +1,6 @@
 -- `kernels::products::subtract_dense` meets its contract.
 use borrow.Author.Tests.{ltb-false}
-use Rattle.kernels.proofs.Laws.{clear-at, neither}
+use Rattle.kernel_sizes.proofs.Laws.{clear-at, neither}
 use borrow.Author.Needs.{needs}
 use Rattle.kernels.proofs.products.subtract_dense.Statement.{statement}
 use Rattle.kernels.proofs.products.subtract_dense.Tie as tie

@@ -1,6 +1,6 @@
 -- `kernels::products::subtract_square` meets its contract.
 use borrow.Author.Tests.{ltb-false}
-use Rattle.kernels.proofs.Laws.{clear-at, neither}
+use Rattle.kernel_sizes.proofs.Laws.{clear-at, neither}
 use borrow.Author.Needs.{needs}
 use Rattle.kernels.proofs.products.subtract_square.Statement.{statement}
 use Rattle.kernels.proofs.products.subtract_square.Tie as tie

@@ -1,6 +1,6 @@
 -- `kernels::vectors::less_sparse` meets its contract.
 use borrow.Author.Tests.{ltb-false}
-use Rattle.kernels.proofs.Laws.{neither}
+use Rattle.kernel_sizes.proofs.Laws.{neither}
 use borrow.Author.Needs.{needs}
 use Rattle.kernels.proofs.vectors.less_sparse.Statement.{statement}
 use Rattle.kernels.proofs.vectors.less_sparse.Tie as tie

@@ -1,7 +1,7 @@
 -- `kernels::vectors::products` meets its contract.
 use lib.Dec.{ltb}
 use borrow.Author.Tests.{ltb-false}
-use Rattle.kernels.proofs.Laws.{neither, block-at, turned}
+use Rattle.kernel_sizes.proofs.Laws.{neither, block-at, turned}
 use borrow.Author.Needs.{needs}
 use Rattle.kernels.proofs.vectors.products.Statement.{statement}
 use Rattle.kernels.proofs.vectors.products.Tie as tie

@@ -10,7 +10,7 @@ use mathlib.Core.Logic.{by-cases}
 use Rattle.storage.specs.Shape.{packed, columns, sizeOf}
 use Rattle.storage.proofs.Places.{size-columns, size-packed}
 use Rattle.blocks.specs.Blocks.{RowsBelow, rowFrom}
-use Rattle.kernels.specs.Sizes.{Clear}
+use Rattle.kernel_sizes.specs.Sizes.{Clear}
 
 -- a test that failed shows anything
 pub no-case : {P : Type 0} → true ≡ false → P

@@ -1,9 +1,9 @@
--- `kernels::sizes::packed_size` meets its contract.
-use Rattle.kernels.proofs.Laws.{packed-at, packed-fit}
+-- `kernel_sizes::packed_size` meets its contract.
+use Rattle.kernel_sizes.proofs.Laws.{packed-at, packed-fit}
 use native.Mathlib.Omega.{arith}
 use borrow.Author.Needs.{needs}
-use Rattle.kernels.proofs.sizes.packed_size.Statement.{statement}
-use Rattle.kernels.proofs.sizes.packed_size.Tie as tie
+use Rattle.kernel_sizes.proofs.packed_size.Statement.{statement}
+use Rattle.kernel_sizes.proofs.packed_size.Tie as tie
 
 add-result : tie.Need-add-result
 add-result c = search needs

@@ -1,8 +1,8 @@
--- `kernels::sizes::columns_size` meets its contract.
-use Rattle.kernels.proofs.Laws.{columns-at, columns-fit}
+-- `kernel_sizes::columns_size` meets its contract.
+use Rattle.kernel_sizes.proofs.Laws.{columns-at, columns-fit}
 use native.Mathlib.Omega.{arith}
-use Rattle.kernels.proofs.sizes.columns_size.Statement.{statement}
-use Rattle.kernels.proofs.sizes.columns_size.Tie as tie
+use Rattle.kernel_sizes.proofs.columns_size.Statement.{statement}
+use Rattle.kernel_sizes.proofs.columns_size.Tie as tie
 
 mul-result : tie.Need-mul-result
 mul-result c = omega (arith, columns-fit _ _ (c .pre .0) (c .pre .1))

@@ -5,24 +5,10 @@ ghost use Prim.Native.Nat.{_+_, _*_, _≤_};
 ghost use lib.ListN.{length};
 ghost use Rattle.storage.specs.Shape.{packed, columns, sizeOf};
 ghost use Rattle.blocks.specs.Blocks.{RowsBelow};
-ghost use Rattle.kernels.specs.Sizes.{Clear};
+ghost use Rattle.kernel_sizes.specs.Sizes.{Clear};
 
 // The rows that a packed block has at most, and another block where a kernel keeps a double for each of its rows.
 pub const ROWS: usize = 316;
-
-// A kernel's number, and what it is given beside lists: whole numbers, each at most 65535, and two doubles.
-pub struct Case {
-    pub kernel: u64,
-    pub p0: usize,
-    pub p1: usize,
-    pub p2: usize,
-    pub p3: usize,
-    pub p4: usize,
-    pub p5: usize,
-    pub p6: usize,
-    pub s: f64,
-    pub t: f64,
-}
 
 // Of a dense block by columns.
 pub fn columns_size(rows: usize, cols: usize) -> usize

@@ -1,12 +1,12 @@
--- `kernels::sizes::bad_rows` meets its contract.
+-- `kernel_sizes::bad_rows` meets its contract.
 use mathlib.Core.Path.{_≡_, subst}
 use borrow.Author.Needs.{needs}
-use Rattle.kernels.proofs.Laws.{no-case, one-more}
+use Rattle.kernel_sizes.proofs.Laws.{no-case, one-more}
 use native.Mathlib.Omega.{arith}
 use Prim.Native.Nat.{_≤_, _-_}
 use Rattle.blocks.specs.Blocks.{RowsBelow}
-use Rattle.kernels.proofs.sizes.bad_rows.Statement.{statement}
-use Rattle.kernels.proofs.sizes.bad_rows.Tie as tie
+use Rattle.kernel_sizes.proofs.bad_rows.Statement.{statement}
+use Rattle.kernel_sizes.proofs.bad_rows.Tie as tie
 
 abbrev Inv-loop : tie.InvT-loop
 Inv-loop h first n m i₀ i = (i ≤ n) × RowsBelow h first i m

@@ -1,10 +1,10 @@
--- `kernels::sizes::no_packed` meets its contract.
-use Rattle.kernels.proofs.Laws.{no-case}
+-- `kernel_sizes::no_packed` meets its contract.
+use Rattle.kernel_sizes.proofs.Laws.{no-case}
 use native.Mathlib.Omega.{arith}
 use borrow.Author.Tests.{ltb-false}
 use borrow.Author.Needs.{needs}
-use Rattle.kernels.proofs.sizes.no_packed.Statement.{statement}
-use Rattle.kernels.proofs.sizes.no_packed.Tie as tie
+use Rattle.kernel_sizes.proofs.no_packed.Statement.{statement}
+use Rattle.kernel_sizes.proofs.no_packed.Tie as tie
 
 returns : tie.Need-returns
 returns c = no-case

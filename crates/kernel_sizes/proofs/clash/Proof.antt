@@ -1,11 +1,11 @@
--- `kernels::sizes::clash` meets its contract.
-use Rattle.kernels.proofs.Laws.{no-case}
+-- `kernel_sizes::clash` meets its contract.
+use Rattle.kernel_sizes.proofs.Laws.{no-case}
 use native.Mathlib.Omega.{arith}
 use mathlib.Core.Logic.{inl, inr}
 use borrow.Author.Tests.{ltb-false}
 use borrow.Author.Needs.{needs}
-use Rattle.kernels.proofs.sizes.clash.Statement.{statement}
-use Rattle.kernels.proofs.sizes.clash.Tie as tie
+use Rattle.kernel_sizes.proofs.clash.Statement.{statement}
+use Rattle.kernel_sizes.proofs.clash.Tie as tie
 
 add-if1 : tie.Need-add-if1
 add-if1 c = search needs
