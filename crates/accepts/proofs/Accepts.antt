@@ -67,7 +67,7 @@ pairs-below k (suc n) h = both-below k (pairs n) (across n n) (pairs-below k n (
 
 module _ (sheet : Sheet) (y : Layout) where
   -- what the gate refuses, it refuses with 10 or 11
-  ten-or-eleven : (i j n : ℕ) → pairIn sheet y i j ≡ Denied n → (n ≡ 10) ⊎ (n ≡ 11)
+  pub ten-or-eleven : (i j n : ℕ) → pairIn sheet y i j ≡ Denied n → (n ≡ 10) ⊎ (n ≡ 11)
   unfolding pairIn pairOf
   ten-or-eleven i j n e =
       let cells : ℕ = levels y i * levels y j in
@@ -155,7 +155,7 @@ none-of sheet e = go (eqb (sheet .counts .flag) 0) (eqb (sheet .counts .k) 0) (h
     go false false false true f p q r s e = record { flag = p; k = q; slope = r; covers = s }
 
 -- bytes that are refused hold no sheet, and a refusal is not an acceptance
-not-both : (o p : ℕ) (sheet : Sheet) (starts : Starts) → refused o p ≡ accepted sheet starts → ⊥
+pub not-both : (o p : ℕ) (sheet : Sheet) (starts : Starts) → refused o p ≡ accepted sheet starts → ⊥
 not-both o p sheet starts e = let z : _≡_ {A = ℕ} 0 1 = cc in omega arith
 
 refused-not : (r : Refusal) → Refused r ≡ Accepted → ⊥
@@ -174,7 +174,7 @@ module _ (s h : List ℕ) (w : List Float) where
   Says a = ((a ≡ Accepted) × (sheet : Sheet) × (starts : Starts) × Fine sheet starts) ⊎ ((r : Refusal) × (a ≡ Refused r) × Listed s h w (r .number))
 
   -- 1 to 4
-  bytes-listed : (number line : ℕ) → sheetOf s ≡ refused number line → Listed s h w number
+  pub bytes-listed : (number line : ℕ) → sheetOf s ≡ refused number line → Listed s h w number
   bytes-listed number line e = go (alone-refusal s number line e)
     where
       go : ((number ≡ 1) × (line ≡ 0)) ⊎ ((2 ≤ number) × (number ≤ 4) × (1 ≤ line)) → Listed s h w number

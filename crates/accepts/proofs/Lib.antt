@@ -1,2 +1,3 @@
 pub mod Long
 pub mod Accepts
+pub mod Texts

@@ -1,5 +1,5 @@
 -- What is read of a case.
-use Prim.Native.Nat.{ℕ, _≤_}
+use Prim.Native.Nat.{_≤_}
 use Rattle.kernels.specs.declared.case.Case.{Case}
 
 -- the whole numbers of a case, as they are read

@@ -1,20 +1,20 @@
 // Runs the kernels on the cases of standard input and prints what each answers and leaves: the file stdout has what they must. tools/kernel_list.py
 // makes both, and says what the words of a case are.
 mod answer;
+mod case;
 mod cross;
 mod diagonals;
 mod factors;
 mod lower;
 mod numbered;
 mod products;
-mod case;
 mod vectors;
 
 ghost use Prim.Native.Nat.{_≤_};
 ghost use Rattle.kernels.specs.Cases.{Small};
 use answer::OUT_OF_FORM;
-use libc::STDOUT_FILENO;
 use case::Case;
+use libc::STDOUT_FILENO;
 
 // How many words a case has before its lists, and how many doubles, row numbers and words these have at most.
 const HEAD: usize = 19;

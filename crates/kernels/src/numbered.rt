@@ -1,12 +1,12 @@
 // The kernels by their numbers, which are their places in tools/kernel_list.py.
 ghost use Rattle.kernels.specs.Cases.{Small};
 use super::answer::OUT_OF_FORM;
+use super::case::Case;
 use super::cross;
 use super::diagonals;
 use super::factors;
 use super::lower;
 use super::products;
-use super::case::Case;
 use super::vectors;
 
 // What the case's kernel answers on the list w.

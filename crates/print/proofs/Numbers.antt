@@ -22,7 +22,7 @@ unfolding decimal
 decimal-more n x h = ap (λ (b : Bool). cond b ((48 + x) ∷ []) (decimal n (x / 10) ++ ((48 + x % 10) ∷ []))) (le-ltb x 10 h)
 
 -- a number of n + 1 digits has a tenth of n
-tenth-below : (n x : ℕ) → x < 10 ^ suc n → x / 10 < 10 ^ n
+pub tenth-below : (n x : ℕ) → x < 10 ^ suc n → x / 10 < 10 ^ n
 tenth-below n x h = let e : 10 ^ suc n ≡ 10 ^ n * 10 = pow-suc 10 n in omega arith
 
 -- where n + 1 digits hold a number, room for k more changes nothing

@@ -59,7 +59,7 @@ block-in-range i line l v =
     let e = both (leb 1 (l .second)) (leb (l .second) 16) (x .1) in
     record { m = (leb-true _ _ (m .0), leb-true _ _ (m .1)); e = (leb-true _ _ (e .0), leb-true _ _ (e .1)) }
 
-counts-in-range : (z : Counts) → countsWithin z ≡ true → InRange z
+pub counts-in-range : (z : Counts) → countsWithin z ≡ true → InRange z
 counts-in-range z e =
     let flag = both _ (isBetween 0 (z .flag) 1) e in
     let k = both _ (isBetween 0 (z .k) 8) (flag .0) in
@@ -76,7 +76,7 @@ counts-in-range z e =
     }
 
 -- ---- the lines after the size line
-settled-open : (c : Cursor) (a sheet : Sheet) (b starts : Starts) → settled c a b ≡ accepted sheet starts → (c .number ≡ 0) × (a ≡ sheet) × (b ≡ starts)
+pub settled-open : (c : Cursor) (a sheet : Sheet) (b starts : Starts) → settled c a b ≡ accepted sheet starts → (c .number ≡ 0) × (a ≡ sheet) × (b ≡ starts)
 settled-open c a sheet b starts e = go (eqb (c .number) 0) refl e
   where
     go : (t : Bool) → eqb (c .number) 0 ≡ t → cond t (accepted a b) (refused (c .number) (c .line)) ≡ accepted sheet starts → (c .number ≡ 0) × (a ≡ sheet) × (b ≡ starts)
@@ -173,7 +173,7 @@ lines-whole s z at sheet starts short h e =
     }))
 
 -- ---- the sheet
-not-accepted : (number line : ℕ) (sheet : Sheet) (starts : Starts) → refused number line ≡ accepted sheet starts → ⊥
+pub not-accepted : (number line : ℕ) (sheet : Sheet) (starts : Starts) → refused number line ≡ accepted sheet starts → ⊥
 not-accepted number line sheet starts e = let z : _≡_ {A = ℕ} 0 1 = cc in omega arith
 
 -- THE CLAIM: a sheet that is read, whatever stands behind it, is whole.

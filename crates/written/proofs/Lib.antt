@@ -1,0 +1,9 @@
+pub mod Cases
+pub mod Fields
+pub mod Lines
+pub mod Runs
+pub mod Read
+pub mod Only
+pub mod OnlyLines
+pub mod OnlySheet
+pub mod Theta
