@@ -3,10 +3,13 @@ use Prim.Native.Nat.{ℕ, _+_, _≤_, _<_}
 use mathlib.Core.Path.{_≡_, refl, ap, ap₂, _∙_}
 use mathlib.Core.List.{List}
 use mathlib.Core.Logic.{_⊎_}
+use native.Mathlib.Omega.{arith}
 use lib.ListN.{length}
 use lib.Ieee.{Float}
+use Rattle.storage.specs.Runs.{dense}
 use Rattle.storage.specs.Shape.{Shape, columns, sizeOf, runLength, runs, rowAt, columnAt}
 use Rattle.storage.specs.Part.{store}
+use Rattle.storage.proofs.Starts.{start-dense, start-le}
 use Rattle.storage.proofs.Cells.{tab-ext}
 use Rattle.rules.specs.Arithmetic.{ieee}
 use Rattle.rules.specs.Sums.{dot, chain}
@@ -62,3 +65,9 @@ turn {F} {G} {off} {end} {w₀} {j} {to} {w} same s a rows b step inner k e more
     ∙ ap₂ (λ (x y : ℕ → ℕ → Float). G (at w (off + to + i)) (x i) (y j)) (writing-same e more a (columns rows inner) apart) (writing-same e more b (columns step inner) apart′)
     ∙ ap (λ (z : Float). G z (block a (columns rows inner) w₀ i) (block b (columns step inner) w₀ j)) (writing-cell s e more i l))
     then
+
+-- there is room for two runs more of one length
+pub room-for-two : {off end rows n : ℕ} {b : ℕ → ℕ → Float} {w₀ : List Float} {j to : ℕ} {w : List Float} → Writing off end (dense rows) n b w₀ j to w → j + 2 ≤ n
+    → off + (to + rows + rows) ≤ end
+room-for-two {rows = rows} {n = n} {j = j} e more =
+    omega (arith, e .place, e .ends, start-dense rows j, start-dense rows (j + 2), start-le (dense rows) (j + 2) n more)

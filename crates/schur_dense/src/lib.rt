@@ -6,7 +6,7 @@ ghost use lib.ListN.{length};
 ghost use Rattle.storage.specs.Shape.{columns, sizeOf};
 ghost use Rattle.schur.specs.Schur.{subtractedDense};
 
-// S of the dense block at off, column by column: the sums of a column lie side by side.
+// S of the dense block at off, two columns at a time: the sums of a column lie side by side.
 fn subtract_columns(
     w: &mut [f64],
     off: usize,
@@ -23,12 +23,30 @@ fn subtract_columns(
 {
     let end = off + cols * rows;
     let mut acc = [0.0; 316];
+    let mut acc2 = [0.0; 316];
     let mut c = 0;
     let mut to = 0;
-    while c < cols {
+    while cols - c >= 2 {
+        schur_pair::subtract_pair(
+            w,
+            &mut acc,
+            &mut acc2,
+            off,
+            end,
+            to,
+            rows,
+            a,
+            rows,
+            b,
+            cols,
+            c,
+            inner,
+        );
+        c += 2;
+        to += 2 * rows;
+    }
+    if c < cols {
         schur::subtract_run(w, &mut acc, off, end, to, rows, a, rows, b, cols, c, inner);
-        c += 1;
-        to += rows;
     }
 }
 

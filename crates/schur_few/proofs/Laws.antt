@@ -1,40 +1,44 @@
 -- Sums by rows of the target, and the target less them.
 use Prim.Native.Nat.{ℕ, _+_, _-_, _*_, _≤_, _<_}
-use mathlib.Core.Path.{_≡_, refl, ap, ap₂, _∙_}
+use mathlib.Core.Path.{_≡_, refl, ap, ap₂, subst, _∙_}
 use mathlib.Core.List.{List}
 use native.Mathlib.Nat.{mul-le-mul}
 use native.Mathlib.Omega.{arith}
 use borrow.Rule.Slice.PartMut.{putMid}
 use lib.ListN.{length, take, drop}
 use lib.Ieee.{Float, nan}
-use Rattle.storage.specs.Runs.{start, dense, tab, cells}
+use Rattle.storage.specs.Runs.{start, dense, cells}
 use Rattle.storage.specs.Shape.{columns, sizeOf, fill}
 use Rattle.storage.specs.Part.{store}
 use Rattle.storage.proofs.Starts.{start-dense, start-below}
-use Rattle.storage.proofs.Cells.{length-tab, tab-ext, length-cells, getD-cells, cells-ext}
-use Rattle.storage.proofs.Parts.{store-store, store-in, store-lent, getD-part}
+use Rattle.storage.proofs.Cells.{tab-ext, length-cells, getD-cells, cells-ext}
+use Rattle.storage.proofs.Parts.{store-in, store-lent, getD-part}
 use Rattle.rules.specs.Arithmetic.{ieee}
 use Rattle.rules.specs.Steps.{subtractDense}
 use Rattle.blocks.specs.Blocks.{block}
 use Rattle.blocks.proofs.Laws.{read-block, has-dense}
 use Rattle.blocks.proofs.Runs.{Writing, writing-own, writing-more}
-use Rattle.axpy.specs.Axpy.{at, run, along, products}
-use Rattle.axpy.proofs.Sums.{read-run, sum-along, along-swap}
+use Rattle.axpy.specs.Axpy.{at, run, products}
+use Rattle.axpy.proofs.Sums.{sum-along, along-swap, summed}
 use Rattle.schur_few.specs.Few.{rowSums, lessSum, lessSums}
 
--- a run that is cleared and gets the products of one row of block a
-pub row-summed : (w t t₁ t₂ : List Float) (n a rows b r inner : ℕ) → n ≤ length t → t₁ ≡ run 0 n (λ i. ieee .zero) t
-    → t₂ ≡ products (ieee .plus) t₁ n w b n w a rows r inner → t₂ ≡ run 0 n (rowSums a rows b n inner w r) t
-row-summed w t t₁ t₂ n a rows b r inner room first then =
-    let z : ℕ → Float = λ i. ieee .zero in
-    let g : List Float → ℕ → Float = λ l i. along (ieee .plus) (at l i) (block b (columns n inner) w i) (block a (columns rows inner) w r) inner in
-    then ∙ ap (λ (l : List Float). run 0 n (g l) l) first
-    ∙ store-store 0 (tab n z) t (omega (arith, length-tab n z)) (tab n (g (run 0 n z t))) (omega (arith, length-tab n z, length-tab n (g (run 0 n z t))))
-    ∙ ap (λ (l : List Float). store 0 l t)
-    (tab-ext n _ _
-    (λ i l.
-    ap (λ (x : Float). along (ieee .plus) x (block b (columns n inner) w i) (block a (columns rows inner) w r) inner)
-    (read-run 0 n z t (omega arith) i i l (omega arith))))
+-- the sums of the products of one row of block a, made beside t and put there
+pub row-put : (w t t′ acc acc₁ acc₂ : List Float) (from k n a rows b r inner : ℕ) → n ≤ length acc → acc₁ ≡ run 0 n (λ i. ieee .zero) acc
+    → acc₂ ≡ products (ieee .plus) acc₁ n w b n w a rows r inner → k ≡ from → t′ ≡ run k n (at acc₂) t → t′ ≡ run from n (rowSums a rows b n inner w r) t
+row-put w t t′ acc acc₁ acc₂ from k n a rows b r inner room first then e so =
+    so
+    ∙ ap₂ (λ (x : ℕ) (l : List Float). store x l t) e
+    (tab-ext n _ _ (summed (ieee .plus) n w b n w a rows r inner acc acc₁ acc₂ (λ i. ieee .zero) room first then))
+
+-- two rows more
+pub two-rows : {end cols n : ℕ} {b : ℕ → ℕ → Float} {t₀ : List Float} {r from : ℕ} {t : List Float} {from′ : ℕ} {t′ : List Float}
+    → Writing 0 end (dense cols) n b t₀ r from t → r + 2 ≤ n → from′ ≡ from + 2 * cols → t′ ≡ run (from + cols) cols (b (r + 1)) (run from cols (b r) t)
+    → Writing 0 end (dense cols) n b t₀ (r + 2) from′ t′
+two-rows {end} {cols} {n} {b} {t₀} {r} {from} {t} {from′} {t′} e more next then =
+    let k : r + 1 + 1 ≡ r + 2 = omega arith in
+    subst (λ (x : ℕ). Writing 0 end (dense cols) n b t₀ x from′ t′) k
+    (writing-more (writing-more e (omega arith) from cols (b r) (omega arith) refl refl (λ i l. refl) refl) (omega arith) (from + cols) cols (b (r + 1)) (omega arith) refl (omega arith)
+    (λ i l. refl) then)
 
 -- one column more
 pub column-less : {end rows cols : ℕ} {t₀ : List Float} {c to : ℕ} {t t′ : List Float} {to′ : ℕ} (sums : List Float)

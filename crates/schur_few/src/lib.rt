@@ -10,27 +10,10 @@ ghost use Rattle.axpy.specs.Axpy.{run};
 ghost use Rattle.schur.specs.Schur.{subtractedDense};
 ghost use Rattle.schur_few.specs.Few.{rowSums, lessSum, lessSums};
 
-// The first n doubles of t become the sums of the products of rows 0 to n - 1 of block b and row r of block a.
+// The n doubles of t from `from` on become the sums of the products of rows 0 to n - 1 of block b and row r of block a.
 fn sum_row(
     t: &mut [f64],
-    n: usize,
-    w: &[f64],
-    a: usize,
-    rows: usize,
-    b: usize,
-    r: usize,
-    inner: usize,
-)
-    requires { ⌜ (n ≤ length (now t)) × (r < rows) × (a + sizeOf (columns rows inner) ≤ length (now w)) × (b + sizeOf (columns n inner) ≤ length (now w)) ⌝ }
-    ensures { λ _. ⌜ now (t .exit) ≡ run 0 n (rowSums a rows b n inner (now (w .entry)) r) (now (t .entry)) ⌝ }
-{
-    run_copies::clear(t, n);
-    axpy_products::add_products(t, n, w, b, n, w, a, rows, r, inner);
-}
-
-// The same on the n doubles of t from `from` on.
-fn sum_row_at(
-    t: &mut [f64],
+    acc: &mut [f64],
     from: usize,
     n: usize,
     w: &[f64],
@@ -40,24 +23,57 @@ fn sum_row_at(
     r: usize,
     inner: usize,
 )
-    requires { ⌜ (from + n ≤ length (now t)) × (r < rows) × (a + sizeOf (columns rows inner) ≤ length (now w)) × (b + sizeOf (columns n inner) ≤ length (now w)) ⌝ }
+    requires { ⌜ (from + n ≤ length (now t)) × (n ≤ length (now acc)) × (r < rows) × (a + sizeOf (columns rows inner) ≤ length (now w)) × (b + sizeOf (columns n inner) ≤ length (now w)) ⌝ }
     ensures { λ _. ⌜ now (t .exit) ≡ run from n (rowSums a rows b n inner (now (w .entry)) r) (now (t .entry)) ⌝ }
 {
     let end = from + n;
-    sum_row(&mut t[from..end], n, w, a, rows, b, r, inner);
+    run_copies::clear(acc, n);
+    axpy_products::add_products(acc, n, w, b, n, w, a, rows, r, inner);
+    run_copies::put(t, 0, end, from, n, acc);
+}
+
+// The same of row r, and of row r + 1 behind them: block b is loaded once for both.
+fn sum_two_rows(
+    t: &mut [f64],
+    acc: &mut [f64],
+    acc2: &mut [f64],
+    from: usize,
+    n: usize,
+    w: &[f64],
+    a: usize,
+    rows: usize,
+    b: usize,
+    r: usize,
+    inner: usize,
+)
+    requires { ⌜ (from + n + n ≤ length (now t)) × (n ≤ length (now acc)) × (n ≤ length (now acc2)) × (r + 1 < rows) × (a + sizeOf (columns rows inner) ≤ length (now w)) × (b + sizeOf (columns n inner) ≤ length (now w)) ⌝ }
+    ensures { λ _. ⌜ now (t .exit) ≡ run (from + n) n (rowSums a rows b n inner (now (w .entry)) (r + 1)) (run from n (rowSums a rows b n inner (now (w .entry)) r) (now (t .entry))) ⌝ }
+{
+    let mid = from + n;
+    let end = mid + n;
+    run_copies::clear(acc, n);
+    run_copies::clear(acc2, n);
+    axpy_pair::add_products_pair(acc, acc2, n, w, b, n, w, a, rows, r, inner);
+    run_copies::put(t, 0, end, from, n, acc);
+    run_copies::put(t, 0, end, mid, n, acc2);
 }
 
 // The sums of every row, one row behind the other.
 fn sum_rows(t: &mut [f64], rows: usize, cols: usize, w: &[f64], a: usize, b: usize, inner: usize)
-    requires { ⌜ (sizeOf (columns cols rows) ≤ length (now t)) × (a + sizeOf (columns rows inner) ≤ length (now w)) × (b + sizeOf (columns cols inner) ≤ length (now w)) ⌝ }
+    requires { ⌜ (cols ≤ 316) × (sizeOf (columns cols rows) ≤ length (now t)) × (a + sizeOf (columns rows inner) ≤ length (now w)) × (b + sizeOf (columns cols inner) ≤ length (now w)) ⌝ }
     ensures { λ _. ⌜ now (t .exit) ≡ store 0 (cells (dense cols) rows (rowSums a rows b cols inner (now (w .entry)))) (now (t .entry)) ⌝ }
 {
+    let mut acc = [0.0; 316];
+    let mut acc2 = [0.0; 316];
     let mut r = 0;
     let mut from = 0;
-    while r < rows {
-        sum_row_at(t, from, cols, w, a, rows, b, r, inner);
-        r += 1;
-        from += cols;
+    while rows - r >= 2 {
+        sum_two_rows(t, &mut acc, &mut acc2, from, cols, w, a, rows, b, r, inner);
+        r += 2;
+        from += 2 * cols;
+    }
+    if r < rows {
+        sum_row(t, &mut acc, from, cols, w, a, rows, b, r, inner);
     }
 }
 

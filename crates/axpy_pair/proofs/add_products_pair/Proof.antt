@@ -1,0 +1,96 @@
+-- `axpy_pair::add_products_pair`: the columns four by four, then those that are left for each list.
+use mathlib.Core.Path.{refl}
+use Prim.Native.Nat.{_+_, _*_}
+use native.Mathlib.Omega.{arith}
+use lib.ListN.{length}
+use Rattle.axpy_pair.proofs.Laws.{rest-fits, reached, rest-taken}
+use borrow.Author.Needs.{needs}
+use Rattle.axpy_pair.proofs.add_products_pair.Statement.{statement}
+use Rattle.axpy_pair.proofs.add_products_pair.Tie as tie
+use Rattle.axpy_pair.proofs.add_products_pair.Reads as reads
+use Rattle.axpy_pair.proofs.add_products_pair.Lts as lts
+use Rattle.axpy_pair.proofs.add_fours_pair.Reads as add-fours-pair-reads
+use Rattle.axpy_products.proofs.add_products.Reads as add-products-reads
+
+add-fours-pair-requires : tie.Need-add-fours-pair-requires
+add-fours-pair-requires c κs = search needs
+
+mul-p : tie.Need-mul-p
+mul-p c =
+    let a = c .before .before .before .before .before .before .before .before .before .before .before .args in
+    let x = c .before .before .before .before .add-fours-pair .result in
+    omega (arith, rest-fits (a .a) (a .rows) x (a .inner) (length (a .w .now)) (omega arith) (omega arith))
+
+add-p : tie.Need-add-p
+add-p c =
+    let a = c .before .before .before .before .before .before .before .before .before .before .before .args in
+    let x = c .before .before .before .before .add-fours-pair .result in
+    omega (arith, rest-fits (a .a) (a .rows) x (a .inner) (length (a .w .now)) (omega arith) (omega arith))
+
+mul-q : tie.Need-mul-q
+mul-q c =
+    let a = c .before .before .before .before .before .before .before .before .before .before .before .args in
+    let x = c .before .before .before .before .add-fours-pair .result in
+    omega (arith, rest-fits (a .b) (a .step) x (a .inner) (length (a .v .now)) (omega arith) (omega arith))
+
+add-q : tie.Need-add-q
+add-q c =
+    let a = c .before .before .before .before .before .before .before .before .before .before .before .args in
+    let x = c .before .before .before .before .add-fours-pair .result in
+    omega (arith, rest-fits (a .b) (a .step) x (a .inner) (length (a .v .now)) (omega arith) (omega arith))
+
+sub-add-products : tie.Need-sub-add-products
+sub-add-products c = search needs
+
+add-products-requires : tie.Need-add-products-requires
+add-products-requires c κs =
+    let a = c .before .before .before .before .before .before .before .before .before .before .before .before .args in
+    let x = c .before .before .before .before .before .add-fours-pair .result in
+    omega (arith, rest-fits (a .a) (a .rows) x (a .inner) (length (a .w .now)) (omega arith) (omega arith), rest-fits (a .b) (a .step) x (a .inner) (length (a .v .now)) (omega arith) (omega arith))
+
+add-add-products : tie.Need-add-add-products
+add-add-products c = search needs
+
+sub-add-products-2 : tie.Need-sub-add-products-2
+sub-add-products-2 c = search needs
+
+add-products-requires-2 : tie.Need-add-products-requires-2
+add-products-requires-2 c κs =
+    let a = c .before .before .before .before .before .before .before .before .before .before .before .before .before .before .before .before .args in
+    let x = c .before .before .before .before .before .before .before .before .before .add-fours-pair .result in
+    omega (arith, rest-fits (a .a) (a .rows) x (a .inner) (length (a .w .now)) (omega arith) (omega arith), rest-fits (a .b) (a .step) x (a .inner) (length (a .v .now)) (omega arith) (omega arith))
+
+same-length : tie.Need-same-length
+same-length c = search needs
+
+same-length-2 : tie.Need-same-length-2
+same-length-2 c = search needs
+
+returns : tie.Need-returns
+returns c =
+    let p = c .before .before .before .before .before .before .before .before .before .before .before .before .before .before .before .before .before .before .before in
+    let a = p .args in
+    let s = c .before .before .before .before .before .before .before .before .before .before .before .before .add-fours-pair in
+    let e =
+    reached (a .w .now) (a .a) (a .rows) (a .v .now) (a .b) (a .step) (a .inner) (s .result) (a .a + s .result * a .rows) (a .b + s .result * a .step) (s .ensures .0) (p .pre .4) (p .pre .5) refl refl in (
+      rest-taken e (a .acc .now) _ _ (a .n) (a .r) (p .pre .1) (p .pre .0) (omega (arith, p .pre .3)) (s .ensures .1 .0) (c .before .before .before .before .before .before .add-products .ensures),
+      rest-taken e (a .acc2 .now) _ _ (a .n) (a .r + 1) (p .pre .2) (p .pre .0) (p .pre .3) (s .ensures .1 .1) (c .before .before .add-products2 .ensures),
+    )
+
+pub add-products-pair-spec : {M : Type 1} → statement M
+add-products-pair-spec =
+    tie.close
+    (tie.spec
+    add-fours-pair-requires
+    mul-p
+    add-p
+    mul-q
+    add-q
+    sub-add-products
+    add-products-requires
+    add-add-products
+    sub-add-products-2
+    add-products-requires-2
+    same-length
+    same-length-2
+    returns)
