@@ -5,3 +5,4 @@ pub mod Filling
 pub mod Places
 pub mod Blocks
 pub mod Controls
+pub mod Table

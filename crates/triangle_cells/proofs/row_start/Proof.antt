@@ -9,7 +9,7 @@ use lib.ListN.{getD}
 use borrow.Author.Needs.{needs}
 use Rattle.storage.specs.Runs.{start, triangle}
 use Rattle.storage.proofs.Starts.{start-triangle}
-use Rattle.triangle_cells.proofs.Table.{entry}
+use Rattle.storage.proofs.Table.{entry}
 use Rattle.triangle_cells.proofs.row_start.Statement.{statement}
 use Rattle.triangle_cells.proofs.row_start.Tie as tie
 
