@@ -39,7 +39,7 @@ fn sheet_levels(y: Layout, i: u64) -> u64
 }
 
 // The first row of sorted block j: the levels of the blocks before it in the sheet.
-pub fn row_start(y: Layout, j: usize) -> u64
+pub fn first_row(y: Layout, j: usize) -> u64
     requires { ⌜ (lawful y ≡ true) × (j < y .k) ⌝ }
     ensures { λ r. ⌜ r ≡ rowStart y j ⌝ }
 {

@@ -18,7 +18,7 @@ fn fill_first(y: Layout, first: &mut [u64; 8])
     let k = y.k as usize;
     let mut j: usize = 0;
     while j < k {
-        first[j] = block_map::row_start(y, j);
+        first[j] = block_map::first_row(y, j);
         j += 1;
     }
 }

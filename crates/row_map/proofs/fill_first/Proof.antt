@@ -19,8 +19,8 @@ abbrev μ-loop : tie.MeasureT-loop
 loop-holds : tie.Need-loop-holds Inv-loop μ-loop
 loop-holds c = (refl, is-lawful (c .args .y) (c .pre .0) .blocks .1, omega arith, c .pre .1, λ s h. absurd (omega arith))
 
-row-start-requires : tie.Need-row-start-requires Inv-loop μ-loop
-row-start-requires c κs = (c .before .before .pre .0, omega arith)
+first-row-requires : tie.Need-first-row-requires Inv-loop μ-loop
+first-row-requires c κs = (c .before .before .pre .0, omega arith)
 
 mul-first : tie.Need-mul-first Inv-loop μ-loop
 mul-first c = search needs
@@ -42,7 +42,7 @@ loop-again c =
       l .inv .1,
       omega arith,
       simp length-set (l .inv .3),
-      filled-more (λ s v. v ≡ rowStart (a .y) s) (l .first) (l .j) (c .row-start .result) (omega arith) (l .inv .4) (c .row-start .ensures),
+      filled-more (λ s v. v ≡ rowStart (a .y) s) (l .first) (l .j) (c .first-row .result) (omega arith) (l .inv .4) (c .first-row .ensures),
     )
 
 returns : tie.Need-returns Inv-loop μ-loop
@@ -55,7 +55,7 @@ fill-first-spec =
     Inv-loop
     μ-loop
     loop-holds
-    row-start-requires
+    first-row-requires
     mul-first
     element-write-first
     add-j

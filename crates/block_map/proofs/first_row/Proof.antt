@@ -1,4 +1,4 @@
--- `block_map::row_start`: the levels of the first i blocks of the sheet.
+-- `block_map::first_row`: the levels of the first i blocks of the sheet.
 use Prim.Native.Nat.{ℕ, _+_, _≤_, _-_}
 use mathlib.Core.Path.{_≡_, refl, sym, ap, ap₂, _∙_}
 use native.Mathlib.Omega.{arith}
@@ -8,8 +8,8 @@ use Rattle.heading_rules.specs.Heading.{sheetLevels}
 use Rattle.heading_rules.proofs.Lawful.{is-lawful}
 use Rattle.layout.proofs.Sums.{sum-none, sum-more}
 use Rattle.block_map.proofs.Rows.{order-below, levels-small, rows-small}
-use Rattle.block_map.proofs.row_start.Statement.{statement}
-use Rattle.block_map.proofs.row_start.Tie as tie
+use Rattle.block_map.proofs.first_row.Statement.{statement}
+use Rattle.block_map.proofs.first_row.Tie as tie
 
 abbrev Inv-loop : tie.InvT-loop
 Inv-loop j y before sum₀ i₀ sum i = (before ≡ getD (y .order) j 0) × (before ≤ 8) × (i ≤ before) × (sum ≡ Blocks.sum (sheetLevels y (y .k)) i)
@@ -57,8 +57,8 @@ returns c =
     let l = c .before .loop in
     l .inv .3 ∙ ap (λ (n : ℕ). Blocks.sum (sheetLevels (a .t1) (a .t1 .k)) n) (omega arith)
 
-pub row-start-spec : {M : Type 1} → statement M
-row-start-spec =
+pub first-row-spec : {M : Type 1} → statement M
+first-row-spec =
     tie.close
     (tie.spec
     Inv-loop
