@@ -1,9 +1,8 @@
 -- What the program prints, from each answer on.
 use Prim.Native.Nat.{ℕ, zero, _+_, _≤_, _<_}
 use mathlib.Core.Path.{_≡_, refl, sym, ap, subst, _∙_}
-use mathlib.Core.Bool.{Bool, true, false, _&&_, true≢false, and-eq-true-iff}
-use mathlib.Core.List.{List, [], _∷_, append-nil}
-use mathlib.Core.Option.{Option, none, some}
+use mathlib.Core.Bool.{Bool, true, false, _&&_, and-eq-true-iff}
+use mathlib.Core.List.{List, [], append-nil}
 use native.Mathlib.Omega.{arith}
 use native.Mathlib.Nat.{mul-le-mul}
 use lib.Dec.{eqb}
@@ -11,10 +10,9 @@ use lib.ListN.{length, take, drop, replicate}
 use lib.Ieee.{Float}
 use borrow.Author.Tests.{eqb-true, lt-ltb, le-ltb}
 use Rattle.refusal.specs.declared.Answer.{Answer}
-use Rattle.refusal.specs.declared.Answer.the-variants.{Accepted, Refused}
+use Rattle.refusal.specs.declared.Answer.the-variants.{Accepted}
 use Rattle.storage.proofs.Parts.{part-same, drop-store}
-use Rattle.order.specs.Steps.{Step, named, after, rustOrder}
-use Rattle.order.specs.Progress.{all, done}
+use Rattle.order.specs.Steps.{rustOrder}
 use Rattle.rules.specs.Arithmetic.{ieee}
 use Rattle.sheet.specs.declared.Cursor.{Cursor}
 use Rattle.sheet.specs.declared.Reading.the-variants.{Sheet as Read, Refused as Unread}
@@ -25,16 +23,15 @@ use Rattle.sheet.specs.Fault.{refusalOf}
 use Rattle.sheet.specs.Answer.{Answers}
 use Rattle.sheet.proofs.Whole.{read-whole}
 use Rattle.layout.specs.declared.Layout.{Layout}
-use Rattle.heading_rules.specs.declared.Progress.{Progress}
-use Rattle.layout.specs.Shapes.{pick}
-use Rattle.heading_rules.specs.Heading.{layoutOf, progressOf, stageOf, headed, underWay, idle}
+use Rattle.heading_rules.specs.Heading.{layoutOf, headed, underWay}
 use Rattle.heading_rules.proofs.Fits.{fits}
 use Rattle.heading_rules.proofs.Lawful.{is-lawful}
-use Rattle.workspace.specs.Memory.{Workspace, headingWith}
-use Rattle.workspace.specs.Answers.{Outcome, space, untouched, firstInfinite, unlessAt}
+use Rattle.workspace.specs.Memory.{headingWith}
+use Rattle.workspace.specs.Answers.{Outcome, space}
 use Rattle.workspace.specs.Load.{loadSheet}
-use Rattle.update.specs.Calls.{advanced, isUnderWay, stepped, refusedBy, onPivot, stepOf, goOn, runOf, begun, beginOf}
-use Rattle.moves.proofs.Kept.{layout-kept, length-kept}
+use Rattle.update.specs.Calls.{runOf, beginOf}
+use Rattle.moves.proofs.Kept.{layout-kept}
+use Rattle.moves.proofs.Calls.{begin-accepted, run-kept}
 use Rattle.ready_step.specs.Underway.{isRefused, Underway, Ran}
 use Rattle.ready_step.proofs.Turns.{just-begun}
 use Rattle.loading.proofs.Facts.{few-entries}
@@ -47,38 +44,17 @@ use Rattle.refusal_text.specs.Text.{Text}
 pub answered : (f : Answer → List ℕ) (a b : Answer) (n : ℕ) (old out : List ℕ) → a ≡ b → Text (f b) n old out → Text (f a) n old out
 answered f a b n old out e t = subst (λ (x : Answer). Text (f x) n old out) (sym e) t
 
-abbrev isAccepted : Answer → Bool
-isAccepted Accepted = true
-isAccepted (Refused r) = false
-
 -- ---- begin
 module _ (h : List ℕ) (w theta : List Float) where
-  -- where begin accepts, there is a workspace, and theta has a number for each of its blocks
-  pub begin-accepted : (a : Answer) (h₁ : List ℕ) (w₁ : List Float) → record { answer = a; left = space h₁ w₁ } ≡ beginOf h w theta → a ≡ Accepted
-      → (headed h (length w) ≡ true) × (length theta ≡ layoutOf h .k) × (h₁ ≡ headingWith h (underWay (layoutOf h .k)))
-  unfolding beginOf begun
-  begin-accepted a h₁ w₁ e q =
-      go (headed h (length w)) refl (eqb (length theta) (layoutOf h .k)) refl (firstInfinite 0 theta)
-      (ap (λ (o : Outcome). isAccepted (o .answer)) (sym e) ∙ ap isAccepted q)
-      (ap (λ (o : Outcome). o .left .heading) e)
-    where
-      go : (x : Bool) → headed h (length w) ≡ x → (y : Bool) → eqb (length theta) (layoutOf h .k) ≡ y → (i : Option ℕ)
-          → isAccepted (pick x (pick y (unlessAt i (λ i. untouched h w 14 0 i) (record { answer = Accepted; left = begun h w theta })) (untouched h w 13 0 0)) (untouched h w 20 0 0) .answer) ≡ true
-          → h₁ ≡ pick x (pick y (unlessAt i (λ i. untouched h w 14 0 i) (record { answer = Accepted; left = begun h w theta })) (untouched h w 13 0 0)) (untouched h w 20 0 0) .left .heading
-          → (headed h (length w) ≡ true) × (length theta ≡ layoutOf h .k) × (h₁ ≡ headingWith h (underWay (layoutOf h .k)))
-      go true p true r none t s = (p, eqb-true _ _ r, s)
-      go true p true r (some i) t s = absurd (true≢false (sym t))
-      go true p false r i t s = absurd (true≢false (sym t))
-      go false p y r i t s = absurd (true≢false (sym t))
-
-  -- and what it leaves waits for the steps in the Rust's order, with the same blocks
+  -- what an accepted begin leaves waits for the steps in the Rust's order, with the same blocks
   pub begun-underway : (a : Answer) (h₁ : List ℕ) (w₁ : List Float) → length w₁ ≡ length w → record { answer = a; left = space h₁ w₁ } ≡ beginOf h w theta → a ≡ Accepted
       → Underway (space h₁ w₁) (rustOrder (length theta)) × (layoutOf h₁ .k ≡ length theta)
   begun-underway a h₁ w₁ long e q =
-      let b = begin-accepted a h₁ w₁ e q in
+      let b = begin-accepted h w theta (ap (λ (o : Outcome). o .answer) (sym e) ∙ q) in
+      let left : h₁ ≡ headingWith h (underWay (layoutOf h .k)) = ap (λ (o : Outcome). o .left .heading) e ∙ b .2 in
       let same : layoutOf h₁ .k ≡ length theta =
-      ap (λ (x : List ℕ). layoutOf x .k) (b .2) ∙ ap (λ (y : Layout). y .k) (layout-kept h (fits h (length w) (b .0) .long) (underWay (layoutOf h .k))) ∙ sym (b .1) in
-      (subst (λ (k : ℕ). Underway (space h₁ w₁) (rustOrder k)) same (just-begun h (space h₁ w₁) (ap (headed h) long ∙ b .0) (b .2)), same)
+      ap (λ (x : List ℕ). layoutOf x .k) left ∙ ap (λ (y : Layout). y .k) (layout-kept h (fits h (length w) (b .0) .long) (underWay (layoutOf h .k))) ∙ sym (b .1) in
+      (subst (λ (k : ℕ). Underway (space h₁ w₁) (rustOrder k)) same (just-begun h (space h₁ w₁) (ap (headed h) long ∙ b .0) left), same)
 
   -- the text of begin's outcome
   pub begin-out : (k : ℕ) (a : Answer) (h₁ : List ℕ) (w₁ : List Float) (n : ℕ) (old out : List ℕ) → record { answer = a; left = space h₁ w₁ } ≡ beginOf h w theta
@@ -86,50 +62,10 @@ module _ (h : List ℕ) (w theta : List Float) where
   unfolding factorWith
   begin-out k a h₁ w₁ n old out e t = subst (λ (o : Outcome). Text (afterBegin (o .answer) (o .left) k) n old out) e t
 
--- ---- the steps keep the layout
+-- ---- the steps
 -- a workspace has at most eight blocks
 pub few-blocks : (h : List ℕ) (w : List Float) (k : ℕ) → headed h (length w) ≡ true → layoutOf h .k ≡ k → k ≤ 8
 few-blocks h w k ok e = omega (arith, is-lawful (layoutOf h) (fits h (length w) ok .layout) .blocks .1)
-
--- the same layout, in a heading that is long enough
-abbrev Kept : List ℕ → Outcome → Type 0
-Kept h o = (layoutOf (o .left .heading) ≡ layoutOf h) × (128 ≤ length (o .left .heading))
-
-module _ (h : List ℕ) (w : List Float) (long : 128 ≤ length h) where
-  with-kept : (g : Progress) → (layoutOf (headingWith h g) ≡ layoutOf h) × (128 ≤ length (headingWith h g))
-  with-kept g = (layout-kept h long g, omega (arith, length-kept h long g))
-
-  pivot-kept : (r : Option ℕ) (s : Step) → Kept h (onPivot h w r s)
-  unfolding stepped
-  pivot-kept none s = with-kept (advanced (progressOf h) s)
-  pivot-kept (some r) s = with-kept (idle (layoutOf h .k))
-
-  pick-kept : (b : Bool) (x z : Outcome) → Kept h x → Kept h z → Kept h (pick b x z)
-  pick-kept true x z p q = p
-  pick-kept false x z p q = q
-
-  step-kept : (s : Step) → Kept h (stepOf h w s)
-  unfolding stepOf
-  step-kept s =
-      let d : Step → Bool = done (stageOf (progressOf h)) in
-      pick-kept (headed h (length w)) _ _
-      (pick-kept (isUnderWay (progressOf h .state)) _ _
-      (pick-kept (named (layoutOf h .k) s) _ _ (pick-kept (d s) _ _ (refl, long) (pick-kept (all d (after s)) _ _ (pivot-kept (refusedBy h w s) s) (refl, long))) (refl, long))
-      (refl, long))
-      (refl, long)
-
--- a step, and what goes on from there
-on-kept : (h : List ℕ) (o : Outcome) → Kept h o → (next : Workspace → Outcome) → ((v : Workspace) → 128 ≤ length (v .heading) → layoutOf (next v .left .heading) ≡ layoutOf (v .heading))
-    → (a : Answer) → layoutOf (goOn a o next .left .heading) ≡ layoutOf h
-on-kept h o p next f Accepted = f (o .left) (p .1) ∙ p .0
-on-kept h o p next f (Refused r) = p .0
-
-pub run-kept : (l : List Step) (v : Workspace) → 128 ≤ length (v .heading) → layoutOf (runOf v l .left .heading) ≡ layoutOf (v .heading)
-unfolding runOf
-run-kept [] v long = refl
-run-kept (s ∷ l) v long =
-    let o : Outcome = stepOf (v .heading) (v .doubles) s in
-    on-kept (v .heading) o (step-kept (v .heading) (v .doubles) long s) (λ u. runOf u l) (λ u m. run-kept l u m) (o .answer)
 
 -- what an accepted run leaves is a workspace
 pub run-headed : (h : List ℕ) (w : List Float) (k : ℕ) (a : Answer) (h₁ : List ℕ) (w₁ : List Float) → Underway (space h w) (rustOrder k)
@@ -142,7 +78,7 @@ pub run-out : (h : List ℕ) (w : List Float) (k : ℕ) (a : Answer) (h₁ : Lis
     → Text (afterBegin Accepted (space h w) k) n old out
 run-out h w k a h₁ w₁ n old out ok is e t =
     let q : layoutOf h₁ .k ≡ k =
-    ap (λ (o : Outcome). layoutOf (o .left .heading) .k) e ∙ ap (λ (y : Layout). y .k) (run-kept (rustOrder k) (space h w) (fits h (length w) ok .long)) ∙ is in
+    ap (λ (o : Outcome). layoutOf (o .left .heading) .k) e ∙ ap (λ (y : Layout). y .k) (run-kept (space h w) (rustOrder k)) ∙ is in
     subst (λ (o : Outcome). Text (printSteps (o .answer) (o .left) k) n old out) e (subst (λ (x : ℕ). Text (printSteps a (space h₁ w₁) x) n old out) q t)
 
 -- ---- the theta part

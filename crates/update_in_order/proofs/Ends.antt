@@ -32,7 +32,7 @@ use Rattle.update_in_order.specs.Updating.{Updating, afterRun, factored,
 use Rattle.ready_step.specs.Underway.{Underway, Ran}
 use Rattle.ready_step.proofs.Turns.{just-begun}
 use Rattle.ready_step.proofs.Runs.{outcome}
-use Rattle.update_in_order.proofs.Kept.{begin-kept, begin-heading, begin-headed, run-kept}
+use Rattle.moves.proofs.Calls.{begin-kept, begin-accepted, run-kept}
 
 abbrev updating : Updated → Workspace → Updating
 updating u v = record { answer = u; left = v }
@@ -90,12 +90,12 @@ module _ (h : List ℕ) (w theta : List Float) (a : Answer) (h′ : List ℕ) (w
         → (128 ≤ length h′) × (lawful (layoutOf h′) ≡ true) × (doublesNeeded (layoutOf h′) ≤ length w′) × Underway (space h′ w′) (rustOrder (layoutOf h′ .k))
     begun-ready p q =
         let done : beginOf h w theta .answer ≡ Accepted = ap (λ (o : Outcome). o .answer) (sym is) ∙ e in
-        let k = fits h (length w) (begin-headed h w theta done) in
+        let k = fits h (length w) (begin-accepted h w theta done .0) in
         let kept : layoutOf h′ ≡ layoutOf h = ap (λ (o : Outcome). layoutOf (o .left .heading)) is ∙ begin-kept h w theta in (
           rw p (k .long),
           rw kept (k .layout),
           rw (kept, q) (k .room),
-          just-begun h (space h′ w′) (rw q (begin-headed h w theta done)) (ap (λ (o : Outcome). o .left .heading) is ∙ begin-heading h w theta done),
+          just-begun h (space h′ w′) (rw q (begin-accepted h w theta done .0)) (ap (λ (o : Outcome). o .left .heading) is ∙ begin-accepted h w theta done .2),
         )
 
 -- ---- the deviance behind it
@@ -142,7 +142,7 @@ module _ (h : List ℕ) (w theta : List Float) where
       begin-by : (a : Answer) → beginOf h w theta .answer ≡ a → afterBegun a (beginOf h w theta) .answer ≡ Value x → Facts (afterBegun a (beginOf h w theta))
       begin-by Accepted q e =
           let v : Workspace = beginOf h w theta .left in
-          run-by (runOf v (rustOrder (layoutOf (v .heading) .k)) .answer) (runOf v (rustOrder (layoutOf (v .heading) .k))) (begin-headed h w theta q)
+          run-by (runOf v (rustOrder (layoutOf (v .heading) .k)) .answer) (runOf v (rustOrder (layoutOf (v .heading) .k))) (begin-accepted h w theta q .0)
           (run-kept v (rustOrder (layoutOf (v .heading) .k)) ∙ begin-kept h w theta) e
       begin-by (Denied r) q e = absurd (true≢false (ap isValue (sym e)))
 
