@@ -1,42 +1,20 @@
--- The zz lines of a held sheet: how many, where they stand, and the turns of the pass over them.
-use Prim.Native.Nat.{ℕ, zero, suc, _+_, _-_, _*_, _/_, _^_, _≤_, _<_}
-use mathlib.Core.Path.{_≡_, refl, sym, ap, subst, _∙_}
+-- The zz lines of a held sheet: where they stand, and the turns of the pass over them.
+use Prim.Native.Nat.{ℕ, zero, suc, _+_, _-_, _^_, _≤_, _<_}
+use mathlib.Core.Path.{_≡_, refl, sym, ap, _∙_}
 use mathlib.Core.Bool.{Bool, true, false, not, _&&_, cond, and-eq-true-iff}
 use mathlib.Core.List.{List}
 use native.Mathlib.Omega.{arith}
-use native.Mathlib.Nat.{mul-le-mul}
 use borrow.Author.Tests.{eqb-true, ltb-true, not-false}
 use lib.Dec.{ltb, leb, eqb}
 use lib.ListN.{length}
-use Rattle.sheet.specs.declared.Counts.{Counts}
 use Rattle.sheet.specs.declared.Line.{Line}
 use Rattle.sheet.specs.declared.Starts.{Starts}
 use Rattle.sheet.specs.Line.{zzTag, pairLine}
 use Rattle.sheet.specs.Run.{entryIn, keptFrom}
 use Rattle.sheet.specs.Sheet.{Sheet, accepted, readSheet}
-use Rattle.sheet.specs.Whole.{InRange}
 use Rattle.sheet.proofs.Whole.{read-whole}
 use Rattle.heading_rules.specs.Heading.{bit}
 use Rattle.columns.specs.Columns.{inRun, inPair, inTurn, entriesAt}
-
--- ---- how many
--- the two products of counts in range
-pub products : (c : Counts) → InRange c → (c .q * c .p ≤ 16776960) × (c .p * (c .p + 1) ≤ 1056)
-products c h = let p : c .p + 1 ≤ 33 = omega (arith, h .p .1) in (omega (arith, mul-le-mul (h .q) (h .p .1)), omega (arith, mul-le-mul (h .p .1) p))
-
--- the number of the line past the last, in a sheet without zz lines
-abbrev otherLines : Counts → ℕ
-otherLines c = 3 + c .k + c .q * c .p + c .q + c .p * (c .p + 1) / 2 + c .p
-
-module _ (s : List ℕ) (sheet : Sheet) (z : Starts) (e : readSheet s ≡ accepted sheet z) where
-  -- the counts, and the lines that the zz lines add
-  pub in-range : InRange (z .counts)
-  in-range = let w = read-whole s sheet z e .shape in subst InRange (sym (w .same-counts)) (w .counts)
-
-  pub lines : z .line ≡ otherLines (z .counts) + length (sheet .zz)
-  lines =
-      let w = read-whole s sheet z e .shape in
-      w .lines ∙ omega (arith, ap otherLines (w .same-counts))
 
 -- ---- the pass: an entry's line number does not count
 module _ (from cols at rows : ℕ) where

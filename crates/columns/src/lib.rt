@@ -1,36 +1,15 @@
 // Whether each level of one block has exactly one entry with the levels of another (document 01, Record 2, the gate for k = 2), read from the zz
 // lines.
-use sheet::Counts;
 use sheet::Line;
 use sheet::Starts;
 ghost use mathlib.Core.Path.{_≡_};
 ghost use mathlib.Core.Bool.{_&&_};
-ghost use mathlib.Core.List.{List};
-ghost use Prim.Native.Nat.{ℕ, _+_, _*_, _/_, _<_, _^_};
-ghost use lib.ListN.{length};
+ghost use Prim.Native.Nat.{_+_, _<_, _^_};
 ghost use Rattle.sheet.specs.Line.{zzTag, pairLine};
 ghost use Rattle.sheet.specs.Sheet.{Sheet, accepted, readSheet};
-ghost use Rattle.sheet.specs.Whole.{InRange};
 ghost use Rattle.heading_rules.specs.Heading.{bit};
 ghost use Rattle.levels.specs.Held.{Holds};
 ghost use Rattle.columns.specs.Columns.{inRun, eachOne, inTurn, entriesAt};
-
-// How many lines of a sheet are not zz lines, and one more: the number of the line past the last, in a sheet without zz lines.
-fn other_lines(c: Counts) -> u64
-    requires { ⌜ InRange c ⌝ }
-    ensures { λ r. ⌜ r ≡ 3 + c .k + c .q * c .p + c .q + c .p * (c .p + 1) / 2 + c .p ⌝ }
-{
-    3 + c.k + c.q * c.p + c.q + c.p * (c.p + 1) / 2 + c.p
-}
-
-// How many zz lines a sheet has.
-fn entries(z: Starts) -> u64
-    requires { ⌜ ((s : List ℕ) × Holds s z) ⌝ }
-    ensures { λ r. ⌜ ((s : List ℕ) (sheet : Sheet) → readSheet s ≡ accepted sheet z → r ≡ length (sheet .zz)) ⌝ }
-{
-    let c = z.counts;
-    z.line - other_lines(c)
-}
 
 // Whether x is one of the n numbers from a on.
 fn in_run(a: u64, n: u64, x: u64) -> bool
@@ -84,5 +63,5 @@ pub fn one_each(s: &[u8], z: Starts, from: u64, cols: u64, at: u64, rows: u64) -
     requires { ⌜ Holds (now s) z × (from + cols < 2 ^ 64) × (at + rows < 2 ^ 64) ⌝ }
     ensures { λ r. ⌜ ((sheet : Sheet) → readSheet (now (s .entry)) ≡ accepted sheet z → r ≡ eachOne from cols at rows (sheet .zz)) ⌝ }
 {
-    in_turn(s, z.zz, entries(z), from, cols, at, rows)
+    in_turn(s, z.zz, levels::entries(z), from, cols, at, rows)
 }

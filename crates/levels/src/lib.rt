@@ -1,12 +1,16 @@
-// The blocks of a sheet, read again from their lines (document 01, Records 1 and 2): their levels, and whether one has a slope.
+// The blocks of a sheet, read again from their lines (document 01, Records 1 and 2): their levels, and whether one has a slope. And how many zz
+// lines it has, which no line says.
+use sheet::Counts;
 use sheet::Starts;
 ghost use mathlib.Core.Path.{_≡_};
 ghost use mathlib.Core.Bool.{not};
-ghost use Prim.Native.Nat.{ℕ, _<_, _≤_};
+ghost use mathlib.Core.List.{List};
+ghost use Prim.Native.Nat.{ℕ, _+_, _*_, _/_, _<_, _≤_};
 ghost use lib.Dec.{eqb};
-ghost use lib.ListN.{getD};
+ghost use lib.ListN.{length, getD};
 ghost use Rattle.sheet.specs.Run.{Block};
 ghost use Rattle.sheet.specs.Sheet.{Sheet, accepted, readSheet};
+ghost use Rattle.sheet.specs.Whole.{InRange};
 ghost use Rattle.sheet.specs.Fault.{anyOf, hasSlope};
 ghost use Rattle.layout.specs.Blocks.{padded, sum};
 ghost use Rattle.levels.specs.Held.{Holds, levelList, blocksAt};
@@ -81,4 +85,21 @@ pub fn total(m: [u64; 8]) -> u64
     ensures { λ r. ⌜ r ≡ sum (λ i. getD m i 0) 8 ⌝ }
 {
     start(m, 8)
+}
+
+// How many lines of a sheet are not zz lines, and one more: the number of the line past the last, in a sheet without zz lines.
+fn other_lines(c: Counts) -> u64
+    requires { ⌜ InRange c ⌝ }
+    ensures { λ r. ⌜ r ≡ 3 + c .k + c .q * c .p + c .q + c .p * (c .p + 1) / 2 + c .p ⌝ }
+{
+    3 + c.k + c.q * c.p + c.q + c.p * (c.p + 1) / 2 + c.p
+}
+
+// How many zz lines a sheet has: all its lines but the others.
+pub fn entries(z: Starts) -> u64
+    requires { ⌜ ((s : List ℕ) × Holds s z) ⌝ }
+    ensures { λ r. ⌜ ((s : List ℕ) (sheet : Sheet) → readSheet s ≡ accepted sheet z → r ≡ length (sheet .zz)) × (z .line < 18446744073709551616) ⌝ }
+{
+    let c = z.counts;
+    z.line - other_lines(c)
 }

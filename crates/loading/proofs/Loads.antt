@@ -23,17 +23,11 @@ use Rattle.heading_rules.specs.Heading.{lawful}
 use Rattle.workspace.specs.Load.{doublesOf}
 use Rattle.word_places.specs.declared.Run.the-variants.{Zz, Zx, Zy, Xx, Xy, Yy}
 use Rattle.word_places.specs.Spread.{lineOf, EachLine, FiniteWord}
-use Rattle.loading.specs.Ready.{Ready, otherLines}
+use Rattle.loading.specs.Ready.{Ready}
 use Rattle.loading.specs.Runs.{runOf, firstRuns, lastRuns}
 use Rattle.loading.proofs.Positions.{each-kept}
 use Rattle.loading.proofs.Facts.{Known, known, few-entries}
 use Rattle.loading.proofs.Numbers.{doubles-made}
-
-pub product-of : (p : ℕ) → p ≤ 32 → p * (p + 1) ≤ 1056
-product-of p h = let g : p + 1 ≤ 33 = omega arith in omega (arith, mul-le-mul h g)
-
-pub grid-of : (q p : ℕ) → q ≤ 524280 → p ≤ 32 → q * p ≤ 16776960
-grid-of q p h g = omega (arith, mul-le-mul h g)
 
 -- finite words, line by line
 words-finite : (read : ℕ → Line) (words : List ℕ) (at : ℕ) → Each Finite words → words ≡ keptFrom read wordIn (length words) 0 at → EachLine FiniteWord read (length words) at
@@ -79,18 +73,6 @@ module _ (s : List ℕ) (z : Starts) (y : Layout) (r : Ready s z y) where
   pub xy-count : y .p ≡ length (sheet .xy)
   xy-count = sym (whole .shape .xy-length ∙ knows .p-is)
 
-  all-lines : z .line ≡ length (sheet .zz) + otherLines y
-  all-lines =
-      let e : sheet .counts .q * sheet .counts .p ≡ y .q * y .p = ap₂ (λ (a b : ℕ). a * b) (knows .q-is) (knows .p-is) in
-      let f : sheet .counts .p * (sheet .counts .p + 1) / 2 ≡ y .p * (y .p + 1) / 2 = ap (λ (p : ℕ). p * (p + 1) / 2) (knows .p-is) in
-      omega (arith, whole .shape .lines, knows .k-is, knows .q-is, knows .p-is)
-
-  pub lines-left : otherLines y ≤ z .line
-  lines-left = omega (arith, all-lines)
-
-  pub zz-count : (n : ℕ) → n + otherLines y ≡ z .line → n ≡ length (sheet .zz)
-  zz-count n e = omega (arith, all-lines)
-
   pub zz-few : length (sheet .zz) ≤ 274869518400
   zz-few =
       omega (arith, few-entries (sheet .counts .q) (sheet .zz) (whole .shape .zz) (whole .shape .zz-rising), mul-le-mul (whole .shape .counts .q) (whole .shape .counts .q))
@@ -119,13 +101,13 @@ module _ (s : List ℕ) (z : Starts) (y : Layout) (r : Ready s z y) where
 
   -- ---- all of it
 
-  pub first-made : (w₀ w₁ w₂ w₃ : List Float) (n : ℕ) → n + otherLines y ≡ z .line → w₁ ≡ runOf Zz s y n 0 (z .zz) w₀ → w₂ ≡ runOf Zx s y (y .q * y .p) 0 (z .zx) w₁
+  pub first-made : (w₀ w₁ w₂ w₃ : List Float) (n : ℕ) → n ≡ length (sheet .zz) → w₁ ≡ runOf Zz s y n 0 (z .zz) w₀ → w₂ ≡ runOf Zx s y (y .q * y .p) 0 (z .zx) w₁
       → w₃ ≡ runOf Zy s y (y .q) 0 (z .zy) w₂ → (x : Sheet) → readSheet s ≡ accepted x z → w₃ ≡ firstRuns s x z y w₀
   unfolding firstRuns
   first-made w₀ w₁ w₂ w₃ n e a b c x f =
       subst (λ (x : Sheet). w₃ ≡ firstRuns s x z y w₀) (one-sheet x f)
       (c ∙ ap₂ (λ (m : ℕ) (w : List Float). runOf Zy s y m 0 (z .zy) w) zy-count
-      (b ∙ ap₂ (λ (m : ℕ) (w : List Float). runOf Zx s y m 0 (z .zx) w) zx-count (a ∙ ap (λ (m : ℕ). runOf Zz s y m 0 (z .zz) w₀) (zz-count n e))))
+      (b ∙ ap₂ (λ (m : ℕ) (w : List Float). runOf Zx s y m 0 (z .zx) w) zx-count (a ∙ ap (λ (m : ℕ). runOf Zz s y m 0 (z .zz) w₀) e)))
 
   pub last-made : (w₀ w₁ w₂ w₃ : List Float) → w₁ ≡ runOf Xx s y (y .p * (y .p + 1) / 2) 0 (z .xx) w₀ → w₂ ≡ runOf Xy s y (y .p) (y .p * (y .p + 1) / 2) (z .xy) w₁
       → w₃ ≡ runOf Yy s y 1 (y .p * (y .p + 1) / 2 + y .p) (z .yy) w₂ → (x : Sheet) → readSheet s ≡ accepted x z → w₃ ≡ lastRuns s x z y w₀

@@ -1,34 +1,26 @@
 // The numbers of a sheet into a workspace (document 01, Record 3): every double that the formula counts becomes +0.0, and then each word of the
 // sheet goes into its place. Definitions are in the crates workspace, specs/Loaded.antt, and word_places, specs/Spread.antt.
 ghost use mathlib.Core.Path.{_≡_};
-ghost use Prim.Native.Nat.{_+_, _*_, _/_, _≤_};
+ghost use Prim.Native.Nat.{_≤_};
 ghost use lib.ListN.{length};
 ghost use Rattle.storage.specs.Part.{store};
 ghost use Rattle.sheet.specs.Sheet.{Sheet, accepted, readSheet};
 ghost use Rattle.layout.specs.Shapes.{doublesNeeded};
 ghost use Rattle.workspace.specs.Load.{doublesOf};
 ghost use Rattle.block_map.specs.Blocks.{Maps};
-ghost use Rattle.loading.specs.Ready.{Ready, otherLines};
+ghost use Rattle.loading.specs.Ready.{Ready};
 ghost use Rattle.loading.specs.Runs.{firstRuns, lastRuns};
 use block_map::Map;
 use layout::Layout;
 use sheet::Starts;
 use word_places::Run;
 
-// How many zz lines a sheet has: all its lines but the others.
-pub fn entries_of(z: Starts, y: Layout) -> u64
-    requires { ⌜ (y .q ≤ 524280) × (y .p ≤ 32) × (y .k ≤ 8) × (otherLines y ≤ z .line) ⌝ }
-    ensures { λ r. ⌜ r + otherLines y ≡ z .line ⌝ }
-{
-    z.line - (3 + y.k + y.q * y.p + y.q + y.p * (y.p + 1) / 2 + y.p)
-}
-
 // Z'Z, Z'X and Z'y.
 fn first_runs(s: &[u8], z: Starts, y: Layout, m: Map, w: &mut [f64])
     requires { ⌜ Ready (now s) z y × Maps y m ⌝ }
     ensures { λ _. ⌜ ((sheet : Sheet) → readSheet (now (s .entry)) ≡ accepted sheet z → now (w .exit) ≡ firstRuns (now (s .entry)) sheet z y (now (w .entry))) ⌝ }
 {
-    scatter::scatter(Run::Zz, s, z.zz, 0, entries_of(z, y), y, m, w);
+    scatter::scatter(Run::Zz, s, z.zz, 0, levels::entries(z), y, m, w);
     scatter::scatter(Run::Zx, s, z.zx, 0, y.q * y.p, y, m, w);
     scatter::scatter(Run::Zy, s, z.zy, 0, y.q, y, m, w);
 }

@@ -2,7 +2,7 @@
 // one pass for each group of columns.
 ghost use mathlib.Core.Path.{_≡_};
 ghost use mathlib.Core.Bool.{true};
-ghost use Prim.Native.Nat.{_+_, _*_, _/_, _<_, _≤_};
+ghost use Prim.Native.Nat.{_<_};
 ghost use Rattle.sheet.specs.Sheet.{Sheet, accepted, readSheet};
 ghost use Rattle.sheet.specs.Fault.{coversRows};
 ghost use Rattle.layout.specs.Blocks.{padded};
@@ -10,14 +10,6 @@ ghost use Rattle.levels.specs.Held.{levelList};
 ghost use Rattle.cursors.specs.Held.{held, Given, Levelled};
 ghost use Rattle.mirror_pass.specs.Mirror.{Found, Judged};
 use sheet::Starts;
-
-// The number of zz lines of a sheet whose lines end before `line`: all but size and yy, those of the blocks, and one for each word of zx, zy, xx and xy.
-fn count(line: u64, k: u64, q: u64, p: u64) -> u64
-    requires { ⌜ (k ≤ 8) × (q ≤ 524280) × (p ≤ 32) × (3 + k + q * p + q + p * (p + 1) / 2 + p ≤ line) ⌝ }
-    ensures { λ r. ⌜ (r + (3 + k + q * p + q + p * (p + 1) / 2 + p) ≡ line) × (line < 18446744073709551616) ⌝ }
-{
-    line - (3 + k + q * p + q + p * (p + 1) / 2 + p)
-}
 
 // A pass for at most 1,024 columns: a small sheet sets up 8 KiB of cursors, not 512.
 fn few(s: &[u8], z: Starts, m: [u64; 8], n: u64) -> u64
@@ -60,7 +52,7 @@ pub fn faulty_line(s: &[u8], z: Starts, m: [u64; 8]) -> u64
     requires { ⌜ ((sheet : Sheet) × (readSheet (now s) ≡ accepted sheet z) × (coversRows sheet ≡ true) × (m ≡ padded 8 (levelList (sheet .blocks)))) ⌝ }
     ensures { λ r. ⌜ ((sheet : Sheet) → readSheet (now (s .entry)) ≡ accepted sheet z → m ≡ padded 8 (levelList (sheet .blocks)) → Found sheet r) ⌝ }
 {
-    let n = count(z.line, z.counts.k, z.counts.q, z.counts.p);
+    let n = levels::entries(z);
     if n == 0 {
         return 0;
     }

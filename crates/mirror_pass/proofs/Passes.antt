@@ -1,5 +1,5 @@
 -- The end of a pass over the zz lines, and the groups of columns.
-use Prim.Native.Nat.{ℕ, _+_, _-_, _*_, _/_, _<_, _≤_}
+use Prim.Native.Nat.{ℕ, _+_, _-_, _*_, _<_, _≤_}
 use mathlib.Core.Path.{_≡_, refl, sym, _∙_, ap, subst}
 use mathlib.Core.Logic.{_⊎_, inl, inr}
 use mathlib.Core.Bool.{Bool, true, false, _&&_, false≢true}
@@ -18,7 +18,6 @@ use Rattle.sheet.specs.Run.{Entry, entryIn}
 use Rattle.sheet.specs.Sheet.{Sheet, accepted, readSheet}
 use Rattle.sheet.specs.Fault.{Fault, coversRows}
 use Rattle.sheet.proofs.Lines.{both}
-use Rattle.sheet.proofs.Whole.{read-whole}
 use Rattle.layout.specs.Blocks.{padded}
 use Rattle.levels.specs.Held.{levelList}
 use Rattle.cursors.specs.Held.{sheetIn, held, entryOf, placeOf, Given, Levelled}
@@ -206,25 +205,16 @@ held-is s e = ap sheetIn e
 pub found-for : (s : List ℕ) {z : Starts} {sheet : Sheet} {r : ℕ} → readSheet s ≡ accepted sheet z → Found (held s) r → Found sheet r
 found-for s {r = r} e f = subst (λ (x : Sheet). Found x r) (held-is s e) f
 
--- the number of zz lines, from the line past the last
+-- what a search for number 9 is given
 module _ (s : List ℕ) {z : Starts} {m : List ℕ} (e : (sheet : Sheet) × (readSheet s ≡ accepted sheet z) × (coversRows sheet ≡ true) × (m ≡ padded 8 (levelList (sheet .blocks)))) where
   same-read : readSheet s ≡ accepted (held s) z
   same-read = e .1 ∙ ap (λ (x : Sheet). accepted x z) (sym (held-is s (e .1)))
 
-  pub counted : let c = z .counts in
-      (c .k ≤ 8) × (c .q ≤ 524280) × (c .p ≤ 32)
-      × (z .line ≡ length (held s .zz) + (3 + c .k + c .q * c .p + c .q + c .p * (c .p + 1) / 2 + c .p))
-  counted =
-      let w = read-whole s (held s) z same-read .shape in
-      subst
-      (λ (c : Counts). (c .k ≤ 8) × (c .q ≤ 524280) × (c .p ≤ 32) × (z .line ≡ length (held s .zz) + (3 + c .k + c .q * c .p + c .q + c .p * (c .p + 1) / 2 + c .p)))
-      (sym (w .same-counts)) (w .counts .k, w .counts .q, w .counts .p .1, omega (arith, w .lines))
-
-  pub given : {n : ℕ} → let c = z .counts in n + (3 + c .k + c .q * c .p + c .q + c .p * (c .p + 1) / 2 + c .p) ≡ z .line → z .line < 18446744073709551616 → Given s z n
+  pub given : {n : ℕ} → ((s : List ℕ) (sheet : Sheet) → readSheet s ≡ accepted sheet z → n ≡ length (sheet .zz)) → z .line < 18446744073709551616 → Given s z n
   given h k =
       record {
         read = same-read;
-        count = omega (arith, counted .3);
+        count = h s (held s) same-read;
         fits = k;
       }
 

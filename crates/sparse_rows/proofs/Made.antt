@@ -28,9 +28,9 @@ use Rattle.block_map.specs.Blocks.{blockOf}
 use Rattle.block_map.proofs.Rows.{in-block, block-in, block-is, is-in-block}
 use Rattle.word_places.specs.Spread.{spread}
 use Rattle.loading.proofs.Positions.{true-false, spread-length, missed, chosen, Only, count-only, entries-missed, entry-put}
-use Rattle.loading.specs.Ready.{Ready, otherLines}
+use Rattle.loading.specs.Ready.{Ready}
 use Rattle.loading.proofs.Facts.{Known}
-use Rattle.loading.proofs.Loads.{whole, knows, one-sheet, zz-count}
+use Rattle.loading.proofs.Loads.{whole, knows, one-sheet}
 use Rattle.sparse_rows.specs.Rows.{rowPlace, putRow}
 
 -- the one entry that passes gives its row, whatever else would stand there
@@ -182,10 +182,10 @@ pub unpicked : (b : Bool) (l w : List ℕ) → b ≡ false → w ≡ store 128 (
 unpicked true l w e = absurd (true-false refl e)
 unpicked false l w e = sym (store-nil 128 w)
 
-pub rows-loaded : (s : List ℕ) (z : Starts) (y : Layout) → Ready s z y → y .sparse ≡ true → (n : ℕ) → n + otherLines y ≡ z .line → (w w′ : List ℕ) → length w ≤ nowhere → numbersNeeded y ≤ length w
+pub rows-loaded : (s : List ℕ) (z : Starts) (y : Layout) (r : Ready s z y) → y .sparse ≡ true → (n : ℕ) → n ≡ length (r .0 .zz) → (w w′ : List ℕ) → length w ≤ nowhere → numbersNeeded y ≤ length w
     → w′ ≡ spread (putRow y) (pairLine zzTag s) n 0 (z .zz) w → (x : Sheet) → readSheet s ≡ accepted x z
     → w′ ≡ store 128 (pick (y .sparse) (tab (levels y 0) (entryRowIn x y)) []) w
 rows-loaded s z y r q n e w w′ low fits made x f =
     subst (λ (x : Sheet). w′ ≡ store 128 (pick (y .sparse) (tab (levels y 0) (entryRowIn x y)) []) w) (one-sheet s z y r x f)
-    (made ∙ ap (λ (m : ℕ). spread (putRow y) (pairLine zzTag s) m 0 (z .zz) w) (zz-count s z y r n e)
+    (made ∙ ap (λ (m : ℕ). spread (putRow y) (pairLine zzTag s) m 0 (z .zz) w) e
     ∙ picked s (r .0) z y (knows s z y r) (whole s z y r) (y .sparse) q q w low fits)

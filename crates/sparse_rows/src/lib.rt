@@ -64,6 +64,6 @@ pub fn load_rows(s: &[u8], z: Starts, y: Layout, h: &mut [u32])
 {
     if y.sparse {
         let m = row_map::map_of(y);
-        put_rows(s, z.zz, loading::entries_of(z, y), y, m, h);
+        put_rows(s, z.zz, levels::entries(z), y, m, h);
     }
 }

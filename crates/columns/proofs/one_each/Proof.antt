@@ -8,7 +8,7 @@ use Rattle.columns.proofs.one_each.Statement.{statement}
 use Rattle.columns.proofs.one_each.Tie as tie
 use Rattle.columns.proofs.one_each.Reads as reads
 use Rattle.columns.proofs.one_each.Lts as lts
-use Rattle.columns.proofs.entries.Reads as entries-reads
+use Rattle.levels.proofs.entries.Reads as entries-reads
 use Rattle.columns.proofs.in_turn.Reads as in-turn-reads
 
 entries-requires : tie.Need-entries-requires
@@ -21,7 +21,7 @@ returns : tie.Need-returns
 returns c =
     λ sheet e.
     c .in-turn .ensures
-    ∙ held-turn _ _ _ _ _ sheet _ e _ (c .before .entries .ensures _ sheet e)
+    ∙ held-turn _ _ _ _ _ sheet _ e _ (c .before .entries .ensures .0 _ sheet e)
     ∙ turn-is _ _ _ _ (sheet .zz) (read-whole _ sheet _ e .shape .zz-rising)
 
 pub one-each-spec : {M : Type 1} → statement M

@@ -5,27 +5,25 @@ use native.Mathlib.Omega.{arith}
 use denote.Ref.{now}
 use Rattle.word_places.specs.declared.Run.the-variants.{Zz, Zx, Zy}
 use Rattle.word_places.specs.Spread.{lineOf, EachLine, FiniteWord}
-use Rattle.loading.proofs.Loads.{ready-lawful, few-q, few-p, few-k, grid-of, lines-left, zz-count, zz-few, zz-lines, zx-count, zx-lines, zy-count, zy-lines, first-made}
+use Rattle.levels.proofs.Counting.{grid-of}
+use Rattle.loading.proofs.Loads.{ready-lawful, few-q, few-p, zz-few, zz-lines, zx-count, zx-lines, zy-count, zy-lines, first-made}
 use borrow.Author.Needs.{needs}
 use Rattle.loading.proofs.first_runs.Statement.{statement}
 use Rattle.loading.proofs.first_runs.Tie as tie
 
-entries-of-requires : tie.Need-entries-of-requires
-entries-of-requires c κs =
-    let st = c .before .before in
-    let a = st .args in
-    let r = st .pre .0 in
-    (few-q (now (a .s)) (a .z) (a .y) r, few-p (now (a .s)) (a .z) (a .y) r, few-k (now (a .s)) (a .z) (a .y) r, lines-left (now (a .s)) (a .z) (a .y) r)
+entries-requires : tie.Need-entries-requires
+entries-requires c κs = let st = c .before .before in let r = st .pre .0 in (now (st .args .s), (r .0, r .1))
 
 scatter-requires : tie.Need-scatter-requires
 scatter-requires c κs =
     let st = c .before .before .before .before in
     let a = st .args in
-    let r = st .pre .0 in (
+    let r = st .pre .0 in
+    let count = c .before .entries .ensures .0 (now (a .s)) (r .0) (r .1) in (
       ready-lawful (now (a .s)) (a .z) (a .y) r,
       st .pre .1,
-      omega (arith, zz-few (now (a .s)) (a .z) (a .y) r, zz-count (now (a .s)) (a .z) (a .y) r (c .before .entries-of .result) (c .before .entries-of .ensures)),
-      subst (λ (n : ℕ). EachLine FiniteWord (lineOf Zz (now (a .s))) n (a .z .zz)) (sym (zz-count (now (a .s)) (a .z) (a .y) r (c .before .entries-of .result) (c .before .entries-of .ensures))) (zz-lines (now (a .s)) (a .z) (a .y) r),
+      omega (arith, zz-few (now (a .s)) (a .z) (a .y) r, count),
+      subst (λ (n : ℕ). EachLine FiniteWord (lineOf Zz (now (a .s))) n (a .z .zz)) (sym count) (zz-lines (now (a .s)) (a .z) (a .y) r),
     )
 
 mul-scatter : tie.Need-mul-scatter
@@ -64,14 +62,14 @@ returns : tie.Need-returns
 returns c =
     let st = c .before .before .before .before .before .before .before .before .before .before .before .before .before .before .before .before in
     let a = st .args in
-    first-made (now (a .s)) (a .z) (a .y) (st .pre .0) (now (a .w)) _ _ _ (c .before .before .before .before .before .before .before .before .before .before .before .before .before .entries-of .result) (c .before .before .before .before .before .before .before .before .before .before .before .before .before .entries-of .ensures)
+    first-made (now (a .s)) (a .z) (a .y) (st .pre .0) (now (a .w)) _ _ _ (c .before .before .before .before .before .before .before .before .before .before .before .before .before .entries .result) (c .before .before .before .before .before .before .before .before .before .before .before .before .before .entries .ensures .0 (now (a .s)) (st .pre .0 .0) (st .pre .0 .1))
     (c .before .before .before .before .before .before .before .before .before .before .before .scatter .ensures) (c .before .before .before .before .before .before .scatter2 .ensures) (c .before .before .scatter3 .ensures)
 
 pub first-runs-spec : {M : Type 1} → statement M
 first-runs-spec =
     tie.close
     (tie.spec
-    entries-of-requires
+    entries-requires
     scatter-requires
     mul-scatter
     scatter-requires-2

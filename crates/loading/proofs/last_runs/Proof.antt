@@ -5,7 +5,8 @@ use native.Mathlib.Omega.{arith}
 use denote.Ref.{now}
 use Rattle.word_places.specs.declared.Run.the-variants.{Xx, Xy}
 use Rattle.word_places.specs.Spread.{lineOf, EachLine, FiniteWord}
-use Rattle.loading.proofs.Loads.{ready-lawful, few-p, product-of, xx-count, xx-lines, xy-count, xy-lines, yy-lines, last-made}
+use Rattle.levels.proofs.Counting.{product-of}
+use Rattle.loading.proofs.Loads.{ready-lawful, few-p, xx-count, xx-lines, xy-count, xy-lines, yy-lines, last-made}
 use borrow.Author.Needs.{needs}
 use Rattle.loading.proofs.last_runs.Statement.{statement}
 use Rattle.loading.proofs.last_runs.Tie as tie

@@ -5,7 +5,7 @@ use lib.ListN.{length}
 use Rattle.storage.specs.Runs.{tab}
 use Rattle.layout.specs.Shapes.{levels}
 use Rattle.workspace.specs.Loaded.{entryRowIn}
-use Rattle.loading.proofs.Loads.{ready-lawful, knows, few-q, few-p, few-k, lines-left}
+use Rattle.loading.proofs.Loads.{ready-lawful, knows}
 use Rattle.sparse_rows.proofs.Made.{sparse-room, unpicked, rows-loaded}
 use borrow.Author.Needs.{needs}
 use Rattle.sparse_rows.proofs.load_rows.Statement.{statement}
@@ -18,12 +18,8 @@ map-of-requires c κs =
     let r = st .pre .0 in
     ready-lawful (now (a .s)) (a .z) (a .y) r
 
-entries-of-requires : tie.Need-entries-of-requires
-entries-of-requires c κs =
-    let st = c .before .before .before .before in
-    let a = st .args in
-    let r = st .pre .0 in
-    (few-q (now (a .s)) (a .z) (a .y) r, few-p (now (a .s)) (a .z) (a .y) r, few-k (now (a .s)) (a .z) (a .y) r, lines-left (now (a .s)) (a .z) (a .y) r)
+entries-requires : tie.Need-entries-requires
+entries-requires c κs = let st = c .before .before .before .before in let r = st .pre .0 in (now (st .args .s), (r .0, r .1))
 
 put-rows-requires : tie.Need-put-rows-requires
 put-rows-requires c κs =
@@ -44,7 +40,7 @@ returns : tie.Need-returns
 returns c =
     let st = c .before .before .before .before .before .before .before .before .before in
     let a = st .args in
-    rows-loaded (now (a .s)) (a .z) (a .y) (st .pre .0) (c .before .before .before .before .before .before .if1 .taken) (c .before .before .before .before .entries-of .result) (c .before .before .before .before .entries-of .ensures) (now (a .h)) _ (omega arith) (st .pre .1) (c .before .before .put-rows .ensures)
+    rows-loaded (now (a .s)) (a .z) (a .y) (st .pre .0) (c .before .before .before .before .before .before .if1 .taken) (c .before .before .before .before .entries .result) (c .before .before .before .before .entries .ensures .0 (now (a .s)) (st .pre .0 .0) (st .pre .0 .1)) (now (a .h)) _ (omega arith) (st .pre .1) (c .before .before .put-rows .ensures)
 
 returns-2 : tie.Need-returns-2
 returns-2 c =
@@ -54,4 +50,4 @@ returns-2 c =
 pub load-rows-spec : {M : Type 1} → statement M
 load-rows-spec =
     tie.close
-    (tie.spec map-of-requires entries-of-requires put-rows-requires same-length returns returns-2)
+    (tie.spec map-of-requires entries-requires put-rows-requires same-length returns returns-2)

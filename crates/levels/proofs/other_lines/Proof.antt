@@ -1,11 +1,11 @@
--- `columns::other_lines`: the two products are small.
+-- `levels::other_lines`: the two products are small.
 use borrow.Author.Needs.{needs}
 use native.Mathlib.Omega.{arith}
-use Rattle.columns.proofs.Lines.{products}
-use Rattle.columns.proofs.other_lines.Statement.{statement}
-use Rattle.columns.proofs.other_lines.Tie as tie
-use Rattle.columns.proofs.other_lines.Reads as reads
-use Rattle.columns.proofs.other_lines.Lts as lts
+use Rattle.levels.proofs.Counting.{products}
+use Rattle.levels.proofs.other_lines.Statement.{statement}
+use Rattle.levels.proofs.other_lines.Tie as tie
+use Rattle.levels.proofs.other_lines.Reads as reads
+use Rattle.levels.proofs.other_lines.Lts as lts
 
 add-result : tie.Need-add-result
 add-result c = search needs
