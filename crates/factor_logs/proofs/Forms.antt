@@ -1,14 +1,14 @@
 -- How the factor of each block lies, and what the kernels make of a diagonal and of a packed triangle.
 use Prim.Native.Nat.{ℕ, zero, _+_, _≤_, _<_}
 use mathlib.Core.Path.{_≡_, refl, sym, ap, _∙_}
-use mathlib.Core.Bool.{Bool, true, false, _&&_, _||_}
+use mathlib.Core.Bool.{Bool, true, false}
 use mathlib.Core.List.{List, [], _∷_}
 use native.Mathlib.Omega.{arith}
 use lib.Dec.{eqb}
 use lib.ListN.{length, getD, take, set}
 use lib.Seq.{drop-cons}
 use lib.Ieee.{Float, nan}
-use borrow.Author.Tests.{eqb-true, eqb-false, eq-eqb, ne-eqb}
+use borrow.Author.Tests.{eq-eqb, ne-eqb}
 use Rattle.storage.specs.Shape.{packed, diagonal, sizeOf}
 use Rattle.storage.specs.Part.{part, store}
 use Rattle.storage.proofs.Starts.{start-single}
@@ -18,7 +18,9 @@ use Rattle.layout.specs.declared.Layout.{Layout}
 use Rattle.layout.specs.Shapes.{pick, levels, shape}
 use Rattle.heading_rules.specs.Heading.{lawful}
 use Rattle.heading_rules.proofs.Lawful.{is-lawful}
-use Rattle.heading_rules.proofs.Sorted.{packed-rows}
+use Rattle.block_sizes.proofs.Sizes.{below}
+use Rattle.working_blocks.specs.Rows.{rowsOf, isDiagonal}
+use Rattle.working_blocks.proofs.Shapes.{rows-level, diagonal-shape, packed-shape, packed-limit}
 use Rattle.blocks.specs.Blocks.{block}
 use Rattle.re_lower.specs.declared.Pivots.{Pivots}
 use Rattle.re_lower.proofs.Laws.{any-default}
@@ -46,32 +48,18 @@ module _ (y : Layout) (ok : lawful y ≡ true) (j : ℕ) where
   inner h e = let b = is-lawful y ok .blocks .1 in omega arith
 
   -- an earlier one
-  pub inner-form : {n : ℕ} → j ≤ y .k → (y .k ≡ j → ⊥) → n ≡ levels y j → Forms y j (eqb j 0 || (y .diagonal && eqb j 1)) n
-  unfolding shape
-  inner-form {n} h e is =
-      rw is (
-        λ row. rw (ne-eqb j (y .k) (λ q. e (sym q)), eq-eqb j j refl) (go (eqb j 0) refl (y .diagonal && eqb j 1) refl),
-        λ q. few (eqb j 0) refl (y .diagonal && eqb j 1) refl q,
-        λ z. rw (eq-eqb j 0 z) refl,
+  pub inner-form : {d : Bool} {n : ℕ} → j ≤ y .k → (y .k ≡ j → ⊥) → d ≡ isDiagonal y j → n ≡ levels y j → Forms y j d n
+  inner-form {d} {n} h e is-d is-n =
+      let l : j < y .k = below j (y .k) h (λ q. e (sym q)) in
+      let rows : n ≡ rowsOf y j = is-n ∙ sym (rows-level y j l) in (
+        λ row. rw rows (go d (sym is-d) row),
+        λ q. omega (arith, rows, packed-limit y ok j h (sym is-d ∙ q)),
+        λ z. is-d ∙ rw (eq-eqb j 0 z) refl,
       )
     where
-      go : (a : Bool) → eqb j 0 ≡ a → (b : Bool) → (y .diagonal && eqb j 1) ≡ b
-          → pick a (diagonal (levels y 0)) (pick b (diagonal (levels y 1)) (packed (levels y j))) ≡ factorShapeOf (a || b) (levels y j)
-      go true p b q = ap (λ (x : ℕ). diagonal (levels y x)) (sym (eqb-true j 0 p))
-      go false p true q = one (y .diagonal) (eqb j 1) refl q
-        where
-          one : (a c : Bool) → eqb j 1 ≡ c → (a && c) ≡ true → diagonal (levels y 1) ≡ diagonal (levels y j)
-          one true true r s = ap (λ (x : ℕ). diagonal (levels y x)) (sym (eqb-true j 1 r))
-          one true false r s = absurd (let z : _≡_ {A = ℕ} 0 1 = cc in omega arith)
-          one false c r s = absurd (let z : _≡_ {A = ℕ} 0 1 = cc in omega arith)
-      go false p false q = refl
-
-      few : (a : Bool) → eqb j 0 ≡ a → (b : Bool) → (y .diagonal && eqb j 1) ≡ b → (a || b) ≡ false → levels y j ≤ 316
-      few true p b q r = absurd (let z : _≡_ {A = ℕ} 0 1 = cc in omega arith)
-      few false p true q r = absurd (let z : _≡_ {A = ℕ} 0 1 = cc in omega arith)
-      few false p false q r =
-          let f = eqb-false j 0 p in
-          packed-rows y ok j (omega arith) (omega arith) q
+      go : (b : Bool) → isDiagonal y j ≡ b → (row : ℕ → ℕ) → shape y row j j ≡ factorShapeOf b (rowsOf y j)
+      go true t row = diagonal-shape y row j (λ q. e (sym q)) t
+      go false t row = packed-shape y row j (λ q. e (sym q)) t
 
 -- ---- the kernels, by the form
 

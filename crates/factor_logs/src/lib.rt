@@ -31,7 +31,7 @@ pub fn form_of(y: Layout, j: u64) -> Form
             rows: (y.p + 1) as usize,
         };
     }
-    let diagonal = (j == 0) | (y.diagonal & (j == 1));
+    let diagonal = working_blocks::is_diagonal(y, j);
     Form {
         diagonal,
         rows: sorted_blocks::level(y, j) as usize,

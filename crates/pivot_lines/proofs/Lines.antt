@@ -1,15 +1,14 @@
 -- The pivots' lines written one behind the other, and that 131,072 bytes are enough for those of 4,096 doubles.
 use Prim.Native.Nat.{ℕ, zero, suc, _+_, _*_, _≤_, _<_}
 use mathlib.Core.Path.{_≡_, refl, sym, ap, ap₂, subst, _∙_}
-use mathlib.Core.Bool.{Bool, true, false, _&&_, _||_}
+use mathlib.Core.Bool.{true}
 use mathlib.Core.List.{List, _++_}
+use mathlib.Core.Logic.{⊎-elim}
 use native.Mathlib.Numerals.{add-one}
 use native.Mathlib.Omega.{arith}
-use lib.Dec.{eqb}
 use lib.ListN.{length, length-append}
-use borrow.Author.Tests.{eqb-true, eqb-false}
 use lib.Ieee.{Float}
-use Rattle.storage.specs.Shape.{Shape, sizeOf, diagonal}
+use Rattle.storage.specs.Shape.{Shape, sizeOf}
 use Rattle.storage.specs.Part.{part}
 use Rattle.storage.proofs.Parts.{length-store, store-nil}
 use Rattle.layout.specs.declared.Layout.{Layout}
@@ -26,8 +25,10 @@ use Rattle.worked.specs.Program.{pivotRows, pivotLines}
 use Rattle.print.specs.Written.{Put}
 use Rattle.print.proofs.Written.{put-then}
 use Rattle.print_lines.proofs.Lines.{pivot-short}
-use Rattle.pivot_places.specs.Pivots.{rowsOf, pivotShape, pivotAt}
-use Rattle.pivot_places.proofs.Places.{shape-is, last-rows, other-rows, last-kind, diagonal-kind, packed-kind}
+use Rattle.working_blocks.specs.Rows.{rowsOf}
+use Rattle.working_blocks.proofs.Shapes.{rows-last, rows-level}
+use Rattle.pivot_places.specs.Pivots.{pivotShape, pivotAt}
+use Rattle.pivot_places.proofs.Places.{shape-is, kind}
 use Rattle.pivot_lines.specs.Lines.{rowLines, blockLines}
 
 -- ---- how many bytes
@@ -85,7 +86,7 @@ module _ (y : Layout) (w : List Float) (j : ℕ) (from : ℕ) (out₀ : List ℕ
 -- ---- how many pivots there are
 -- the blocks before the last have as many rows as levels
 sum-levels : (y : Layout) (n : ℕ) → n ≤ y .k → sum (rowsOf y) n ≡ sum (levels y) n
-sum-levels y n h = sum-same (rowsOf y) (levels y) n (λ i b. other-rows y i (λ e. omega arith))
+sum-levels y n h = sum-same (rowsOf y) (levels y) n (λ i b. rows-level y i (omega arith))
 
 -- one for each column of the random effects, each fixed effect and the response: fewer than there are doubles
 module _ (y : Layout) (ok : lawful y ≡ true) where
@@ -95,7 +96,7 @@ module _ (y : Layout) (ok : lawful y ≡ true) where
         arith,
         sum-more (rowsOf y) (y .k),
         sum-levels y (y .k) (omega arith),
-        last-rows y (y .k) refl,
+        rows-last y (y .k) refl,
         is-lawful y ok .total,
         lawful-doubles y ok,
       )
@@ -150,15 +151,7 @@ module _ (y : Layout) (w : List Float) (out₀ : List ℕ) where
 -- ---- by the layout alone they are the lines of the workspace
 -- a factor has a pivot in each row
 count-is : (y : Layout) (j : ℕ) → pivotCount (pivotShape y j) ≡ rowsOf y j
-count-is y j = go (eqb j (y .k)) refl
-  where
-    other : (j ≡ y .k → ⊥) → (b : Bool) → (eqb j 0 || (y .diagonal && eqb j 1)) ≡ b → pivotCount (pivotShape y j) ≡ rowsOf y j
-    other n true e = ap pivotCount (diagonal-kind y j n e)
-    other n false e = ap pivotCount (packed-kind y j n e)
-
-    go : (b : Bool) → eqb j (y .k) ≡ b → pivotCount (pivotShape y j) ≡ rowsOf y j
-    go true e = ap pivotCount (last-kind y j (eqb-true j (y .k) e))
-    go false e = other (eqb-false j (y .k) e) (eqb j 0 || (y .diagonal && eqb j 1)) refl
+count-is y j = ⊎-elim (ap pivotCount) (ap pivotCount) (kind y j)
 
 module _ (h : List ℕ) (w : List Float) where
   -- one pivot

@@ -4,7 +4,8 @@ use mathlib.Core.List.{List, [], _++_}
 use lib.Ieee.{Float}
 use Rattle.layout.specs.declared.Layout.{Layout}
 use Rattle.worked.specs.Print.{pivotLine}
-use Rattle.pivot_places.specs.Pivots.{rowsOf, pivotAt}
+use Rattle.working_blocks.specs.Rows.{rowsOf}
+use Rattle.pivot_places.specs.Pivots.{pivotAt}
 
 -- the first n pivots of block j
 unfoldable pub rowLines : Layout → List Float → ℕ → ℕ → List ℕ

@@ -10,7 +10,7 @@ ghost use Rattle.heading_rules.specs.Heading.{lawful, layoutOf, headed};
 ghost use Rattle.workspace.specs.Answers.{space};
 ghost use Rattle.worked.specs.Program.{pivotLines};
 ghost use Rattle.print.specs.Written.{Put};
-ghost use Rattle.pivot_places.specs.Pivots.{rowsOf};
+ghost use Rattle.working_blocks.specs.Rows.{rowsOf};
 ghost use Rattle.pivot_lines.specs.Lines.{rowLines, blockLines};
 
 // The pivots of block j. A line of at most 4,096 rows has at most 31 bytes, and the last is written where there is room for any.

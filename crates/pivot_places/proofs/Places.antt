@@ -1,26 +1,28 @@
 -- Where the pivots of a lawful layout lie.
 use Prim.Native.Nat.{ℕ, _+_, _≤_, _<_}
 use mathlib.Core.Path.{_≡_, refl, sym, ap, _∙_}
-use mathlib.Core.Bool.{Bool, true, false, _&&_, _||_, and-eq-true-iff, true≢false}
+use mathlib.Core.Bool.{Bool, true, false}
 use mathlib.Core.List.{List}
+use mathlib.Core.Logic.{_⊎_, inl, inr, ⊎-elim}
 use native.Mathlib.Omega.{arith}
 use lib.Dec.{eqb}
 use lib.ListN.{length, getD}
 use lib.Ieee.{Float, nan}
-use borrow.Author.Tests.{eqb-true, eqb-false, eq-eqb, ne-eqb}
+use borrow.Author.Tests.{eqb-true, eqb-false, eq-eqb}
 use Rattle.storage.specs.Runs.{start, triangle}
 use Rattle.storage.specs.Shape.{Shape, packed, diagonal, hasCell, sizeOf, placeOf}
 use Rattle.storage.proofs.Starts.{start-le, start-single}
 use Rattle.storage.proofs.Places.{place-below}
 use Rattle.blocks.proofs.Laws.{read-block, has-packed, has-diagonal}
 use Rattle.layout.specs.declared.Layout.{Layout}
-use Rattle.layout.specs.Shapes.{pick, levels, shape, sizes, workingAt, doublesNeeded}
+use Rattle.layout.specs.Shapes.{shape, sizes, workingAt, doublesNeeded}
 use Rattle.heading_rules.specs.Heading.{lawful}
 use Rattle.heading_rules.proofs.Lawful.{is-lawful}
-use Rattle.heading_rules.proofs.Sorted.{packed-rows}
 use Rattle.layout.proofs.Places.{working-inside}
-use Rattle.block_sizes.proofs.Sizes.{below, doubles-small}
-use Rattle.pivot_places.specs.Pivots.{rowsOf, pivotShape, pivotIn, pivotAt}
+use Rattle.block_sizes.proofs.Sizes.{doubles-small}
+use Rattle.working_blocks.specs.Rows.{rowsOf, isDiagonal}
+use Rattle.working_blocks.proofs.Shapes.{rows-last, last-shape, diagonal-shape, packed-shape}
+use Rattle.pivot_places.specs.Pivots.{pivotShape, pivotIn, pivotAt}
 
 -- a diagonal block has this shape, whatever the rows of the sparse entries
 pub shape-is : (y : Layout) (row : ℕ → ℕ) (j : ℕ) → shape y row j j ≡ pivotShape y j
@@ -31,41 +33,30 @@ shape-is y row j = go (eqb j (y .k)) refl
     go true e = rw (e) refl
     go false e = rw (e, eq-eqb j j refl) refl
 
--- its test in the code
-abbrev isDiagonal : Layout → ℕ → Bool
-isDiagonal y j = eqb j 0 || (y .diagonal && eqb j 1)
-
 module _ (y : Layout) (j : ℕ) where
+  of-shape : {s : Shape} → shape y (λ x. 0) j j ≡ s → pivotShape y j ≡ s
+  of-shape e = sym (shape-is y (λ x. 0) j) ∙ e
+
   -- the last block is a triangle
-  pub last-rows : j ≡ y .k → rowsOf y j ≡ y .p + 1
-  last-rows e = rw (eq-eqb j (y .k) e) refl
+  last-kind : j ≡ y .k → pivotShape y j ≡ packed (rowsOf y j)
+  last-kind e = of-shape (last-shape y (λ x. 0) j j e e)
 
-  pub last-kind : j ≡ y .k → pivotShape y j ≡ packed (rowsOf y j)
-  last-kind e = rw (eq-eqb j (y .k) e) refl
+  -- any other a diagonal
+  diagonal-kind : (j ≡ y .k → ⊥) → isDiagonal y j ≡ true → pivotShape y j ≡ diagonal (rowsOf y j)
+  diagonal-kind n t = of-shape (diagonal-shape y (λ x. 0) j n t)
 
-  module _ (n : j ≡ y .k → ⊥) where
-    pub other-rows : rowsOf y j ≡ levels y j
-    other-rows = rw (ne-eqb j (y .k) n) refl
+  -- or a triangle
+  packed-kind : (j ≡ y .k → ⊥) → isDiagonal y j ≡ false → pivotShape y j ≡ packed (rowsOf y j)
+  packed-kind n t = of-shape (packed-shape y (λ x. 0) j n t)
 
-    -- a diagonal
-    pub diagonal-kind : isDiagonal y j ≡ true → pivotShape y j ≡ diagonal (rowsOf y j)
-    diagonal-kind t = rw (ne-eqb j (y .k) n) (go (eqb j 0) refl (y .diagonal && eqb j 1) refl t)
-      where
-        go : (a : Bool) → eqb j 0 ≡ a → (b : Bool) → (y .diagonal && eqb j 1) ≡ b → (a || b) ≡ true
-            → pick a (diagonal (levels y 0)) (pick b (diagonal (levels y 1)) (packed (levels y j))) ≡ diagonal (levels y j)
-        go true e b f t = ap (λ (x : ℕ). diagonal (levels y x)) (sym (eqb-true j 0 e))
-        go false e true f t = ap (λ (x : ℕ). diagonal (levels y x)) (sym (eqb-true j 1 (and-eq-true-iff (y .diagonal) (eqb j 1) .0 f .1)))
-        go false e false f t = absurd (true≢false (sym t))
-
-    -- or a triangle
-    pub packed-kind : isDiagonal y j ≡ false → pivotShape y j ≡ packed (rowsOf y j)
-    packed-kind t = rw (ne-eqb j (y .k) n) (go (eqb j 0) (y .diagonal && eqb j 1) t)
-      where
-        go : (a b : Bool) → (a || b) ≡ false
-            → pick a (diagonal (levels y 0)) (pick b (diagonal (levels y 1)) (packed (levels y j))) ≡ packed (levels y j)
-        go true b t = absurd (true≢false t)
-        go false true t = absurd (true≢false t)
-        go false false t = refl
+  -- so a diagonal or a triangle, with as many rows as the block
+  pub kind : (pivotShape y j ≡ diagonal (rowsOf y j)) ⊎ (pivotShape y j ≡ packed (rowsOf y j))
+  kind = go (eqb j (y .k)) refl (isDiagonal y j) refl
+    where
+      go : (a : Bool) → eqb j (y .k) ≡ a → (b : Bool) → isDiagonal y j ≡ b → (pivotShape y j ≡ diagonal (rowsOf y j)) ⊎ (pivotShape y j ≡ packed (rowsOf y j))
+      go true e b f = inr (last-kind (eqb-true j (y .k) e))
+      go false e true f = inl (diagonal-kind (eqb-false j (y .k) e) f)
+      go false e false f = inr (packed-kind (eqb-false j (y .k) e) f)
 
 -- ---- a triangle and a diagonal of n rows: where pivot r lies, and that it is there
 pub place-packed : (s : Shape) (n r : ℕ) → s ≡ packed n → placeOf s r r ≡ start triangle r + r
@@ -76,18 +67,9 @@ place-diagonal s n r e = ap (λ (z : Shape). placeOf z r r) e ∙ omega (arith, 
 
 module _ (y : Layout) (j r : ℕ) (here : r < rowsOf y j) where
   pub has-pivot : hasCell (pivotShape y j) r r ≡ true
-  has-pivot = go (eqb j (y .k)) refl
-    where
-      packed-has : pivotShape y j ≡ packed (rowsOf y j) → hasCell (pivotShape y j) r r ≡ true
-      packed-has e = ap (λ (z : Shape). hasCell z r r) e ∙ has-packed (rowsOf y j) r r here (omega arith)
-
-      other : (j ≡ y .k → ⊥) → (b : Bool) → isDiagonal y j ≡ b → hasCell (pivotShape y j) r r ≡ true
-      other n true e = ap (λ (z : Shape). hasCell z r r) (diagonal-kind y j n e) ∙ has-diagonal (rowsOf y j) r here
-      other n false e = packed-has (packed-kind y j n e)
-
-      go : (b : Bool) → eqb j (y .k) ≡ b → hasCell (pivotShape y j) r r ≡ true
-      go true e = packed-has (last-kind y j (eqb-true j (y .k) e))
-      go false e = other (eqb-false j (y .k) e) (isDiagonal y j) refl
+  has-pivot =
+      ⊎-elim (λ e. ap (λ (z : Shape). hasCell z r r) e ∙ has-diagonal (rowsOf y j) r here)
+      (λ e. ap (λ (z : Shape). hasCell z r r) e ∙ has-packed (rowsOf y j) r r here (omega arith)) (kind y j)
 
   -- where the code finds it
   pub in-last : (s : ℕ) → j ≡ y .k → s ≡ start triangle r → s + r ≡ pivotIn y j r
@@ -106,17 +88,7 @@ module _ (y : Layout) (j r : ℕ) (here : r < rowsOf y j) where
 -- ---- few rows, and places far below 2 ^ 63
 module _ (y : Layout) (ok : lawful y ≡ true) (j : ℕ) (there : j ≤ y .k) where
   pub few-last : j ≡ y .k → rowsOf y j ≤ 33
-  few-last e = omega (arith, last-rows y j e, is-lawful y ok .effects .1)
-
-  pub few-packed : (j ≡ y .k → ⊥) → isDiagonal y j ≡ false → rowsOf y j ≤ 316
-  few-packed n t = omega (arith, other-rows y j n, packed-rows y ok j (later (eqb j 0) refl (y .diagonal && eqb j 1) t .0) (below j (y .k) there n) (later (eqb j 0) refl (y .diagonal && eqb j 1) t .1))
-    where
-      later : (a : Bool) → eqb j 0 ≡ a → (b : Bool) → (a || b) ≡ false → (0 < j) × (b ≡ false)
-      later true e b t = absurd (true≢false t)
-      later false e b t = (pos (eqb-false j 0 e), t)
-        where
-          pos : (j ≡ 0 → ⊥) → 0 < j
-          pos n = below 0 j (omega arith) (λ e. n (sym e))
+  few-last e = omega (arith, rows-last y j e, is-lawful y ok .effects .1)
 
 -- the start of a row of a triangle
 pub start-small : (r s : ℕ) → r ≤ 316 → s ≡ start triangle r → s ≤ 50086

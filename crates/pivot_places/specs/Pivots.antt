@@ -1,4 +1,4 @@
--- The pivots of a factor by the layout alone (document 01, Record 4): the shape of block (j, j), its rows, and where each pivot lies.
+-- The pivots of a factor by the layout alone (document 01, Record 4): the shape of block (j, j), and where each pivot lies.
 use Prim.Native.Nat.{ℕ, _+_}
 use mathlib.Core.Bool.{Bool, _&&_}
 use mathlib.Core.List.{List}
@@ -7,11 +7,8 @@ use lib.Ieee.{Float}
 use Rattle.storage.specs.Shape.{Shape, packed, placeOf}
 use Rattle.blocks.specs.Blocks.{block}
 use Rattle.layout.specs.declared.Layout.{Layout}
-use Rattle.layout.specs.Shapes.{pick, levels, factorShape, workingAt}
-
--- the rows of block j: block k has those of the fixed effects and the response
-abbrev pub rowsOf : Layout → ℕ → ℕ
-rowsOf y j = pick (eqb j (y .k)) (y .p + 1) (levels y j)
+use Rattle.layout.specs.Shapes.{pick, factorShape, workingAt}
+use Rattle.working_blocks.specs.Rows.{rowsOf}
 
 -- there is a block j, and it has a row r
 abbrev pub isPivot : Layout → ℕ → ℕ → Bool

@@ -5,19 +5,9 @@ ghost use Prim.Native.Nat.{_<_, _≤_};
 ghost use lib.ListN.{length};
 ghost use Rattle.layout.specs.Shapes.{doublesNeeded};
 ghost use Rattle.heading_rules.specs.Heading.{lawful};
-ghost use Rattle.pivot_places.specs.Pivots.{rowsOf, pivotIn, pivotAt};
+ghost use Rattle.working_blocks.specs.Rows.{rowsOf};
+ghost use Rattle.pivot_places.specs.Pivots.{pivotIn, pivotAt};
 use layout::Layout;
-
-// How many rows block j has.
-pub fn rows(y: Layout, j: u64) -> u64
-    requires { ⌜ (lawful y ≡ true) × (j ≤ y .k) ⌝ }
-    ensures { λ r. ⌜ r ≡ rowsOf y j ⌝ }
-{
-    if j == y.k {
-        return y.p + 1;
-    }
-    sorted_blocks::level(y, j)
-}
 
 // Where pivot r lies in its block: in a diagonal at r, in a triangle at the end of row r.
 fn pivot_place(y: Layout, j: u64, r: u64) -> usize
@@ -28,7 +18,7 @@ fn pivot_place(y: Layout, j: u64, r: u64) -> usize
     if j == y.k {
         return triangle_cells::row_start(t) + t;
     }
-    if (j == 0) | (y.diagonal & (j == 1)) {
+    if working_blocks::is_diagonal(y, j) {
         return t;
     }
     triangle_cells::row_start(t) + t

@@ -1,28 +1,23 @@
--- The factors that T divides or solves by, and what its kernels ask of the blocks that they are given: limits, room, and that target and factor lie apart.
+-- The blocks that T divides or solves, and what its kernels ask of the blocks that they are given: limits, room, and that target and factor lie apart.
 use Prim.Native.Nat.{ℕ, _+_, _≤_, _<_}
-use mathlib.Core.Path.{_≡_, refl, sym, ap, subst, _∙_}
-use mathlib.Core.Bool.{Bool, true, false, not, _&&_, _||_, and-eq-true-iff}
+use mathlib.Core.Path.{_≡_, refl, sym, ap, _∙_}
+use mathlib.Core.Bool.{Bool, true, false, not}
 use mathlib.Core.List.{List}
 use mathlib.Core.Logic.{_⊎_, inl, inr, ⊎-elim, by-cases}
 use native.Mathlib.Decide.{decLt}
 use native.Mathlib.Omega.{arith}
 use lib.Dec.{eqb}
 use lib.Ieee.{Float}
-use borrow.Author.Tests.{eqb-true, eq-eqb, ne-eqb}
+use borrow.Author.Tests.{eq-eqb, ne-eqb}
 use Rattle.storage.specs.Shape.{packed, diagonal, columns, entries, sizeOf}
 use Rattle.layout.specs.declared.Layout.{Layout}
 use Rattle.layout.specs.Shapes.{shape, workingAt, doublesNeeded}
 use Rattle.heading_rules.specs.Heading.{lawful}
 use Rattle.block_sizes.proofs.Sizes.{not-both}
 use Rattle.cross_block.specs.Blocks.{dividedColumns, solvedRows}
-use Rattle.working_blocks.specs.Rows.{rowsOf}
-use Rattle.working_blocks.proofs.Shapes.{Apart, first-shape, second-shape, triangle-shape, sparse-shape, dense-shape, block-inside, block-apart, sparse-two, triangle-dense, rows-limit}
-use Rattle.solving.specs.Factor.{isDiagonal, heightOf}
-
--- what a false disjunction says of both
-neither : (a b : Bool) → (a || b) ≡ false → (a ≡ false) × (b ≡ false)
-neither true b e = absurd (let z : _≡_ {A = ℕ} 0 1 = cc in omega arith)
-neither false b e = (refl, e)
+use Rattle.working_blocks.specs.Rows.{rowsOf, isDiagonal}
+use Rattle.working_blocks.proofs.Shapes.{Apart, later, diagonal-shape, packed-shape, sparse-shape, dense-shape, block-inside, block-apart, sparse-two, triangle-dense, rows-limit}
+use Rattle.solving.specs.Factor.{heightOf}
 
 -- ---- rows
 
@@ -35,41 +30,12 @@ pub own-rows : (y : Layout) (i : ℕ) → (i ≡ y .k) ⊎ (y .sparse ≡ false)
 own-rows y i why =
     let n = not-both (y .sparse) (not (eqb i (y .k))) (⊎-elim (λ e. inr (ap not (eq-eqb i (y .k) e))) (λ p. inl p) why) in rw n refl
 
-module _ (y : Layout) (j : ℕ) where
-  -- ---- factor j
-
-  -- the first factor, or the second where block 1 is diagonal
-  which : isDiagonal y j ≡ true → (j ≡ 0) ⊎ ((y .diagonal ≡ true) × (j ≡ 1))
-  which e = step (eqb j 0) refl e
-    where
-      step : (b : Bool) → eqb j 0 ≡ b → (b || (y .diagonal && eqb j 1)) ≡ true → (j ≡ 0) ⊎ ((y .diagonal ≡ true) × (j ≡ 1))
-      step true q d = inl (eqb-true j 0 q)
-      step false q d = let t = and-eq-true-iff (y .diagonal) (eqb j 1) .0 d in inr (t .0, eqb-true j 1 (t .1))
-
-  -- a later one
-  later : isDiagonal y j ≡ false → 0 < j
-  later e =
-      by-cases (decLt 0 j) (λ l. l)
-      (λ l. let q = sym (eq-eqb j 0 (omega arith)) ∙ neither (eqb j 0) (y .diagonal && eqb j 1) e .0 in absurd (let z : _≡_ {A = ℕ} 0 1 = cc in omega arith))
-
-  triangular : isDiagonal y j ≡ false → (y .diagonal && eqb j 1) ≡ false
-  triangular e = neither (eqb j 0) (y .diagonal && eqb j 1) e .1
-
-  module _ (row : ℕ → ℕ) (h : j < y .k) where
-    pub divisor-shape : isDiagonal y j ≡ true → shape y row j j ≡ diagonal (rowsOf y j)
-    divisor-shape e =
-        ⊎-elim (λ q. subst (λ (n : ℕ). shape y row n n ≡ diagonal (rowsOf y n)) (sym q) (first-shape y row (omega arith)))
-        (λ t. let q : j ≡ 1 = t .1 in subst (λ (n : ℕ). shape y row n n ≡ diagonal (rowsOf y n)) (sym q) (second-shape y row (omega arith) (t .0))) (which e)
-
-    pub factor-shape : isDiagonal y j ≡ false → shape y row j j ≡ packed (rowsOf y j)
-    factor-shape e = triangle-shape y row j (later e) h (triangular e)
-
 module _ (y : Layout) (ok : lawful y ≡ true) (i j : ℕ) (h : j < i) (g : i ≤ y .k) where
   -- ---- the target
 
   -- by a triangle, it is dense
   pub solved-shape : (row : ℕ → ℕ) → isDiagonal y j ≡ false → shape y row i j ≡ columns (rowsOf y i) (rowsOf y j)
-  solved-shape row e = dense-shape y row i j h g (inr (triangle-dense y ok j (later y j e) (omega arith) (triangular y j e)))
+  solved-shape row e = dense-shape y row i j h g (inr (let t = later y j e in triangle-dense y ok j (t .0) (omega arith) (t .1)))
 
   -- by a diagonal, it is a sparse pair or dense
   pub divided-shape : (row : ℕ → ℕ)
@@ -93,7 +59,7 @@ module _ (y : Layout) (ok : lawful y ≡ true) (i j : ℕ) (h : j < i) (g : i �
     pub divide-ready : isDiagonal y j ≡ true → rows ≡ heightOf y i → cols ≡ rowsOf y j
         → ((off + sizeOf (columns rows cols) ≤ doubles) × (f + sizeOf (diagonal cols) ≤ doubles)) × Apart off (sizeOf (columns rows cols)) f (sizeOf (diagonal cols))
     divide-ready d e₃ e₄ =
-        let s = divisor-shape y j none (omega arith) d in
+        let s = diagonal-shape y none j (λ q. omega arith) d in
         let size : sizeOf (shape y none i j) ≡ sizeOf (columns (heightOf y i) (rowsOf y j)) =
         ⊎-elim (λ t. ap sizeOf (t .1) ∙ ap (λ (n : ℕ). sizeOf (columns n (rowsOf y j))) (sym (t .0))) (λ t. ap sizeOf (t .1) ∙ ap (λ (n : ℕ). sizeOf (columns n (rowsOf y j))) (sym (t .0)))
         (divided-shape none) in
@@ -105,9 +71,9 @@ module _ (y : Layout) (ok : lawful y ≡ true) (i j : ℕ) (h : j < i) (g : i �
     pub solve-ready : isDiagonal y j ≡ false → rows ≡ rowsOf y i → cols ≡ rowsOf y j
         → ((rows ≤ 316) × (off + sizeOf (columns rows cols) ≤ doubles) × (f + sizeOf (packed cols) ≤ doubles)) × Apart off (sizeOf (columns rows cols)) f (sizeOf (packed cols))
     solve-ready d e₃ e₄ =
-        let s = factor-shape y j none (omega arith) d in
+        let s = packed-shape y none j (λ q. omega arith) d in
         let t = solved-shape none d in
-        let l = later y j d in
+        let l = later y j d .0 in
         rw (e₁, e₂, e₃, e₄) (
           (
             rows-limit y ok i (omega arith) g (inr (not-both (y .diagonal) (eqb i 1) (inr (ne-eqb i 1 (λ q. omega arith))))),

@@ -18,10 +18,11 @@ use Rattle.cross_block.specs.Blocks.{dividedColumns, solvedRows}
 use Rattle.cross_block.proofs.Turns.{divided-entries}
 use Rattle.update.specs.Working.{solved}
 use Rattle.update.specs.Calls.{madeBy}
-use Rattle.working_blocks.specs.Rows.{rowsOf}
+use Rattle.working_blocks.specs.Rows.{rowsOf, isDiagonal}
+use Rattle.working_blocks.proofs.Shapes.{diagonal-shape, packed-shape}
 use Rattle.working_blocks.proofs.Workspace.{fits-lawful}
-use Rattle.solving.specs.Factor.{isDiagonal, heightOf}
-use Rattle.solving.proofs.Factors.{divisor-shape, factor-shape, solved-shape, divided-shape}
+use Rattle.solving.specs.Factor.{heightOf}
+use Rattle.solving.proofs.Factors.{solved-shape, divided-shape}
 
 -- ---- each kind, by the shapes
 
@@ -56,7 +57,7 @@ module _ (h : List ℕ) (w : List Float) (y : Layout) (e : y ≡ layoutOf h) (fi
   -- by a diagonal
   pub made-divided : isDiagonal y j ≡ true → dividedColumns (workingAt y i j) (heightOf y i) (rowsOf y j) (workingAt y j j) w ≡ store (workingAt y i j) (madeBy h w (T i j)) w
   made-divided d =
-      let by = divisor-shape y j row (omega arith) d in
+      let by = diagonal-shape y row j (λ q. omega arith) d in
       ⊎-elim
       (λ t. rw (t .0) (sym (made-is ∙ of-entries w (workingAt y i j) (workingAt y j j) (shape y row i j) (shape y row j j) row (rowsOf y j) (t .1) by)))
       (λ t. rw (t .0) (sym (made-is ∙ by-diagonal w (workingAt y i j) (workingAt y j j) (shape y row i j) (shape y row j j) (rowsOf y i) (rowsOf y j) (t .1) by)))
@@ -68,4 +69,4 @@ module _ (h : List ℕ) (w : List Float) (y : Layout) (e : y ≡ layoutOf h) (fi
       sym
       (made-is
       ∙ by-triangle w (workingAt y i j) (workingAt y j j) (shape y row i j) (shape y row j j) (rowsOf y i) (rowsOf y j) (solved-shape y (fits-lawful h w y e fit) i j l g row d)
-      (factor-shape y j row (omega arith) d))
+      (packed-shape y row j (λ q. omega arith) d))

@@ -11,22 +11,9 @@ ghost use Rattle.layout.specs.Shapes.{workingAt, doublesNeeded};
 ghost use Rattle.heading_rules.specs.Heading.{lawful, layoutOf};
 ghost use Rattle.heading_rules.specs.Fits.{Fits};
 ghost use Rattle.cross_block.specs.Blocks.{dividedColumns, solvedRows};
-ghost use Rattle.working_blocks.specs.Rows.{rowsOf};
+ghost use Rattle.working_blocks.specs.Rows.{rowsOf, isDiagonal};
 ghost use Rattle.update.specs.Calls.{madeBy};
-ghost use Rattle.solving.specs.Factor.{isDiagonal, heightOf};
-
-// Whether factor j is a diagonal.
-fn is_diagonal(y: Layout, j: u64) -> bool
-    ensures { λ r. ⌜ r ≡ isDiagonal y j ⌝ }
-{
-    if j == 0 {
-        return true;
-    }
-    if y.diagonal {
-        return j == 1;
-    }
-    false
-}
+ghost use Rattle.solving.specs.Factor.{heightOf};
 
 // The rows of block i, the entries of a sparse pair being one row.
 fn height(y: Layout, i: u64) -> usize
@@ -70,7 +57,7 @@ pub fn solve(y: Layout, h: &[u32], w: &mut [f64], i: u64, j: u64)
     requires { ⌜ (y ≡ layoutOf (now h)) × Fits (now h) (length (now w)) × Named (y .k) (T i j) ⌝ }
     ensures { λ _. ⌜ now (w .exit) ≡ store (workingAt y i j) (madeBy (now (h .entry)) (now (w .entry)) (T i j)) (now (w .entry)) ⌝ }
 {
-    if is_diagonal(y, j) {
+    if working_blocks::is_diagonal(y, j) {
         divide(y, w, i, j);
         return;
     }

@@ -1,12 +1,11 @@
 -- The calls that begin one block, and the loops over the blocks: each callee's answer is a number of its own.
 use Prim.Native.Nat.{ℕ, _+_, _≤_, _<_}
 use mathlib.Core.Path.{_≡_, refl, sym, ap, subst, _∙_}
-use mathlib.Core.Bool.{true, false, _&&_, _||_}
+use mathlib.Core.Bool.{true, false}
 use mathlib.Core.List.{List, [], _∷_, _++_}
 use mathlib.Core.Logic.{_⊎_, inr}
 use native.Mathlib.Numerals.{add-one}
 use native.Mathlib.Omega.{arith}
-use lib.Dec.{eqb}
 use lib.ListN.{length, drop, length-drop}
 use lib.Seq.{getD-drop}
 use lib.Ieee.{Float, nan}
@@ -23,6 +22,7 @@ use Rattle.layout.proofs.Places.{size-working}
 use Rattle.layout.proofs.Formula.{loaded-factor, loaded-other, loaded-last}
 use Rattle.block_sizes.proofs.Growing.{Grows}
 use Rattle.block_sizes.proofs.Sizes.{below}
+use Rattle.working_blocks.specs.Rows.{isDiagonal}
 use Rattle.re_factor.specs.Factor as factor
 use Rattle.cross_block.specs.Blocks.{scaledTwice, scaledOnce}
 use Rattle.started.specs.Started.{startedBlock, startedBlocks, BlockStarted, BlocksStarted}
@@ -46,17 +46,17 @@ module _ (y : Layout) (len : ℕ) (fits : doublesNeeded y ≤ len) where
         let l = loaded-factor y j h in
         ((omega (arith, r .working), omega (arith, r .loaded)), inr (omega (arith, r .apart)))
 
-    pub diagonal-fits : (eqb j 0 || (y .diagonal && eqb j 1)) ≡ true → Fits off n src n len
+    pub diagonal-fits : isDiagonal y j ≡ true → Fits off n src n len
     diagonal-fits d = factor-fits n (c ∙ sym (ap sizeOf (shape-diagonal y j (λ x. 0) h d) ∙ size-diagonal (levels y j)))
 
-    pub packed-fits : (eqb j 0 || (y .diagonal && eqb j 1)) ≡ false → Fits off (sizeOf (packed n)) src n len
+    pub packed-fits : isDiagonal y j ≡ false → Fits off (sizeOf (packed n)) src n len
     packed-fits d = factor-fits (sizeOf (packed n)) (ap (λ (x : ℕ). sizeOf (packed x)) c ∙ sym (ap sizeOf (shape-packed y j (λ x. 0) h d)))
 
     module _ (t : ℕ → Float) (x : Float) (e : x ≡ t j) (w w′ : List Float) where
-      pub diagonal-done : (eqb j 0 || (y .diagonal && eqb j 1)) ≡ true → w′ ≡ factor.started (diagonal n) off n src x w → BlockStarted y t j j w w′
+      pub diagonal-done : isDiagonal y j ≡ true → w′ ≡ factor.started (diagonal n) off n src x w → BlockStarted y t j j w w′
       diagonal-done d q row = q ∙ rw (a, b, c, e) (sym (factor-started y row t j h (diagonal (levels y j)) (shape-diagonal y j row h d) w))
 
-      pub packed-done : (eqb j 0 || (y .diagonal && eqb j 1)) ≡ false → w′ ≡ factor.started (packed n) off n src x w → BlockStarted y t j j w w′
+      pub packed-done : isDiagonal y j ≡ false → w′ ≡ factor.started (packed n) off n src x w → BlockStarted y t j j w w′
       packed-done d q row = q ∙ rw (a, b, c, e) (sym (factor-started y row t j h (packed (levels y j)) (shape-packed y j row h d) w))
 
   module _ (i j off src n : ℕ) (h : j < i) (g : i ≤ y .k) (a : off ≡ workingAt y i j) (b : src ≡ loadedAt y i j) (c : n ≡ sizes y i j) where

@@ -1,7 +1,7 @@
 -- What begin makes of a block of each kind, by the block's shape.
 use Prim.Native.Nat.{ℕ, _+_, _≤_, _<_}
-use mathlib.Core.Path.{_≡_, refl, sym, ap, _∙_}
-use mathlib.Core.Bool.{Bool, true, false, _&&_, _||_, cond, and-eq-true-iff, true≢false}
+use mathlib.Core.Path.{_≡_, refl, ap, _∙_}
+use mathlib.Core.Bool.{Bool, true, false, cond}
 use mathlib.Core.List.{List}
 use native.Mathlib.Omega.{arith}
 use lib.Dec.{eqb}
@@ -14,40 +14,27 @@ use Rattle.storage.proofs.Blocks.{length-fill}
 use Rattle.rules.specs.Arithmetic.{ieee}
 use Rattle.rules.specs.Begin.{diagonalCell, crossCell, fixedCell}
 use Rattle.layout.specs.declared.Layout.{Layout}
-use Rattle.layout.specs.Shapes.{pick, levels, shape, factorShape, loadedShape, sizes, loadedSizes, loadedAt, workingAt, sumAt, doublesNeeded}
+use Rattle.layout.specs.Shapes.{pick, levels, shape, loadedShape, sizes, loadedSizes, loadedAt, workingAt, sumAt, doublesNeeded}
 use Rattle.layout.proofs.Formula.{loaded-last}
 use Rattle.layout.proofs.Places.{size-working, size-loaded, loaded-inside, working-behind, working-inside}
 use Rattle.workspace.specs.Memory.{cellOf}
 use Rattle.re_factor.specs.Factor as factor
 use Rattle.cross_block.specs.Blocks.{scaledTwice, scaledOnce}
 use Rattle.update.specs.Working.{started}
+use Rattle.working_blocks.specs.Rows.{isDiagonal}
+use Rattle.working_blocks.proofs.Shapes.{rows-level, diagonal-shape, packed-shape}
 use Rattle.started.specs.Started.{startedBlock}
 
 -- ---- shapes
 
 module _ (y : Layout) (j : ℕ) where
-  diagonal-factor : (b : Bool) → eqb j 0 ≡ b → (c : Bool) → (y .diagonal && eqb j 1) ≡ c → (b || c) ≡ true → factorShape y j ≡ diagonal (levels y j)
-  diagonal-factor true e c f h = rw e (ap (λ (x : ℕ). diagonal (levels y x)) (sym (eqb-true j 0 e)))
-  diagonal-factor false e true f h =
-      rw (e, f) (ap (λ (x : ℕ). diagonal (levels y x)) (sym (eqb-true j 1 (and-eq-true-iff (y .diagonal) (eqb j 1) .0 f .1))))
-  diagonal-factor false e false f h = absurd (true≢false (sym h))
-
-  packed-factor : (b : Bool) → eqb j 0 ≡ b → (c : Bool) → (y .diagonal && eqb j 1) ≡ c → (b || c) ≡ false → factorShape y j ≡ packed (levels y j)
-  packed-factor true e c f h = absurd (true≢false h)
-  packed-factor false e true f h = absurd (true≢false h)
-  packed-factor false e false f h = rw (e, f) refl
-
   module _ (row : ℕ → ℕ) (h : j < y .k) where
-    factor-shape : shape y row j j ≡ factorShape y j
-    unfolding shape
-    factor-shape = rw (ne-eqb j (y .k) (λ e. omega arith), eq-eqb j j refl) refl
-
     -- a diagonal factor, and a triangle
-    pub shape-diagonal : (eqb j 0 || (y .diagonal && eqb j 1)) ≡ true → shape y row j j ≡ diagonal (levels y j)
-    shape-diagonal e = factor-shape ∙ diagonal-factor (eqb j 0) refl (y .diagonal && eqb j 1) refl e
+    pub shape-diagonal : isDiagonal y j ≡ true → shape y row j j ≡ diagonal (levels y j)
+    shape-diagonal e = diagonal-shape y row j (λ q. omega arith) e ∙ ap diagonal (rows-level y j h)
 
-    pub shape-packed : (eqb j 0 || (y .diagonal && eqb j 1)) ≡ false → shape y row j j ≡ packed (levels y j)
-    shape-packed e = factor-shape ∙ packed-factor (eqb j 0) refl (y .diagonal && eqb j 1) refl e
+    pub shape-packed : isDiagonal y j ≡ false → shape y row j j ≡ packed (levels y j)
+    shape-packed e = packed-shape y row j (λ q. omega arith) e ∙ ap packed (rows-level y j h)
 
     -- its loaded block
     pub shape-loaded : loadedShape y row j j ≡ diagonal (levels y j)

@@ -1,8 +1,7 @@
 // Begin's blocks, all of them (document 01, Record 4): diagonals and triangles, cross blocks, fixed rows, the last triangle.
 ghost use mathlib.Core.Path.{_≡_};
-ghost use mathlib.Core.Bool.{true, _&&_, _||_};
+ghost use mathlib.Core.Bool.{true};
 ghost use Prim.Native.Nat.{_+_, _≤_, _<_};
-ghost use lib.Dec.{eqb};
 ghost use lib.ListN.{length};
 ghost use Rattle.storage.specs.Part.{part, store};
 ghost use Rattle.layout.specs.Shapes.{levels, factors, across, pairs, targets, doublesNeeded};
@@ -16,13 +15,6 @@ fn levels_of(y: Layout, j: u64) -> usize
     ensures { λ r. ⌜ r ≡ levels y j ⌝ }
 {
     y.m[j as usize] as usize
-}
-
-// Whether factor j is a diagonal: the first is, and block 1 where the layout says so.
-fn is_diagonal(y: Layout, j: u64) -> bool
-    ensures { λ r. ⌜ r ≡ (eqb j 0 || (y .diagonal && eqb j 1)) ⌝ }
-{
-    (j == 0) | (y.diagonal & (j == 1))
 }
 
 // The n doubles at src are copied to off.
@@ -46,7 +38,7 @@ fn start_factor(y: Layout, w: &mut [f64], theta: &[f64], j: u64)
     let src = places::loaded_at(y, j, j);
     let n = levels_of(y, j);
     let t = started::theta_of(y, theta, j);
-    if is_diagonal(y, j) {
+    if working_blocks::is_diagonal(y, j) {
         diagonal_init::init_diagonal(w, off, n, src, t);
         return;
     }

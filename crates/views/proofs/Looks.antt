@@ -23,7 +23,8 @@ use Rattle.deviance_tail.specs.Tail.{logDeterminantOf}
 use Rattle.views.specs.declared.Left.the-variants.{Steps, Refused as Denied}
 use Rattle.views.specs.declared.Look.{Look}
 use Rattle.views.specs.declared.Look.the-variants.{Value, Absent, Refused}
-use Rattle.pivot_places.specs.Pivots.{rowsOf, isPivot, pivotAt}
+use Rattle.working_blocks.specs.Rows.{rowsOf}
+use Rattle.pivot_places.specs.Pivots.{isPivot, pivotAt}
 use Rattle.views.specs.Views.{stepsLeftOf, finishedLook, pivotLook}
 use Rattle.pivot_places.proofs.Places.{shape-is}
 

@@ -69,7 +69,7 @@ fn pivot_or_absent(y: Layout, w: &[f64], j: u64, r: u64) -> Look
     ensures { λ v. ⌜ v ≡ pivotLook y (now (w .entry)) j r ⌝ }
 {
     if j <= y.k {
-        if r < pivot_places::rows(y, j) {
+        if r < working_blocks::rows_of(y, j) as u64 {
             return Look::Value(pivot_places::read_pivot(y, w, j, r));
         }
     }

@@ -1,31 +1,28 @@
 -- The working blocks of a lawful layout as the kernels take them: the shape of each, its limits, its place among the doubles, and that no two share one.
 use Prim.Native.Nat.{ℕ, _+_, _*_, _≤_, _<_}
 use mathlib.Core.Path.{_≡_, refl, sym, ap, ap₂, _∙_}
-use mathlib.Core.Bool.{Bool, true, false, _&&_, cond}
+use mathlib.Core.Bool.{Bool, true, false, _&&_, _||_, cond, and-eq-true-iff, true≢false}
 use mathlib.Core.Logic.{_⊎_, inl, inr, ⊎-elim, by-cases}
 use native.Mathlib.Decide.{decLt}
 use native.Mathlib.Nat.{le-trans, mul-le-mul}
 use native.Mathlib.Omega.{arith}
 use lib.Dec.{ltb, leb, eqb}
-use borrow.Author.Tests.{leb-true, eq-eqb, ne-eqb}
+use borrow.Author.Tests.{leb-true, eqb-true, eqb-false, eq-eqb, ne-eqb}
 use Rattle.storage.specs.Shape.{Shape, packed, diagonal, columns, entries, sizeOf}
 use Rattle.layout.specs.declared.Layout.{Layout}
 use Rattle.layout.specs.declared.Pair.{Pair}
 use Rattle.layout.specs.declared.Pair.the-variants.{Dense, Sparse, Refused}
 use Rattle.layout.specs.Gate.{thin, pairOf}
-use Rattle.layout.specs.Shapes.{levels, shape, loadedShape, sizes, loadedSizes, loadedAt, workingAt, doublesNeeded}
+use Rattle.layout.specs.Shapes.{pick, levels, shape, loadedShape, sizes, loadedSizes, loadedAt, workingAt, doublesNeeded}
 use Rattle.heading_rules.specs.Heading.{isDense, isSparse, lawful}
 use Rattle.heading_rules.proofs.Lawful.{is-lawful}
 use Rattle.heading_rules.proofs.Sorted.{levels-fall, packed-rows}
 use Rattle.layout.proofs.Places.{size-working, size-loaded, working-inside, working-behind, working-apart, loaded-inside}
-use Rattle.working_blocks.specs.Rows.{rowsOf}
+use Rattle.working_blocks.specs.Rows.{rowsOf, isDiagonal}
 
 -- one of two runs of doubles ends before the other starts
 abbrev pub Apart : (off size a size′ : ℕ) → Type 0
 Apart off size a size′ = (off + size ≤ a) ⊎ (a + size′ ≤ off)
-
-false-true : false ≡ true → ⊥
-false-true e = let z : _≡_ {A = ℕ} 0 1 = cc in omega arith
 
 module _ (y : Layout) where
   -- ---- rows
@@ -38,23 +35,51 @@ module _ (y : Layout) where
   pub rows-level : (i : ℕ) → i < y .k → rowsOf y i ≡ levels y i
   rows-level i h = rw (ne-eqb i (y .k) (λ e. omega arith)) refl
 
+  -- ---- which factors are diagonals
+
+  -- a factor that is none is a later one, and not block 1 of a layout where that is diagonal
+  pub later : (j : ℕ) → isDiagonal y j ≡ false → (0 < j) × ((y .diagonal && eqb j 1) ≡ false)
+  later j t = go (eqb j 0) refl t
+    where
+      go : (a : Bool) → eqb j 0 ≡ a → (a || (y .diagonal && eqb j 1)) ≡ false → (0 < j) × ((y .diagonal && eqb j 1) ≡ false)
+      go true e t = absurd (true≢false t)
+      go false e t = let n = eqb-false j 0 e in (omega arith, t)
+
   -- ---- shapes
 
   module _ (row : ℕ → ℕ) where
+    -- a factor is a diagonal
+    pub diagonal-shape : (j : ℕ) → (j ≡ y .k → ⊥) → isDiagonal y j ≡ true → shape y row j j ≡ diagonal (rowsOf y j)
+    unfolding shape
+    diagonal-shape j n t = rw (ne-eqb j (y .k) n, eq-eqb j j refl) (go (eqb j 0) refl (y .diagonal && eqb j 1) refl t)
+      where
+        go : (a : Bool) → eqb j 0 ≡ a → (b : Bool) → (y .diagonal && eqb j 1) ≡ b → (a || b) ≡ true
+            → pick a (diagonal (levels y 0)) (pick b (diagonal (levels y 1)) (packed (levels y j))) ≡ diagonal (levels y j)
+        go true e b f t = ap (λ (x : ℕ). diagonal (levels y x)) (sym (eqb-true j 0 e))
+        go false e true f t = ap (λ (x : ℕ). diagonal (levels y x)) (sym (eqb-true j 1 (and-eq-true-iff (y .diagonal) (eqb j 1) .0 f .1)))
+        go false e false f t = absurd (true≢false (sym t))
+
+    -- or a triangle
+    pub packed-shape : (j : ℕ) → (j ≡ y .k → ⊥) → isDiagonal y j ≡ false → shape y row j j ≡ packed (rowsOf y j)
+    unfolding shape
+    packed-shape j n t = rw (ne-eqb j (y .k) n, eq-eqb j j refl) (go (eqb j 0) (y .diagonal && eqb j 1) t)
+      where
+        go : (a b : Bool) → (a || b) ≡ false → pick a (diagonal (levels y 0)) (pick b (diagonal (levels y 1)) (packed (levels y j))) ≡ packed (levels y j)
+        go true b t = absurd (true≢false t)
+        go false true t = absurd (true≢false t)
+        go false false t = refl
+
     -- the first factor is a diagonal
     pub first-shape : 0 < y .k → shape y row 0 0 ≡ diagonal (rowsOf y 0)
-    unfolding shape
-    first-shape h = rw (ne-eqb 0 (y .k) (λ e. omega arith)) refl
+    first-shape h = diagonal-shape 0 (λ e. omega arith) refl
 
     -- so is the second where block 1 is diagonal
     pub second-shape : 1 < y .k → y .diagonal ≡ true → shape y row 1 1 ≡ diagonal (rowsOf y 1)
-    unfolding shape
-    second-shape h d = rw (ne-eqb 1 (y .k) (λ e. omega arith), d) refl
+    second-shape h d = diagonal-shape 1 (λ e. omega arith) (rw d refl)
 
     -- any other factor is a triangle
     pub triangle-shape : (j : ℕ) → 0 < j → j < y .k → (y .diagonal && eqb j 1) ≡ false → shape y row j j ≡ packed (rowsOf y j)
-    unfolding shape
-    triangle-shape j h g d = rw (ne-eqb j (y .k) (λ e. omega arith), eq-eqb j j refl, ne-eqb j 0 (λ e. omega arith), d) refl
+    triangle-shape j h g d = packed-shape j (λ e. omega arith) (rw (ne-eqb j 0 (λ e. omega arith), d) refl)
 
     -- and so is the last block
     pub last-shape : (i j : ℕ) → i ≡ y .k → j ≡ y .k → shape y row i j ≡ packed (rowsOf y i)
@@ -132,6 +157,9 @@ module _ (y : Layout) where
         (λ l. ⊎-elim (λ e. absurd (omega arith)) (λ d. omega (arith, rows-level i l, packed-rows y ok i h l d)) why)
         (λ l. omega (arith, rows-last i (omega arith), is-lawful y ok .effects .1))
 
+    pub packed-limit : (j : ℕ) → j ≤ y .k → isDiagonal y j ≡ false → rowsOf y j ≤ 316
+    packed-limit j h e = let t = later j e in rows-limit j (t .0) h (inr (t .1))
+
     -- and so has a diagonal block 1 whose pair is dense
     pub second-limit : 1 < y .k → y .sparse ≡ false → rowsOf y 1 ≤ 316
     unfolding pairOf
@@ -150,7 +178,7 @@ module _ (y : Layout) where
         pair = pairOf (y .k) (levels y 1) (levels y 0) (y .diagonal) (levels y 0)
 
         second : (t a b : Bool) → t ≡ false → cond t a b ≡ true → b ≡ true
-        second true a b e p = absurd (false-true (sym e))
+        second true a b e p = absurd (true≢false e)
         second false a b e p = p
 
         dense-only : (a b c : Bool) → isDense (cond a Dense (cond b (Refused 10) (cond c Sparse (Refused 11)))) ≡ true → a ≡ true

@@ -1,10 +1,11 @@
-// What the steps ask of the working blocks of a workspace: how many rows each has. Its shape, its limits and its place are in proofs/Shapes.antt.
+// What the steps ask of the working blocks of a workspace: how many rows each has, and which factors are diagonals. Its shape, its limits and its
+// place are in proofs/Shapes.antt.
 use layout::Layout;
 ghost use mathlib.Core.Path.{_≡_};
 ghost use mathlib.Core.Bool.{true};
 ghost use Prim.Native.Nat.{_≤_};
 ghost use Rattle.heading_rules.specs.Heading.{lawful};
-ghost use Rattle.working_blocks.specs.Rows.{rowsOf};
+ghost use Rattle.working_blocks.specs.Rows.{rowsOf, isDiagonal};
 
 // The rows of block i.
 pub fn rows_of(y: Layout, i: u64) -> usize
@@ -16,4 +17,11 @@ pub fn rows_of(y: Layout, i: u64) -> usize
     }
     let t = i as usize;
     y.m[t] as usize
+}
+
+// Whether factor j is a diagonal: the first is, and block 1 where the layout says so.
+pub fn is_diagonal(y: Layout, j: u64) -> bool
+    ensures { λ r. ⌜ r ≡ isDiagonal y j ⌝ }
+{
+    (j == 0) | (y.diagonal & (j == 1))
 }

@@ -1,11 +1,13 @@
 -- `factor_logs::form_of`: by the last block, block 0, a diagonal block 1, and the others.
 use native.Mathlib.Omega.{arith}
+use borrow.Author.Needs.{needs}
 use Rattle.heading_rules.proofs.Lawful.{is-lawful}
 use Rattle.factor_logs.proofs.Forms.{last-form, inner, inner-form}
 use Rattle.factor_logs.proofs.form_of.Statement.{statement}
 use Rattle.factor_logs.proofs.form_of.Tie as tie
 use Rattle.factor_logs.proofs.form_of.Reads as reads
 use Rattle.factor_logs.proofs.form_of.Lts as lts
+use Rattle.working_blocks.proofs.is_diagonal.Reads as is-diagonal-reads
 use Rattle.sorted_blocks.proofs.level.Reads as level-reads
 
 add-t5 : tie.Need-add-t5
@@ -13,6 +15,9 @@ add-t5 c = let a = c .before .before .before in let p = is-lawful (a .args .y) (
 
 returns : tie.Need-returns
 returns c = let a = c .before .before .before in last-form (a .args .y) (a .pre .0) (a .args .j) (c .before .if1 .taken)
+
+is-diagonal-requires : tie.Need-is-diagonal-requires
+is-diagonal-requires c κs = search needs
 
 level-requires : tie.Need-level-requires
 level-requires c κs =
@@ -22,7 +27,7 @@ level-requires c κs =
 returns-2 : tie.Need-returns-2
 returns-2 c =
     let a = c .before .before .before .before in
-    inner-form (a .args .y) (a .pre .0) (a .args .j) (a .pre .1) (c .before .before .if1 .left) (c .level .ensures)
+    inner-form (a .args .y) (a .pre .0) (a .args .j) (a .pre .1) (c .before .before .if1 .left) (c .before .is-diagonal .ensures) (c .level .ensures)
 
 pub form-of-spec : {M : Type 1} → statement M
-form-of-spec = tie.close (tie.spec add-t5 returns level-requires returns-2)
+form-of-spec = tie.close (tie.spec add-t5 returns is-diagonal-requires level-requires returns-2)

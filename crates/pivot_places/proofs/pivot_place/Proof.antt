@@ -1,11 +1,15 @@
 -- `pivot_places::pivot_place`: the last triangle, a diagonal, another triangle.
+use mathlib.Core.Path.{sym, _∙_}
 use native.Mathlib.Omega.{arith}
-use Rattle.pivot_places.proofs.Places.{few-last, few-packed, start-small, in-last, in-diagonal, in-packed}
+use borrow.Author.Needs.{needs}
+use Rattle.working_blocks.proofs.Shapes.{packed-limit}
+use Rattle.pivot_places.proofs.Places.{few-last, start-small, in-last, in-diagonal, in-packed}
 use Rattle.pivot_places.proofs.pivot_place.Statement.{statement}
 use Rattle.pivot_places.proofs.pivot_place.Tie as tie
 use Rattle.pivot_places.proofs.pivot_place.Reads as reads
 use Rattle.pivot_places.proofs.pivot_place.Lts as lts
 use Rattle.triangle_cells.proofs.row_start.Reads as row-start-reads
+use Rattle.working_blocks.proofs.is_diagonal.Reads as is-diagonal-reads
 
 row-start-requires : tie.Need-row-start-requires
 row-start-requires c κs = let s = c .before .before in omega (arith, few-last (s .args .y) (s .pre .0) (s .args .j) (s .pre .1) (c .if1 .taken), s .pre .2)
@@ -16,17 +20,20 @@ add-result c = let s = c .before .before .before in record { fits = omega (arith
 returns : tie.Need-returns
 returns c = let s = c .before .before .before in in-last (s .args .y) (s .args .j) (s .args .r) (s .pre .2) _ (c .before .if1 .taken) (c .row-start .ensures)
 
+is-diagonal-requires : tie.Need-is-diagonal-requires
+is-diagonal-requires c κs = search needs
+
 returns-2 : tie.Need-returns-2
-returns-2 c = let s = c .before .before .before .before in in-diagonal (s .args .y) (s .args .j) (s .args .r) (s .pre .2) (c .before .before .if1 .left) (c .if2 .taken)
+returns-2 c = let s = c .before .before .before .before in in-diagonal (s .args .y) (s .args .j) (s .args .r) (s .pre .2) (c .before .before .if1 .left) (sym (c .before .is-diagonal .ensures) ∙ c .if2 .taken)
 
 row-start-requires-2 : tie.Need-row-start-requires-2
-row-start-requires-2 c κs = let s = c .before .before .before .before in omega (arith, few-packed (s .args .y) (s .pre .0) (s .args .j) (s .pre .1) (c .before .before .if1 .left) (c .if2 .left), s .pre .2)
+row-start-requires-2 c κs = let s = c .before .before .before .before in omega (arith, packed-limit (s .args .y) (s .pre .0) (s .args .j) (s .pre .1) (sym (c .before .is-diagonal .ensures) ∙ c .if2 .left), s .pre .2)
 
 add-result-2 : tie.Need-add-result-2
-add-result-2 c = let s = c .before .before .before .before .before in record { fits = omega (arith, few-packed (s .args .y) (s .pre .0) (s .args .j) (s .pre .1) (c .before .before .before .if1 .left) (c .before .if2 .left), s .pre .2, start-small (s .args .r) _ (omega (arith, few-packed (s .args .y) (s .pre .0) (s .args .j) (s .pre .1) (c .before .before .before .if1 .left) (c .before .if2 .left), s .pre .2)) (c .row-start2 .ensures)) }
+add-result-2 c = let s = c .before .before .before .before .before in let few = packed-limit (s .args .y) (s .pre .0) (s .args .j) (s .pre .1) (sym (c .before .before .is-diagonal .ensures) ∙ c .before .if2 .left) in record { fits = omega (arith, few, s .pre .2, start-small (s .args .r) _ (omega (arith, few, s .pre .2)) (c .row-start2 .ensures)) }
 
 returns-3 : tie.Need-returns-3
-returns-3 c = let s = c .before .before .before .before .before in in-packed (s .args .y) (s .args .j) (s .args .r) (s .pre .2) (c .before .before .before .if1 .left) _ (c .before .if2 .left) (c .row-start2 .ensures)
+returns-3 c = let s = c .before .before .before .before .before in in-packed (s .args .y) (s .args .j) (s .args .r) (s .pre .2) (c .before .before .before .if1 .left) _ (sym (c .before .before .is-diagonal .ensures) ∙ c .before .if2 .left) (c .row-start2 .ensures)
 
 pub pivot-place-spec : {M : Type 1} → statement M
 pivot-place-spec =
@@ -35,6 +42,7 @@ pivot-place-spec =
     row-start-requires
     add-result
     returns
+    is-diagonal-requires
     returns-2
     row-start-requires-2
     add-result-2

@@ -8,7 +8,7 @@ use Rattle.solving.proofs.solve.Tie as tie
 use Rattle.solving.proofs.solve.Reads as reads
 use Rattle.solving.proofs.solve.Lts as lts
 use Rattle.solving.proofs.divide.Reads as divide-reads
-use Rattle.solving.proofs.is_diagonal.Reads as is-diagonal-reads
+use Rattle.working_blocks.proofs.is_diagonal.Reads as is-diagonal-reads
 use Rattle.solving.proofs.substitute.Reads as substitute-reads
 
 is-diagonal-requires : tie.Need-is-diagonal-requires

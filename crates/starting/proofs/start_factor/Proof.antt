@@ -13,7 +13,7 @@ use Rattle.triangle_init.proofs.init.Reads as init-reads
 use Rattle.diagonal_init.proofs.init_diagonal.Reads as init-diagonal-reads
 use Rattle.places.proofs.loaded_at.Reads as loaded-at-reads
 use Rattle.places.proofs.working_at.Reads as working-at-reads
-use Rattle.starting.proofs.is_diagonal.Reads as is-diagonal-reads
+use Rattle.working_blocks.proofs.is_diagonal.Reads as is-diagonal-reads
 use Rattle.starting.proofs.levels_of.Reads as levels-of-reads
 use Rattle.started.proofs.theta_of.Reads as theta-of-reads
 
