@@ -3,6 +3,7 @@ pub mod Examples
 pub mod Lines
 pub mod Entries
 pub mod Enough
+pub mod Opened
 pub mod Whole
 pub mod Numbers
 pub mod Faults

@@ -13,10 +13,11 @@ use Rattle.sheet.specs.declared.Cursor.{Cursor}
 use Rattle.sheet.specs.declared.Line.{Line}
 use Rattle.sheet.specs.declared.Starts.{Starts}
 use Rattle.sheet.specs.Field.{isFinite}
-use Rattle.sheet.specs.Line.{zzTag, zxTag, zyTag, xxTag, xyTag, yyTag, tagTo, inForm, sizeLine, blockLine, pairLine, singleLine, bareLine, verdictOf}
+use Rattle.sheet.specs.Line.{zzTag, zxTag, zyTag, xyTag, tagTo, inForm, sizeLine, blockLine, pairLine, singleLine, verdictOf}
 use Rattle.sheet.specs.Run.{ended, before, entryIn, isBetween, reaches, blockIn, wordIn, givenVerdict, blockVerdict, entryVerdict, blocksOf, entriesFrom, wordsOf, rowsFrom, passOf}
 use Rattle.sheet.specs.Sheet.{Sheet, Outcome, accepted, refused, countsWithin, settled, readLines, afterSize, readSheet, sheetOf, alone}
 use Rattle.sheet.proofs.Lines.{lines-keep}
+use Rattle.sheet.proofs.Opened.{zzRun, xxRun, yyRun}
 use Rattle.sheet.proofs.Whole.{read-whole}
 
 -- 0, or a refusal of a line
@@ -74,37 +75,35 @@ module _ (s : List ℕ) where
       go m false = h
 
 -- a refusal and its line
+abbrev OnLine : ℕ → ℕ → Type 0
+OnLine number line = (2 ≤ number) × (number ≤ 4) × (1 ≤ line)
+
 abbrev pub Refusal : ℕ → ℕ → Type 0
-Refusal number line = ((number ≡ 1) × (line ≡ 0)) ⊎ ((2 ≤ number) × (number ≤ 4) × (1 ≤ line))
+Refusal number line = ((number ≡ 1) × (line ≡ 0)) ⊎ OnLine number line
 
-of-cursor : (number line : ℕ) → (number ≡ 0 → ⊥) → OfLine number × (1 ≤ line) → Refusal number line
+of-cursor : (number line : ℕ) → (number ≡ 0 → ⊥) → OfLine number × (1 ≤ line) → OnLine number line
 of-cursor number line h (inl z, l) = absurd (h z)
-of-cursor number line h (inr r, l) = inr (r .0, r .1, l)
+of-cursor number line h (inr r, l) = (r .0, r .1, l)
 
-settled-refusal : (c : Cursor) (sheet : Sheet) (starts : Starts) (number line : ℕ) → Sound c → settled c sheet starts ≡ refused number line → Refusal number line
+settled-refusal : (c : Cursor) (sheet : Sheet) (starts : Starts) (number line : ℕ) → Sound c → settled c sheet starts ≡ refused number line → OnLine number line
 settled-refusal c sheet starts number line h e = go (eqb (c .number) 0) refl e
   where
-    go : (t : Bool) → eqb (c .number) 0 ≡ t → cond t (accepted sheet starts) (refused (c .number) (c .line)) ≡ refused number line → Refusal number line
+    go : (t : Bool) → eqb (c .number) 0 ≡ t → cond t (accepted sheet starts) (refused (c .number) (c .line)) ≡ refused number line → OnLine number line
     go true u g = let z : _≡_ {A = ℕ} 0 1 = cc in absurd (omega arith)
     go false u g =
         let n : c .number ≡ number = cc in
         let l : c .line ≡ line = cc in
-        subst (λ (x : ℕ). Refusal x line) n (subst (λ (x : ℕ). Refusal (c .number) x) l (of-cursor (c .number) (c .line) (eqb-false _ 0 u) h))
+        subst (λ (x : ℕ). OnLine x line) n (subst (λ (x : ℕ). OnLine (c .number) x) l (of-cursor (c .number) (c .line) (eqb-false _ 0 u) h))
 
-lines-refusal : (s : List ℕ) (z : Counts) (at number line : ℕ) → readLines s z (record { at = at; line = 2; number = 0 }) ≡ refused number line → Refusal number line
+-- below the size line a refusal is of a line
+pub lines-refusal : (s : List ℕ) (z : Counts) (at number line : ℕ) → readLines s z (record { at = at; line = 2; number = 0 }) ≡ refused number line → OnLine number line
 unfolding readLines
 lines-refusal s z at number line e =
     let c : Cursor = record { at = at; line = 2; number = 0 } in
-    let zz = entriesFrom (length s) s (z .q) 0 0 (blocksOf s (z .k) c .past) in
-    let zx = wordsOf (pairLine zxTag s) (λ r. z .p) (z .q) (zz .past) in
-    let zy = wordsOf (singleLine zyTag s) (λ r. 1) (z .q) (zx .past) in
-    let xx = wordsOf (pairLine xxTag s) (λ r. r + 1) (z .p) (zy .past) in
-    let xy = wordsOf (singleLine xyTag s) (λ r. 1) (z .p) (xx .past) in
-    let yy = wordsOf (bareLine yyTag s) (λ r. 1) 1 (xy .past) in
-    let hz : Sound (zz .past) = entries-sound s (length s) (z .q) 0 0 _ (blocks-sound s (z .k) c (inl refl, omega arith)) in
-    let hx : Sound (xx .past) =
+    let hz : Sound (zzRun s z at .past) = entries-sound s (length s) (z .q) 0 0 _ (blocks-sound s (z .k) c (inl refl, omega arith)) in
+    let hx : Sound (xxRun s z at .past) =
     words-sound _ _ (z .p) _ (words-sound (singleLine zyTag s) (λ r. 1) (z .q) _ (words-sound (pairLine zxTag s) (λ r. z .p) (z .q) _ hz)) in
-    settled-refusal (yy .past) _ _ number line (words-sound _ _ 1 _ (words-sound (singleLine xyTag s) (λ r. 1) (z .p) _ hx)) e
+    settled-refusal (yyRun s z at .past) _ _ number line (words-sound _ _ 1 _ (words-sound (singleLine xyTag s) (λ r. 1) (z .p) _ hx)) e
 
 -- THE CLAIM
 pub read-refusal : (s : List ℕ) (number line : ℕ) → readSheet s ≡ refused number line → Refusal number line
@@ -115,11 +114,11 @@ read-refusal s number line e =
   where
     go : (t : Bool) (v : ℕ) → OfLine v → cond t (refused 1 0) (afterSize v s (sizeLine s 0)) ≡ refused number line → Refusal number line
     go true v h g = let n : 1 ≡ number = cc in let l : 0 ≡ line = cc in inl (sym n, sym l)
-    go false zero h g = lines-refusal s (sizeLine s 0 .counts) (sizeLine s 0 .next) number line g
+    go false zero h g = inr (lines-refusal s (sizeLine s 0 .counts) (sizeLine s 0 .next) number line g)
     go false (suc v) h g =
         let n : suc v ≡ number = cc in
         let l : 1 ≡ line = cc in
-        subst (λ (x : ℕ). Refusal x line) n (subst (λ (x : ℕ). Refusal (suc v) x) l (of-cursor (suc v) 1 (λ z. omega arith) (h, omega arith)))
+        inr (subst (λ (x : ℕ). OnLine x line) n (subst (λ (x : ℕ). OnLine (suc v) x) l (of-cursor (suc v) 1 (λ z. omega arith) (h, omega arith))))
 
 -- the sheet that load is given
 pub alone-refusal : (s : List ℕ) (number line : ℕ) → sheetOf s ≡ refused number line → Refusal number line

@@ -13,11 +13,12 @@ use Rattle.sheet.specs.declared.Line.{Line}
 use Rattle.sheet.specs.declared.Starts.{Starts}
 use Rattle.sheet.specs.Field.{isFinite}
 use Rattle.sheet.specs.Line.{zzTag, zxTag, zyTag, xxTag, xyTag, yyTag, inForm, sizeLine, blockLine, pairLine, singleLine, bareLine, verdictOf}
-use Rattle.sheet.specs.Run.{isBetween, blockIn, entryIn, wordIn, givenVerdict, blockVerdict, blocksOf, entriesFrom, wordsOf, rowsFrom, keptFrom, pastFrom}
-use Rattle.sheet.specs.Sheet.{Sheet, Outcome, accepted, refused, countsWithin, settled, readLines, afterSize, readSheet, sheetOf, alone}
+use Rattle.sheet.specs.Run.{isBetween, blockIn, entryIn, wordIn, givenVerdict, blockVerdict, wordsOf, rowsFrom, keptFrom, pastFrom}
+use Rattle.sheet.specs.Sheet.{Sheet, Outcome, accepted, refused, countsWithin, readLines, afterSize, readSheet, sheetOf, alone}
 use Rattle.sheet.specs.Whole.{Each, InRange, BlockInRange, Finite, WordsFrom, Whole}
 use Rattle.sheet.proofs.Lines.{both, in-order, ran, each, lines-length, grid-length, triangle-length}
 use Rattle.sheet.proofs.Entries.{listed}
+use Rattle.sheet.proofs.Opened.{blocksRun, zzRun, zxRun, zyRun, xxRun, xyRun, yyRun, sheetRead, opened}
 
 -- ---- one run of words
 any-line : (read : ℕ → Line) (n line at : ℕ) → keptFrom read wordIn n line at ≡ keptFrom read wordIn n 0 at
@@ -29,7 +30,6 @@ word-finite : (i : ℕ × ℕ) (line : ℕ) (l : Line) → givenVerdict i l ≡ 
 word-finite i line l v = in-order (inForm (l .next) && eqb (l .first) (i .0) && eqb (l .second) (i .1)) (isFinite (l .word)) true v .1
 
 record RanWords (read : ℕ → Line) (width : ℕ → ℕ) (n : ℕ) (c : Cursor) : Type 0 where
-  open-before : c .number ≡ 0
   count : length (wordsOf read width n c .items) ≡ length (rowsFrom width 0 n)
   line : wordsOf read width n c .past .line ≡ c .line + length (wordsOf read width n c .items)
   words : WordsFrom read (c .at) (wordsOf read width n c .past .at) (wordsOf read width n c .items)
@@ -41,7 +41,6 @@ ran-words read width n c e =
     let r = ran read givenVerdict wordIn is c e in
     let k : length (wordsOf read width n c .items) ≡ length is = lines-length read givenVerdict wordIn is c in
     record {
-      open-before = r .open-before;
       count = k;
       line = omega (arith, r .line);
       words = (
@@ -76,13 +75,6 @@ counts-in-range z e =
     }
 
 -- ---- the lines after the size line
-pub settled-open : (c : Cursor) (a sheet : Sheet) (b starts : Starts) → settled c a b ≡ accepted sheet starts → (c .number ≡ 0) × (a ≡ sheet) × (b ≡ starts)
-settled-open c a sheet b starts e = go (eqb (c .number) 0) refl e
-  where
-    go : (t : Bool) → eqb (c .number) 0 ≡ t → cond t (accepted a b) (refused (c .number) (c .line)) ≡ accepted sheet starts → (c .number ≡ 0) × (a ≡ sheet) × (b ≡ starts)
-    go true u g = (eqb-true _ 0 u, cc, cc)
-    go false u g = let z : _≡_ {A = ℕ} 0 1 = cc in absurd (omega arith)
-
 alone-in : (l : List ℕ) → length l ≡ 1 → l ≡ getD l 0 0 ∷ []
 alone-in [] e = absurd (omega arith)
 alone-in (x ∷ []) e = refl
@@ -90,47 +82,24 @@ alone-in (x ∷ y ∷ l) e = absurd (omega arith)
 
 lines-whole : (s : List ℕ) (z : Counts) (at : ℕ) (sheet : Sheet) (starts : Starts) → length s ≤ 16777216 → InRange z
     → readLines s z (record { at = at; line = 2; number = 0 }) ≡ accepted sheet starts → Whole s sheet starts
-unfolding readLines
 lines-whole s z at sheet starts short h e =
     let c : Cursor = record { at = at; line = 2; number = 0 } in
-    let blocks = blocksOf s (z .k) c in
-    let zz = entriesFrom (length s) s (z .q) 0 0 (blocks .past) in
-    let zx = wordsOf (pairLine zxTag s) (λ r. z .p) (z .q) (zz .past) in
-    let zy = wordsOf (singleLine zyTag s) (λ r. 1) (z .q) (zx .past) in
-    let xx = wordsOf (pairLine xxTag s) (λ r. r + 1) (z .p) (zy .past) in
-    let xy = wordsOf (singleLine xyTag s) (λ r. 1) (z .p) (xx .past) in
-    let yy = wordsOf (bareLine yyTag s) (λ r. 1) 1 (xy .past) in
-    let a : Sheet = record {
-      counts = z;
-      blocks = blocks .items;
-      zz = zz .items;
-      zx = zx .items;
-      zy = zy .items;
-      xx = xx .items;
-      xy = xy .items;
-      yy = getD (yy .items) 0 0;
-    } in
-    let b : Starts = record {
-      counts = z;
-      block = at;
-      zz = blocks .past .at;
-      zx = zz .past .at;
-      zy = zx .past .at;
-      xx = zy .past .at;
-      xy = xx .past .at;
-      yy = xy .past .at;
-      end = yy .past .at;
-      line = yy .past .line;
-    } in
-    let o = settled-open (yy .past) a sheet b starts e in
-    let ryy = ran-words (bareLine yyTag s) (λ r. 1) 1 (xy .past) (o .0) in
-    let rxy = ran-words (singleLine xyTag s) (λ r. 1) (z .p) (xx .past) (ryy .open-before) in
-    let rxx = ran-words (pairLine xxTag s) (λ r. r + 1) (z .p) (zy .past) (rxy .open-before) in
-    let rzy = ran-words (singleLine zyTag s) (λ r. 1) (z .q) (zx .past) (rxx .open-before) in
-    let rzx = ran-words (pairLine zxTag s) (λ r. z .p) (z .q) (zz .past) (rzy .open-before) in
-    let rzz = listed s (z .q) (length s) 0 0 (blocks .past) (rzx .open-before) in
+    let o = opened s z at sheet starts e in
+    let blocks = blocksRun s z at in
+    let zz = zzRun s z at in
+    let zx = zxRun s z at in
+    let zy = zyRun s z at in
+    let xx = xxRun s z at in
+    let xy = xyRun s z at in
+    let yy = yyRun s z at in
+    let ryy = ran-words (bareLine yyTag s) (λ r. 1) 1 (xy .past) (o .yy) in
+    let rxy = ran-words (singleLine xyTag s) (λ r. 1) (z .p) (xx .past) (o .xy) in
+    let rxx = ran-words (pairLine xxTag s) (λ r. r + 1) (z .p) (zy .past) (o .xx) in
+    let rzy = ran-words (singleLine zyTag s) (λ r. 1) (z .q) (zx .past) (o .zy) in
+    let rzx = ran-words (pairLine zxTag s) (λ r. z .p) (z .q) (zz .past) (o .zx) in
+    let rzz = listed s (z .q) (length s) 0 0 (blocks .past) (o .zz) in
     let is = rowsFrom (λ r. 1) 0 (z .k) in
-    let rb = ran (blockLine s) blockVerdict blockIn is c (rzz .open-before) in
+    let rb = ran (blockLine s) blockVerdict blockIn is c (o .blocks) in
     let k : length is ≡ z .k = omega (arith, grid-length 1 0 (z .k)) in
     let nb : length (blocks .items) ≡ z .k = lines-length (blockLine s) blockVerdict blockIn is c ∙ k in
     let nzx : length (zx .items) ≡ z .q * z .p = rzx .count ∙ grid-length (z .p) 0 (z .q) in
@@ -141,14 +110,14 @@ lines-whole s z at sheet starts short h e =
     let fyy : Each Finite (getD (yy .items) 0 0 ∷ []) = subst (λ (l : List ℕ). Each Finite l) one (ryy .finite) in
     let lb : blocks .past .line ≡ z .k + 2 = omega (arith, rb .line) in
     let ly : length (yy .items) ≡ 1 = ryy .count ∙ grid-length 1 0 1 in
-    subst (λ (x : Sheet). Whole s x starts) (o .1)
-    (subst (λ (x : Starts). Whole s a x) (o .2)
+    subst (λ (x : Sheet). Whole s x starts) (o .same-sheet)
+    (subst (λ (x : Starts). Whole s (sheetRead s z at) x) (o .same-starts)
     (record {
       short = short;
       shape = record {
         same-counts = refl;
         counts = h;
-        blocks = each (blockLine s) blockVerdict blockIn BlockInRange block-in-range is c (rzz .open-before);
+        blocks = each (blockLine s) blockVerdict blockIn BlockInRange block-in-range is c (o .blocks);
         blocks-length = nb;
         zz = rzz .within;
         zz-rising = rzz .rising;

@@ -18,7 +18,8 @@ use Rattle.sheet.specs.Sheet.{Sheet, accepted, refused, countsWithin, readLines
 use Rattle.sheet.specs.Whole.{Each, InRange, Finite, Whole}
 use Rattle.sheet.proofs.Lines.{both, in-order, passed, ran, grid-length}
 use Rattle.sheet.proofs.Entries.{listed}
-use Rattle.sheet.proofs.Whole.{counts-in-range, settled-open, not-accepted, read-whole, alone-read}
+use Rattle.sheet.proofs.Opened.{blocksRun, zzRun, zxRun, zyRun, xxRun, xyRun, yyRun, opened}
+use Rattle.sheet.proofs.Whole.{counts-in-range, not-accepted, read-whole, alone-read}
 use Rattle.written.specs.Written.{sizeText, blockText, pairText, singleText, bareText, linesText, entriesText, linesAfterSize, sheetText, textOf, Word, Numbered, InForm}
 use Rattle.written.proofs.Lines.{From, from-drop}
 use Rattle.written.proofs.Runs.{Within, rows-within}
@@ -164,63 +165,29 @@ module _ (s : List ℕ) (short : length s ≤ 16777216) where
   lines-text : (z : Counts) (at : ℕ) (sheet : Sheet) (starts : Starts) → InRange z → at ≤ length s
       → readLines s z (record { at = at; line = 2; number = 0 }) ≡ accepted sheet starts → Whole s sheet starts
       → From s at (linesAfterSize sheet (drop (starts .end) s)) × InForm sheet × (z ≡ sheet .counts) × (starts .end ≤ length s)
-  unfolding readLines
   lines-text z at sheet starts h here e whole =
       let c : Cursor = record { at = at; line = 2; number = 0 } in
-      let blocks = blocksOf s (z .k) c in
-      let zz = entriesFrom (length s) s (z .q) 0 0 (blocks .past) in
-      let zx = wordsOf (pairLine zxTag s) (λ r. z .p) (z .q) (zz .past) in
-      let zy = wordsOf (singleLine zyTag s) (λ r. 1) (z .q) (zx .past) in
-      let xx = wordsOf (pairLine xxTag s) (λ r. r + 1) (z .p) (zy .past) in
-      let xy = wordsOf (singleLine xyTag s) (λ r. 1) (z .p) (xx .past) in
-      let yy = wordsOf (bareLine yyTag s) (λ r. 1) 1 (xy .past) in
-      let a : Sheet = record {
-        counts = z;
-        blocks = blocks .items;
-        zz = zz .items;
-        zx = zx .items;
-        zy = zy .items;
-        xx = xx .items;
-        xy = xy .items;
-        yy = getD (yy .items) 0 0;
-      } in
-      let b : Starts = record {
-        counts = z;
-        block = at;
-        zz = blocks .past .at;
-        zx = zz .past .at;
-        zy = zx .past .at;
-        xx = zy .past .at;
-        xy = xx .past .at;
-        yy = xy .past .at;
-        end = yy .past .at;
-        line = yy .past .line;
-      } in
-      let o = settled-open (yy .past) a sheet b starts e in
-      let one = rowsFrom (λ r. 1) 0 1 in
-      let grid = rowsFrom (λ r. z .p) 0 (z .q) in
-      let rows = rowsFrom (λ r. 1) 0 (z .q) in
-      let triangle = rowsFrom (λ r. r + 1) 0 (z .p) in
-      let fixed = rowsFrom (λ r. 1) 0 (z .p) in
-      let n6 = ran (bareLine yyTag s) givenVerdict wordIn one (xy .past) (o .0) .open-before in
-      let n5 = ran (singleLine xyTag s) givenVerdict wordIn fixed (xx .past) n6 .open-before in
-      let n4 = ran (pairLine xxTag s) givenVerdict wordIn triangle (zy .past) n5 .open-before in
-      let n3 = ran (singleLine zyTag s) givenVerdict wordIn rows (zx .past) n4 .open-before in
-      let n2 = ran (pairLine zxTag s) givenVerdict wordIn grid (zz .past) n3 .open-before in
-      let n1 = listed s (z .q) (length s) 0 0 (blocks .past) n2 .open-before in
-      let rb = ran (blockLine s) blockVerdict blockIn (rowsFrom (λ r. 1) 0 (z .k)) c n1 in
-      let s1 = blocks-only (z .k) c here n1 in
-      let s2 = entries-only (z .q) (length s) 0 0 (blocks .past) (h .q) (s1 .within) n2 in
-      let s3 = pairs-only zxTag (λ r. z .p) (z .q) (zz .past) (omega arith) (omega (arith, h .q)) (λ r l. omega (arith, h .p .1)) (s2 .stands .within) n3 in
-      let s4 = singles-only zyTag (z .q) (zx .past) (omega arith) (omega (arith, h .q)) (s3 .within) n4 in
-      let s5 = pairs-only xxTag (λ r. r + 1) (z .p) (zy .past) (omega arith) (omega (arith, h .p .1)) (λ r l. omega (arith, h .p .1)) (s4 .within) n5 in
-      let s6 = singles-only xyTag (z .p) (xx .past) (omega arith) (omega (arith, h .p .1)) (s5 .within) n6 in
-      let s7 = bare-only yyTag (xy .past) (omega arith) (s6 .within) (o .0) in
+      let o = opened s z at sheet starts e in
+      let blocks = blocksRun s z at in
+      let zz = zzRun s z at in
+      let zx = zxRun s z at in
+      let zy = zyRun s z at in
+      let xx = xxRun s z at in
+      let xy = xyRun s z at in
+      let yy = yyRun s z at in
+      let rb = ran (blockLine s) blockVerdict blockIn (rowsFrom (λ r. 1) 0 (z .k)) c (o .blocks) in
+      let s1 = blocks-only (z .k) c here (o .blocks) in
+      let s2 = entries-only (z .q) (length s) 0 0 (blocks .past) (h .q) (s1 .within) (o .zz) in
+      let s3 = pairs-only zxTag (λ r. z .p) (z .q) (zz .past) (omega arith) (omega (arith, h .q)) (λ r l. omega (arith, h .p .1)) (s2 .stands .within) (o .zx) in
+      let s4 = singles-only zyTag (z .q) (zx .past) (omega arith) (omega (arith, h .q)) (s3 .within) (o .zy) in
+      let s5 = pairs-only xxTag (λ r. r + 1) (z .p) (zy .past) (omega arith) (omega (arith, h .p .1)) (λ r l. omega (arith, h .p .1)) (s4 .within) (o .xx) in
+      let s6 = singles-only xyTag (z .p) (xx .past) (omega arith) (omega (arith, h .p .1)) (s5 .within) (o .xy) in
+      let s7 = bare-only yyTag (xy .past) (omega arith) (s6 .within) (o .yy) in
       let last = last-word yyTag (xy .past) (yy .past .at) s7 in
-      let shape = subst (λ (x : Sheet). Whole s x starts) (sym (o .1)) whole .shape in
+      let shape = subst (λ (x : Sheet). Whole s x starts) (sym (o .same-sheet)) whole .shape in
       let line : blocks .past .line ≡ z .k + 2 = omega (arith, rb .line, grid-length 1 0 (z .k)) in
-      let end = subst (λ (x : Starts). From s (xy .past .at) (bareText yyTag (0, 0) (getD (yy .items) 0 0) (drop (x .end) s))) (o .2) (last .0) in
-      subst (λ (x : Sheet). From s at (linesAfterSize x (drop (starts .end) s)) × InForm x × (z ≡ x .counts) × (starts .end ≤ length s)) (o .1) (
+      let end = subst (λ (x : Starts). From s (xy .past .at) (bareText yyTag (0, 0) (getD (yy .items) 0 0) (drop (x .end) s))) (o .same-starts) (last .0) in
+      subst (λ (x : Sheet). From s at (linesAfterSize x (drop (starts .end) s)) × InForm x × (z ≡ x .counts) × (starts .end ≤ length s)) (o .same-sheet) (
         follow s1 (follow (s2 .stands) (follow s3 (follow s4 (follow s5 (follow s6 end))))),
         record {
           counts = h;
@@ -241,7 +208,7 @@ module _ (s : List ℕ) (short : length s ≤ 16777216) where
           yy = last .1;
         },
         refl,
-        subst (λ (x : Starts). x .end ≤ length s) (o .2) (s7 .within),
+        subst (λ (x : Starts). x .end ≤ length s) (o .same-starts) (s7 .within),
       )
 
 -- ---- a sheet and what follows it; and a sheet alone
