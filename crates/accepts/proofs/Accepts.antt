@@ -1,11 +1,10 @@
 -- Load accepts every sheet that no listed condition refuses, and no other; and what it refuses, it refuses with a listed number.
 use Prim.Native.Nat.{ℕ, zero, suc, _*_, _≤_, _<_}
 use mathlib.Core.Path.{_≡_, refl, sym, ap, subst, _∙_}
-use mathlib.Core.Logic.{_⊎_, inl, inr, by-cases}
+use mathlib.Core.Logic.{_⊎_, inl, inr}
 use mathlib.Core.Bool.{Bool, true, false, not, _&&_, cond, true≢false}
 use mathlib.Core.List.{List, [], _∷_, _++_}
 use mathlib.Core.Option.{Option, none, some}
-use native.Mathlib.Decide.{decLt}
 use native.Mathlib.Omega.{arith}
 use borrow.Author.Tests.{eqb-true, eqb-false}
 use lib.Dec.{ltb, leb, eqb}
@@ -23,7 +22,7 @@ use Rattle.sheet.specs.Fault.{Faulty, hasSlope, coversRows, anyFaulty, levelsOf
 use Rattle.sheet.specs.Answer.{Answers}
 use Rattle.sheet.specs.Whole.{Each}
 use Rattle.sheet.proofs.Faults.{faulty-line, none-faulty}
-use Rattle.sheet.proofs.Numbers.{alone-refusal}
+use Rattle.sheet.proofs.Numbers.{alone-refusal, long-refused}
 use Rattle.layout.specs.declared.Layout.{Layout}
 use Rattle.layout.specs.declared.Pair.{Pair}
 use Rattle.layout.specs.declared.Pair.the-variants.{Dense, Sparse, Refused as Denied}
@@ -45,7 +44,9 @@ use Rattle.accepts.specs.Listed.{
   cross-gate,
   too-short,
 }
-use Rattle.accepts.proofs.Long.{one-long, long-refused}
+use Rattle.sheet.proofs.Whole.{not-accepted}
+use Rattle.workspace.proofs.Lawful.{allowed-pairs}
+use Rattle.accepts.proofs.Long.{one-long}
 
 -- ---- the pairs of k blocks: (i, j) with j < i < k
 abbrev Below : ℕ → Target → Type 0
@@ -93,18 +94,6 @@ module _ (sheet : Sheet) (y : Layout) where
       go f Sparse q e = f e
       go f (Denied n) q e = let z : n ≡ r .number = cc in (t .row, t .col, a .0 .0, a .0 .1, q ∙ ap Denied z)
 
-  -- where none is found in a list, none is in its parts
-  none-parts : (l r : List Target) → firstDenied sheet y (l ++ r) ≡ none → (firstDenied sheet y l ≡ none) × (firstDenied sheet y r ≡ none)
-  unfolding firstDenied
-  none-parts [] r e = (refl, e)
-  none-parts (t ∷ l) r e = go (none-parts l r) (pairIn sheet y (t .row) (t .col)) e
-    where
-      go : (firstDenied sheet y (l ++ r) ≡ none → (firstDenied sheet y l ≡ none) × (firstDenied sheet y r ≡ none)) → (p : Pair)
-          → denied p t (firstDenied sheet y (l ++ r)) ≡ none → (denied p t (firstDenied sheet y l) ≡ none) × (firstDenied sheet y r ≡ none)
-      go f Dense e = f e
-      go f Sparse e = f e
-      go f (Denied n) e = absurd (let z : _≡_ {A = ℕ} 0 1 = cc in omega arith)
-
   -- the gate does not refuse the pair: so it is with each pair of k blocks, where none is found
   abbrev Allowed : ℕ → ℕ → Type 0
   Allowed i j = (n : ℕ) → pairIn sheet y i j ≡ Denied n → ⊥
@@ -116,21 +105,8 @@ module _ (sheet : Sheet) (y : Layout) where
       let o : _≡_ {A = ℕ} 0 1 = cc in
       omega arith
 
-  across-allowed : (i n : ℕ) → firstDenied sheet y (across i n) ≡ none → (j : ℕ) → j < n → Allowed i j
-  unfolding across
-  across-allowed i zero e j h = absurd (omega arith)
-  across-allowed i (suc n) e j h =
-      let r = none-parts (across i n) (target i n ∷ []) e in
-      by-cases (decLt j n) (λ l. across-allowed i n (r .0) j l)
-      (λ l. let z : n ≡ j = omega arith in subst (λ (x : ℕ). Allowed i x) z (alone-allowed i n (r .1)))
-
   pairs-allowed : (k : ℕ) → firstDenied sheet y (pairs k) ≡ none → (i j : ℕ) → i < k → j < i → Allowed i j
-  unfolding pairs
-  pairs-allowed zero e i j h g = absurd (omega arith)
-  pairs-allowed (suc k) e i j h g =
-      let r = none-parts (pairs k) (across k k) e in
-      by-cases (decLt i k) (λ l. pairs-allowed k (r .0) i j l g)
-      (λ l. let z : k ≡ i = omega arith in subst (λ (x : ℕ). Allowed x j) z (across-allowed k k (r .1) j (omega arith)))
+  pairs-allowed k e i j h g = alone-allowed i j (allowed-pairs sheet y k e i j h g)
 
 -- ---- 5 to 9 by their tests, in the order in which load looks
 abbrev chain : Bool → Bool → Bool → Bool → Bool → ℕ
@@ -154,10 +130,7 @@ none-of sheet e = go (eqb (sheet .counts .flag) 0) (eqb (sheet .counts .k) 0) (h
     go false false false false f p q r s e = absurd (omega arith)
     go false false false true f p q r s e = record { flag = p; k = q; slope = r; covers = s }
 
--- bytes that are refused hold no sheet, and a refusal is not an acceptance
-pub not-both : (o p : ℕ) (sheet : Sheet) (starts : Starts) → refused o p ≡ accepted sheet starts → ⊥
-not-both o p sheet starts e = let z : _≡_ {A = ℕ} 0 1 = cc in omega arith
-
+-- a refusal is not an acceptance
 refused-not : (r : Refusal) → Refused r ≡ Accepted → ⊥
 refused-not r e = let z : _≡_ {A = ℕ} 0 1 = cc in omega arith
 
@@ -243,8 +216,8 @@ module _ (s h : List ℕ) (w : List Float) where
         (subst (λ (x : Sheet). pairIn x (layoutOfSheet x) i j ≡ Denied n) q g)
 
     none-listed : (n : ℕ) → Listed s h w n → ⊥
-    none-listed n (too-long g) = not-both 1 0 sheet starts (sym (long-refused s g) ∙ f .read)
-    none-listed n (at-line number line e g) = not-both number line sheet starts (sym e ∙ f .read)
+    none-listed n (too-long g) = not-accepted 1 0 sheet starts (sym (long-refused s g) ∙ f .read)
+    none-listed n (at-line number line e g) = not-accepted number line sheet starts (sym e ∙ f .read)
     none-listed n (not-intercept-only other more e g) =
         eqb-false _ _ (none-of sheet (f .whole) .flag) (subst (λ (x : Sheet). x .counts .flag ≡ 0) (this other more e) g)
     none-listed n (empty-re other more e g) = eqb-false _ _ (none-of sheet (f .whole) .k) (subst (λ (x : Sheet). x .counts .k ≡ 0) (this other more e) g)

@@ -4,7 +4,7 @@ use mathlib.Core.Path.{_≡_, refl, _∙_}
 use mathlib.Core.Bool.{Bool, true, false, cond}
 use mathlib.Core.List.{List}
 use native.Mathlib.Omega.{arith}
-use borrow.Author.Tests.{ltb-true, lt-ltb}
+use borrow.Author.Tests.{ltb-true}
 use lib.Dec.{ltb, eqb}
 use lib.ListN.{length}
 use Rattle.sheet.specs.declared.Starts.{Starts}
@@ -34,8 +34,3 @@ one-long s e = go (readSheet s) refl e
     go : (o : Outcome) → readSheet s ≡ o → alone s o ≡ refused 1 0 → 16777216 < length s
     go (accepted sheet starts) u g = left-over sheet starts (eqb (starts .end) (length s)) g
     go (refused number line) u g = read-long s (u ∙ g)
-
--- and such bytes hold no sheet
-pub long-refused : (s : List ℕ) → 16777216 < length s → sheetOf s ≡ refused 1 0
-unfolding sheetOf readSheet
-long-refused s h = rw (lt-ltb 16777216 (length s) h) refl

@@ -16,7 +16,7 @@ use Rattle.sheet.specs.Sheet.{Sheet, accepted, refused, sheetOf}
 use Rattle.sheet.specs.Sheet as Sheets
 use Rattle.sheet.specs.Fault.{anyOf, hasSlope, levelsOf, Faulty}
 use Rattle.sheet.specs.Whole.{Each}
-use Rattle.sheet.proofs.Whole.{read-whole, alone-read}
+use Rattle.sheet.proofs.Whole.{read-whole, alone-read, not-accepted}
 use Rattle.written.proofs.Read.{written-read}
 use Rattle.written.proofs.OnlySheet.{read-written}
 use Rattle.layout.specs.declared.Pair.the-variants.{Refused as Denied}
@@ -37,7 +37,7 @@ use Rattle.accepts.specs.Listed.{
   cross-gate,
   too-short,
 }
-use Rattle.accepts.proofs.Accepts.{ten-or-eleven, not-both, bytes-listed, accepted-iff}
+use Rattle.accepts.proofs.Accepts.{ten-or-eleven, bytes-listed, accepted-iff}
 
 -- ---- an e that is not 1, or none
 slope-in : (bs : List Block) → (anyOf (λ (b : Block). not (eqb (b .e) 1)) bs ≡ true → ⊥) → Each (λ (b : Block). b .e ≡ 1) bs
@@ -105,7 +105,7 @@ module _ (s h : List ℕ) (w : List Float) where
 
     unlisted : (n : ℕ) → Listed s h w n → ⊥
     unlisted n (too-long g) = omega (arith, a .short)
-    unlisted n (at-line number line e g) = not-both number line sheet starts (sym e ∙ read)
+    unlisted n (at-line number line e g) = not-accepted number line sheet starts (sym e ∙ read)
     unlisted n (not-intercept-only other more e g) = omega (arith, subst (λ (x : Sheet). x .counts .flag ≡ 1) (this e) (a .flag))
     unlisted n (empty-re other more e g) = omega (arith, subst (λ (x : Sheet). 0 < x .counts .k) (this e) (a .some))
     unlisted n (slopes other more e g) = true≢false (sym g ∙ subst (λ (x : Sheet). hasSlope x ≡ false) (this e) (no-slope (sheet .blocks) (a .intercepts)))

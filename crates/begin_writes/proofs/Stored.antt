@@ -18,7 +18,7 @@ use Rattle.axpy.specs.Axpy.{at as double}
 use Rattle.layout.specs.declared.Layout.{Layout}
 use Rattle.layout.specs.Shapes.{Target, target, factors, across, pairs, targets, sizes, loadedSizes, loadedLength, loadedAt, thetaAt, workingAt, sumAt, doublesNeeded}
 use Rattle.heading_rules.specs.Heading.{layoutOf, entryRow}
-use Rattle.layout.proofs.Places.{size-loaded, loaded-inside, working-behind}
+use Rattle.layout.proofs.Places.{size-loaded, loaded-inside, working-behind, theta-inside}
 use Rattle.workspace.specs.Memory.{loadedBlock, loadedSome}
 use Rattle.update.specs.Working.{started}
 use Rattle.update.specs.Calls.{storeStarted}
@@ -59,11 +59,6 @@ range-targets k =
     (range-append k (factors k) (pairs k) (range-factors k k (omega arith)) (range-pairs k k (omega arith)))
     (range-across k k k (omega arith) (omega arith)))
     ((omega arith, omega arith), tt)
-
--- theta lies before the logarithms' sum
-pub theta-inside : (y : Layout) → thetaAt y + y .k ≤ sumAt y
-unfolding sumAt
-theta-inside y = omega arith
 
 -- ---- the loaded doubles stay
 

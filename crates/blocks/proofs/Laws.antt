@@ -12,19 +12,13 @@ use Rattle.storage.specs.Runs.{start, tab, cells}
 use Rattle.storage.specs.Shape.{Shape, packed, diagonal, columns, hasCell, sizeOf, placeOf, cell}
 use Rattle.storage.specs.Part.{part, store}
 use Rattle.storage.proofs.Starts.{start-below, start-le}
-use Rattle.storage.proofs.Cells.{length-tab, length-cells, getD-cells, tab-ext}
+use Rattle.storage.proofs.Cells.{length-tab, length-cells, getD-cells, tab-ext, any-default}
 use Rattle.storage.proofs.Places.{place-below}
 use Rattle.storage.proofs.Parts.{length-store, part-else, store-else, store-one, store-nil, store-more, store-in}
 use Rattle.storage.proofs.Blocks.{cell-part}
 use Rattle.rules.specs.Arithmetic.{ieee}
 use Rattle.blocks.specs.Blocks.{block}
 use Rattle.blocks.specs.Done.{Done}
-
--- inside a list the default does not count
-pub any-default : {A : Type 0} (l : List A) (i : ℕ) (d e : A) → i < length l → getD l i d ≡ getD l i e
-any-default [] i d e h = absurd (omega arith)
-any-default (x ∷ l) zero d e h = refl
-any-default (x ∷ l) (suc i) d e h = any-default l i d e (omega arith)
 
 -- a double read at its place is the block's cell
 pub read-block : (s : Shape) (off : ℕ) (w : List Float) (r c k : ℕ) → hasCell s r c ≡ true → off + sizeOf s ≤ length w → k ≡ off + placeOf s r c

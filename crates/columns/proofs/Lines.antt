@@ -15,6 +15,7 @@ use Rattle.sheet.specs.Sheet.{Sheet, accepted, readSheet}
 use Rattle.sheet.proofs.Whole.{read-whole}
 use Rattle.heading_rules.specs.Heading.{bit}
 use Rattle.columns.specs.Columns.{inRun, inPair, inTurn, entriesAt}
+use Rattle.heading_rules.proofs.Heading.{bit-back}
 
 -- ---- the pass: an entry's line number does not count
 module _ (from cols at rows : ℕ) where
@@ -52,11 +53,6 @@ pub record Turn (X : Bool) (s : List ℕ) (from cols at rows p left due : ℕ) :
   pub same : inTurn from cols at rows due (entriesAt s left p) ≡ X
   pub within : due ≤ from + cols
 
--- a flag as a number, tested
-bit-test : (b : Bool) → eqb (bit b) 1 ≡ b
-bit-test true = refl
-bit-test false = refl
-
 pub turn-done : {X : Bool} {s : List ℕ} {from cols at rows p left due : ℕ} → Turn X s from cols at rows p left due → left ≤ 0 → eqb due (from + cols) ≡ X
 unfolding inTurn keptFrom
 turn-done {left} v h = let e : left ≡ 0 = omega arith in rw e at (v .same)
@@ -73,7 +69,7 @@ module _ {X : Bool} {s : List ℕ} {from cols at rows p left due f : ℕ} {l : L
   unfolding pair-at
   read-next =
       let e : left ≡ suc (left - 1) = omega arith in
-      let t : eqb f 1 ≡ (inRun from cols (l .first) && inRun at rows (l .second)) = ap (λ (x : ℕ). eqb x 1) g ∙ bit-test _ in
+      let t : eqb f 1 ≡ (inRun from cols (l .first) && inRun at rows (l .second)) = ap (λ (x : ℕ). eqb x 1) g ∙ bit-back _ in
       rw (t, g, q) (sym (turn-next from cols at rows s (left - 1) p due) ∙ ap (λ (n : ℕ). inTurn from cols at rows due (entriesAt s n p)) (sym e) ∙ v .same)
 
   pub turn-other : (eqb f 1 && not (eqb (l .first) due)) ≡ true → false ≡ X

@@ -11,14 +11,9 @@ use lib.Dec.{ltb, leb, eqb}
 use Rattle.sheet.specs.Run.{Entry}
 use Rattle.sheet.specs.Whole.{Each, Earlier, Rising}
 use Rattle.heading_rules.specs.Heading.{bit}
-use Rattle.heading_rules.proofs.Lawful.{every-of, every-at}
+use Rattle.heading_rules.proofs.Lawful.{every-of, every-at, same-bools}
 use Rattle.workspace.specs.Loaded.{countOf}
 use Rattle.columns.specs.Columns.{inRun, inColumn, eachOne, inPair, inTurn}
-
-same-bools : (a b : Bool) → (a ≡ true → b ≡ true) → (b ≡ true → a ≡ true) → a ≡ b
-same-bools true b f g = sym (f refl)
-same-bools false true f g = g refl
-same-bools false false f g = refl
 
 count-next : (test : Entry → Bool) (e : Entry) (l : List Entry) → countOf test (e ∷ l) ≡ bit (test e) + countOf test l
 unfolding countOf

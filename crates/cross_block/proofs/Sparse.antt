@@ -15,13 +15,13 @@ use Rattle.storage.specs.Runs.{start, dense, tab}
 use Rattle.storage.specs.Shape.{Shape, columns, sizeOf, fill, cell}
 use Rattle.storage.specs.Part.{part, store}
 use Rattle.storage.proofs.Starts.{start-below}
-use Rattle.storage.proofs.Cells.{length-tab, getD-tab, tab-ext}
+use Rattle.storage.proofs.Cells.{length-tab, getD-tab, tab-ext, any-default}
 use Rattle.storage.proofs.Parts.{length-part, length-store, getD-part, part-else, store-left, store-right, store-in, store-else, store-part}
 use Rattle.storage.proofs.Blocks.{length-fill, cell-fill, is-fill, fill-cell, cell-stored}
 use Rattle.rules.specs.Arithmetic.{ieee}
 use Rattle.rules.specs.Sums.{lessFrom}
 use Rattle.blocks.specs.Blocks.{block, entry}
-use Rattle.blocks.proofs.Laws.{any-default, read-block, has-dense}
+use Rattle.blocks.proofs.Laws.{read-block, has-dense}
 use Rattle.axpy.specs.Axpy.{at, run}
 use Rattle.axpy.proofs.Sums.{read-run}
 use Rattle.cross_block.specs.Blocks.{lessSparseCell, lessColumn}

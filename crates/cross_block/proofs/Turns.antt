@@ -10,7 +10,7 @@ use Rattle.storage.specs.Runs.{start, triangle, dense, tab, single}
 use Rattle.storage.specs.Shape.{Shape, packed, diagonal, columns, sizeOf, placeOf, fill, entries}
 use Rattle.storage.specs.Part.{store, part}
 use Rattle.storage.proofs.Starts.{start-below, start-le, start-dense, start-single}
-use Rattle.storage.proofs.Cells.{length-tab, getD-tab, tab-ext, cells-ext}
+use Rattle.storage.proofs.Cells.{length-tab, getD-tab, tab-ext, cells-ext, any-default}
 use Rattle.storage.proofs.Places.{place-below}
 use Rattle.storage.proofs.Blocks.{is-fill, cell-part}
 use Rattle.rules.specs.Arithmetic.{ieee}
@@ -20,7 +20,7 @@ use Rattle.rules.specs.Cholesky.{forward}
 use Rattle.rules.specs.Cholesky.{at as solved}
 use Rattle.rules.proofs.Exact.{forward-cell}
 use Rattle.blocks.specs.Blocks.{block, EachShape}
-use Rattle.blocks.proofs.Laws.{any-default, read-block, has-dense, has-packed, has-diagonal, written}
+use Rattle.blocks.proofs.Laws.{read-block, has-dense, has-packed, has-diagonal, written}
 use Rattle.blocks.proofs.Runs.{Writing, writing-same, writing-cell, writing-more}
 use Rattle.axpy.specs.Axpy.{at, run, products}
 use Rattle.axpy.proofs.Sums.{along-ext, less-along, summed}

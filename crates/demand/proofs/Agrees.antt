@@ -1,11 +1,10 @@
 -- "Refusals, loaded numbers, progress and steps left are as in document 01's book."
-use Prim.Native.Nat.{ℕ, zero, suc, _+_}
-use mathlib.Core.Path.{_≡_, refl, sym, ap, subst, _∙_}
+use Prim.Native.Nat.{ℕ, _+_}
+use mathlib.Core.Path.{_≡_, sym, ap, subst, _∙_}
 use mathlib.Core.Bool.{Bool, false}
 use mathlib.Core.List.{List}
 use mathlib.Core.Option.{Option, none, some}
 use native.Mathlib.Omega.{arith}
-use lib.ListN.{getD, replicate}
 use lib.Ieee.{Float}
 use borrow.Author.Tests.{le-ltb}
 use Rattle.storage.specs.Runs.{start, triangle}
@@ -21,15 +20,11 @@ use Rattle.book.specs.Demand.{Agrees}
 use Rattle.moves.proofs.Moves.{lawfully}
 use Rattle.standing.proofs.Stands.{Site, Begun, Updating, Stands}
 use Rattle.standing.proofs.Site.{layout-of, progress-of, heading-behind, heading-many}
-
-noughts-at : (n i : ℕ) → _≡_ {A = ℕ} (getD (replicate n 0) i 0) 0
-noughts-at zero i = refl
-noughts-at (suc n) zero = refl
-noughts-at (suc n) (suc i) = noughts-at n i
+use Rattle.storage.proofs.Cells.{default-at}
 
 -- with none, no step is done
 idle-undone : (k : ℕ) (s : Step) → done (stageOf (idle k)) s ≡ false
-idle-undone k s = le-ltb (index s) (stageOf (idle k) (row s) (col s)) (omega (arith, noughts-at 45 (start triangle (row s) + col s)))
+idle-undone k s = le-ltb (index s) (stageOf (idle k) (row s) (col s)) (omega (arith, default-at {A = ℕ} 0 45 (start triangle (row s) + col s)))
 
 module _ (sheet : Sheet) where
   -- an update with its set, taken apart

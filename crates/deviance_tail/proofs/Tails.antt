@@ -16,7 +16,7 @@ use Rattle.rules.specs.Arithmetic.{ieee}
 use Rattle.rules.specs.Sums.{logsFrom}
 use Rattle.rules.specs.Finish.{devianceOf}
 use Rattle.blocks.specs.Blocks.{block}
-use Rattle.blocks.proofs.Laws.{any-default, read-block, has-packed}
+use Rattle.blocks.proofs.Laws.{read-block, has-packed}
 use Rattle.layout.specs.declared.Layout.{Layout}
 use Rattle.layout.specs.Shapes.{pick, shape, sizes, workingAt, sumAt, doublesNeeded}
 use Rattle.heading_rules.specs.Heading.{layoutOf, progressOf, entryRow, lawful, headed}
@@ -31,6 +31,7 @@ use Rattle.profile.specs.declared.Deviance.{Deviance}
 use Rattle.profile.specs.declared.Deviance.the-variants.{Value, NoScale, Refused}
 use Rattle.profile.specs.Deviance.{isFinished, freedom, devianceValue, devianceFromFactor}
 use Rattle.deviance_tail.specs.Tail.{pivotOf, logDeterminantOf, devianceWith}
+use Rattle.storage.proofs.Cells.{any-default}
 
 -- block k is a packed triangle of p + 1 rows
 pub last-shape : (y : Layout) (row : ℕ → ℕ) → shape y row (y .k) (y .k) ≡ packed (y .p + 1)

@@ -23,11 +23,11 @@ use Rattle.working_blocks.specs.Rows.{rowsOf, isDiagonal}
 use Rattle.working_blocks.proofs.Shapes.{rows-level, diagonal-shape, packed-shape, packed-limit}
 use Rattle.blocks.specs.Blocks.{block}
 use Rattle.re_lower.specs.declared.Pivots.{Pivots}
-use Rattle.re_lower.proofs.Laws.{any-default}
 use Rattle.re_lower.proofs.Band.{set-one}
 use Rattle.re_factor.specs.Factor.{Factored, TriangleFactored, DiagonalFactored, logsFirst, logsLater}
 use Rattle.update.specs.Working.{refusedRow}
 use Rattle.factor_logs.specs.Factors.{factorShapeOf, leftOf, logsOf}
+use Rattle.storage.proofs.Cells.{any-default}
 
 -- ---- the form of factor j
 

@@ -1,7 +1,7 @@
 -- `headed`, taken apart.
 use Prim.Native.Nat.{ℕ}
-use mathlib.Core.Path.{_≡_, sym}
-use mathlib.Core.Bool.{Bool, true, false, not, _&&_, _||_, and-eq-true-iff, true≢false}
+use mathlib.Core.Path.{_≡_}
+use mathlib.Core.Bool.{Bool, true, not, _&&_, _||_, and-eq-true-iff}
 use mathlib.Core.List.{List}
 use lib.Dec.{ltb, leb}
 use lib.ListN.{length, getD}
@@ -9,7 +9,7 @@ use borrow.Author.Tests.{leb-true, ltb-true}
 use Rattle.layout.specs.declared.Layout.{Layout}
 use Rattle.layout.specs.Shapes.{levels, numbersNeeded, doublesNeeded}
 use Rattle.heading_rules.specs.Heading.{layoutOf, progressOf, entryRow, every, lawful, progressLawful, headed}
-use Rattle.heading_rules.proofs.Lawful.{every-at}
+use Rattle.heading_rules.proofs.Lawful.{every-at, unless-at}
 use Rattle.heading_rules.specs.Fits.{Fits}
 
 -- nine tests that all pass
@@ -25,10 +25,6 @@ passed a b c d e f g h i t =
     let t₂ = and-eq-true-iff (a && b) c .0 (t₃ .0) in
     (and-eq-true-iff a b .0 (t₂ .0) .0, t₄ .1, t₅ .1, t₆ .1, t₇ .1, t₈ .1)
 
-unless-true : (a b : Bool) → (not a || b) ≡ true → a ≡ true → b ≡ true
-unless-true true b e t = e
-unless-true false b e t = absurd (true≢false (sym t))
-
 pub fits : (h : List ℕ) (doubles : ℕ) → headed h doubles ≡ true → Fits h doubles
 unfolding headed
 fits h doubles e =
@@ -43,5 +39,5 @@ fits h doubles e =
       long = leb-true 128 (length h) (k .0);
       numbers = leb-true (numbersNeeded y) (length h) (k .3);
       room = leb-true (doublesNeeded y) doubles (k .4);
-      rows = λ s c b. ltb-true (entryRow h c) (levels y 1) (every-at (λ c. ltb (entryRow h c) (levels y 1)) (levels y 0) (unless-true (y .sparse) _ (k .5) s) c b);
+      rows = λ s c b. ltb-true (entryRow h c) (levels y 1) (every-at (λ c. ltb (entryRow h c) (levels y 1)) (levels y 0) (unless-at (y .sparse) _ (k .5) s) c b);
     }

@@ -34,7 +34,7 @@ use Rattle.heading_rules.specs.Heading.{
   underWay,
   headed,
 }
-use Rattle.heading_rules.proofs.Lawful.{both, unless, every-of, every-at}
+use Rattle.heading_rules.proofs.Lawful.{both, unless, every-of, every-at, is-false}
 
 -- a list of n numbers needs no noughts
 padded-same : (n : ℕ) (l : List ℕ) → length l ≡ n → padded n l ≡ l
@@ -44,11 +44,11 @@ padded-same zero (x ∷ l) e = absurd (omega arith)
 padded-same (suc n) [] e = absurd (omega arith)
 padded-same (suc n) (x ∷ l) e = ap (λ (m : List ℕ). x ∷ m) (padded-same n l (omega arith))
 
-bit-back : (b : Bool) → eqb (bit b) 1 ≡ b
+pub bit-back : (b : Bool) → eqb (bit b) 1 ≡ b
 bit-back true = refl
 bit-back false = refl
 
-state-back : (s : State) → stateOf (stateNumber s) ≡ s
+pub state-back : (s : State) → stateOf (stateNumber s) ≡ s
 state-back Idle = refl
 state-back UnderWay = refl
 state-back Finished = refl
@@ -157,10 +157,6 @@ never-20 y g rows doubles ok going a b c sparse room =
 
 -- ---- number 20 for a sparse pair
 
-absent : (b : Bool) → (b ≡ true → ⊥) → b ≡ false
-absent true h = absurd (h refl)
-absent false h = refl
-
 last-fails : (a b : Bool) → b ≡ false → (a && b) ≡ false
 last-fails true b e = e
 last-fails false b e = refl
@@ -170,7 +166,7 @@ pub sparse-row-refused : (h : List ℕ) (doubles c : ℕ) → layoutOf h .sparse
     → headed h doubles ≡ false
 unfolding headed
 sparse-row-refused h doubles c s l bad =
-    last-fails (front h doubles y (progressOf h)) (not (y .sparse) || sparseRows h y) (rw s (absent (sparseRows h y) wrong))
+    last-fails (front h doubles y (progressOf h)) (not (y .sparse) || sparseRows h y) (rw s (is-false (sparseRows h y) wrong))
   where
     y : Layout
     y = layoutOf h

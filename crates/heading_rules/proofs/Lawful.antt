@@ -1,6 +1,6 @@
 -- What a lawful layout has.
 use Prim.Native.Nat.{ℕ, zero, suc, _≤_, _<_}
-use mathlib.Core.Path.{_≡_, refl}
+use mathlib.Core.Path.{_≡_, refl, sym}
 use mathlib.Core.Bool.{Bool, true, false, not, _&&_, _||_, and-eq-true-iff}
 use mathlib.Core.Logic.{by-cases}
 use native.Mathlib.Decide.{decLt}
@@ -39,6 +39,17 @@ every-at f (suc n) e c h =
 within-at : (low high x : ℕ) → within low high x ≡ true → (low ≤ x) × (x ≤ high)
 within-at low high x e =
     let k = and-eq-true-iff (leb low x) (leb x high) .0 e in (leb-true low x (k .0), leb-true x high (k .1))
+
+-- two tests that pass together are the same
+pub same-bools : (a b : Bool) → (a ≡ true → b ≡ true) → (b ≡ true → a ≡ true) → a ≡ b
+same-bools true b f g = sym (f refl)
+same-bools false true f g = g refl
+same-bools false false f g = refl
+
+-- a test that does not pass
+pub is-false : (b : Bool) → (b ≡ true → ⊥) → b ≡ false
+is-false true h = absurd (h refl)
+is-false false h = refl
 
 pub unless-at : (a b : Bool) → (not a || b) ≡ true → a ≡ true → b ≡ true
 unless-at true b e h = e

@@ -173,3 +173,8 @@ module _ (y : Layout) where
       working-apart =
           ⊎-elim (λ a. inl (omega arith)) (λ a. inr (omega arith))
           (blocks-apart (sizes y) (targets (y .k)) i j i′ j′ (in-targets (y .k) i j h g) (in-targets (y .k) i′ j′ h′ g′) other)
+
+-- theta lies before the logarithms' sum
+pub theta-inside : (y : Layout) → thetaAt y + y .k ≤ sumAt y
+unfolding sumAt
+theta-inside y = omega arith

@@ -16,13 +16,13 @@ use Rattle.layout.specs.declared.Layout.{Layout}
 use Rattle.layout.specs.Blocks.{sorted, sum, each, padded}
 use Rattle.layout.specs.Shapes.{levels}
 use Rattle.heading_rules.specs.Heading.{sheetLevels}
-use Rattle.heading_rules.proofs.Sorted.{All, all-map, all-at, length-sorted, below-sorted}
+use Rattle.heading_rules.proofs.Sorted.{All, all-map, all-at, length-sorted, below-sorted, sorted-ext}
 use Rattle.layout.proofs.Sums.{sum-same, sum-small, padded-at}
 use Rattle.levels.specs.Held.{Holds, levelList}
 use Rattle.levels.proofs.Sums.{levels-small}
 use Rattle.columns.specs.Columns.{eachOne}
 use Rattle.workspace.specs.Loaded.{rowStart, oneEach, sheetM, sortedLayout, layoutOfSheet}
-use Rattle.workspace.proofs.Lawful.{levelsIn, sorted-same, order-at, levels-at, sheet-levels, diagonal-is}
+use Rattle.workspace.proofs.Lawful.{levelsIn, order-at, levels-at, sheet-levels, diagonal-is}
 use Rattle.layouts.specs.Ordered.{Ordered}
 
 -- ---- functions that agree below n
@@ -69,7 +69,7 @@ module _ (s : List ℕ) (sheet : Sheet) (z : Starts) (e : readSheet s ≡ accept
     of-small i = rw q (levels-small 8 (sheet .blocks) (read-whole s sheet z e .shape .blocks) i)
 
     sorted-is : sorted of (z .counts .k) ≡ sorted (sheetM sheet) (sheet .counts .k)
-    sorted-is = ap (sorted of) same-k ∙ sorted-same of (sheetM sheet) (sheet .counts .k) (λ i h. of-is i (omega (arith, few)))
+    sorted-is = ap (sorted of) same-k ∙ sorted-ext of (sheetM sheet) (sheet .counts .k) (λ i h. of-is i (omega (arith, few)))
 
     -- ---- the sorted order, and the levels in it
     pub order-is : padded 8 (sorted of (z .counts .k)) ≡ layoutOfSheet sheet .order

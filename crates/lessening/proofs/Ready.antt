@@ -33,10 +33,10 @@ use Rattle.working_blocks.proofs.Shapes.{
   block-behind,
   loaded-room,
   sparse-two,
-  triangle-dense,
   rows-limit,
   second-limit,
 }
+use Rattle.heading_rules.proofs.Sorted.{triangle-dense}
 
 module _ (y : Layout) (ok : lawful y ≡ true) (doubles : ℕ) (room : doublesNeeded y ≤ doubles) where
   abbrev none : ℕ → ℕ

@@ -14,6 +14,7 @@ use Rattle.sheet.specs.Run.{Entry, entryIn, wordIn, keptFrom}
 use Rattle.sheet.specs.Whole.{Each, Earlier, Rising}
 use Rattle.workspace.specs.Loaded.{countOf}
 use Rattle.word_places.specs.Spread.{EachLine, spread}
+use Rattle.heading_rules.proofs.Lawful.{is-false}
 
 pub true-false : {b : Bool} → b ≡ true → b ≡ false → ⊥
 true-false e f = let z : _≡_ {A = ℕ} 0 1 = ap (λ (t : Bool). cond t 0 1) (sym e ∙ f) in omega arith
@@ -109,10 +110,6 @@ atCell col row e = eqb (e .col) col && eqb (e .row) row
 
 pub at-cell : (col row : ℕ) (e : Entry) → atCell col row e ≡ true → (e .col ≡ col) × (e .row ≡ row)
 at-cell col row e h = let k = and-eq-true-iff (eqb (e .col) col) (eqb (e .row) row) .0 h in (eqb-true (e .col) col (k .0), eqb-true (e .row) row (k .1))
-
-is-false : (b : Bool) → (b ≡ true → ⊥) → b ≡ false
-is-false true h = absurd (h refl)
-is-false false h = refl
 
 pub rising-only : (col row : ℕ) (l : List Entry) → Rising l → Only (atCell col row) l
 rising-only col row [] r = tt

@@ -7,13 +7,12 @@ use native.Mathlib.Omega.{arith}
 use lib.ListN.{length, set}
 use lib.Ieee.{Float, nan}
 use Rattle.storage.specs.Runs.{tab}
-use Rattle.storage.proofs.Cells.{length-tab}
+use Rattle.storage.proofs.Cells.{length-tab, any-default}
 use Rattle.storage.proofs.Parts.{getD-part, store-else}
 use Rattle.storage.proofs.Filling.{Filling, filling-apart, filling-next}
 use Rattle.rules.specs.Arithmetic.{ieee}
 use Rattle.rules.specs.Solves.{lessSparseT}
 use Rattle.blocks.specs.Blocks.{entry}
-use Rattle.blocks.proofs.Laws.{any-default}
 use Rattle.axpy.specs.Axpy.{at, run}
 
 -- a double read at its place is the vector's entry

@@ -17,12 +17,11 @@ use Rattle.rules.specs.Arithmetic.{ieee}
 use Rattle.layout.specs.declared.Layout.{Layout}
 use Rattle.layout.specs.Shapes.{Target, target, pick, levels, targets, shape, loadedShape, sizes, loadedSizes, loadedLength, loadedAt, thetaAt, workingAt, sumAt, doublesNeeded}
 use Rattle.heading_rules.specs.Heading.{layoutOf, entryRow}
-use Rattle.layout.proofs.Places.{block-inside, blocks-apart, in-targets, size-working, size-loaded}
+use Rattle.layout.proofs.Places.{block-inside, blocks-apart, in-targets, size-working, size-loaded, theta-inside}
 use Rattle.workspace.specs.Memory.{loadedBlock, loadedSome}
 use Rattle.update.specs.Working.{started}
 use Rattle.update.specs.Calls.{storeStarted, begun}
 use Rattle.memory.proofs.Step.{cell-stored}
-use Rattle.memory.proofs.Clear.{theta-inside}
 use Rattle.memory.proofs.Stored.{same-or-other, run-length, run-part, run-drop, run-own}
 
 -- a choice under a test that fails

@@ -10,11 +10,7 @@ use Rattle.rules.specs.Arithmetic.{ieee}
 use Rattle.layout.specs.declared.Layout.{Layout}
 use Rattle.layout.specs.Shapes.{loadedLength, thetaAt, sumAt, doublesNeeded}
 use Rattle.workspace.specs.Memory.{noughts, cleared}
-
--- theta lies between the loaded numbers and the sum
-pub theta-inside : (y : Layout) → thetaAt y + y .k ≤ sumAt y
-unfolding sumAt
-theta-inside y = omega arith
+use Rattle.layout.proofs.Places.{theta-inside}
 
 -- the noughts reach from theta to the end of the workspace
 pub noughts-length : (y : Layout) → loadedLength y + length (noughts y) ≡ doublesNeeded y

@@ -17,7 +17,7 @@ use Rattle.layout.specs.Blocks.{padded}
 use Rattle.layout.specs.Shapes.{levels, numbersNeeded, doublesNeeded}
 use Rattle.heading_rules.specs.Heading.{stateNumber, stateOf, layoutNumbers, progressNumbers, written, layoutOf, progressOf, entryRow, every, lawful, progressLawful, headed}
 use Rattle.heading_rules.proofs.Fits.{fits}
-use Rattle.heading_rules.proofs.Heading.{progress-back}
+use Rattle.heading_rules.proofs.Heading.{state-back, progress-back}
 use Rattle.workspace.specs.Memory.{headingWith}
 
 -- a progress is 47 numbers: the state, the steps left, 45 stages
@@ -41,11 +41,6 @@ state-small : (s : State) → leb (stateNumber s) 2 ≡ true
 state-small Idle = refl
 state-small UnderWay = refl
 state-small Finished = refl
-
-state-back : (s : State) → stateOf (stateNumber s) ≡ s
-state-back Idle = refl
-state-back UnderWay = refl
-state-back Finished = refl
 
 -- records out of equal fields
 abbrev Four : Type 0

@@ -29,6 +29,7 @@ use Rattle.heading_rules.specs.Heading.{stageOf, written, every, forerun, state
 use Rattle.heading_rules.proofs.Lawful.{both, unless, unless-at, every-of, every-at}
 use Rattle.heading_rules.proofs.Heading.{never-20}
 use Rattle.update.specs.Calls.{advanced}
+use Rattle.order.proofs.Next.{all-grows}
 
 -- ---- no step is done without its forerunners, as a fact
 -- the test passes where it holds of every step of the list
@@ -44,12 +45,6 @@ forerun-at g [] e s m = absurd (List·Memᴰ·not-nil m)
 forerun-at g (t ∷ l) e s m =
     let k = and-eq-true-iff (not (done g t) || all (done g) (after t)) (forerun g l) .0 e in
     ⊎-elim (λ q. rw q (unless-at (done g t) (all (done g) (after t)) (k .0))) (forerun-at g l (k .1) s) (List·Memᴰ·cases-cons m)
-
--- a larger set has all that the smaller has
-all-more : (d e : Step → Bool) → ((s : Step) → d s ≡ true → e s ≡ true) → (l : List Step) → all d l ≡ true → all e l ≡ true
-all-more d e h [] q = refl
-all-more d e h (s ∷ l) q =
-    let k = and-eq-true-iff (d s) (all d l) .0 q in both (e s) (all e l) (h s (k .0)) (all-more d e h l (k .1))
 
 -- ---- a lawful progress, taken apart
 pub record Lawfully (k : ℕ) (g : Progress) : Type 0 where
@@ -176,7 +171,7 @@ module _ (k : ℕ) (few : k ≤ 8) (g : Progress) (many : length (g .stages) ≡
 
       fore : (t : Step) → Named k t → done (stageOf (advanced g s)) t ≡ true → all (done (stageOf (advanced g s))) (after t) ≡ true
       fore t o q =
-          all-more (done (stageOf g)) (done (stageOf (advanced g s))) more (after t)
+          all-grows (done (stageOf g)) (done (stageOf (advanced g s))) more (after t)
           (by-cases (decLt (index t) (stageOf g (row t) (col t))) (λ m. lawfully-after k g e t o (lt-ltb (index t) (stageOf g (row t) (col t)) m)) (λ m. rw (new m) (ready-after k (stageOf g) (lawfully k g e .most) (done (stageOf g)) (λ x y. refl) s n .0 r .1)))
         where
           new : (index t < stageOf g (row t) (col t) → ⊥) → t ≡ s

@@ -15,7 +15,8 @@ use Rattle.order.proofs.RustOrder.{rust-runs}
 pub rust-order : (k : ℕ) → Order k (λ s. false) (rustOrder k)
 rust-order k = order-runs k (rustOrder k) (λ i j. 0) (bounded-begun k) (λ s. false) (represents-begun k) .1 (rust-runs k)
 
-all-grows : (e d : Step → Bool) → ((s : Step) → e s ≡ true → d s ≡ true) → (l : List Step) → all e l ≡ true → all d l ≡ true
+-- a larger set has all that the smaller has
+pub all-grows : (e d : Step → Bool) → ((s : Step) → e s ≡ true → d s ≡ true) → (l : List Step) → all e l ≡ true → all d l ≡ true
 all-grows e d h [] q = refl
 all-grows e d h (s ∷ l) q = let p = both-true (e s) (all e l) q in rw (h s (p .0), all-grows e d h l (p .1))
 

@@ -19,7 +19,6 @@ use Rattle.rules.specs.Begin.{diagonalCell, fixedCell}
 use Rattle.rules.specs.Sums.{chain, dot, sumFrom, lessFrom}
 use Rattle.rules.specs.Steps.{subtractDense, subtractDiagonal, subtractLast, subtractSparse}
 use Rattle.rules.specs.Cholesky.{at, besidePivot, factor, radicand}
-use Rattle.re_lower.proofs.Laws.{pivot-root, accepted-at}
 use Rattle.re_lower.proofs.Pivotal.{chain-fits}
 use Rattle.sheet.specs.Sheet.{Sheet}
 use Rattle.layout.specs.declared.Layout.{Layout}
@@ -31,6 +30,7 @@ use Rattle.workspace.specs.Load.{headingOf}
 use Rattle.update.specs.Working.{factored, refusedRow, pivotCount, isDiagonal, subtracted, started, rulesOf}
 use Rattle.book.specs.Book.{layout, last}
 use Rattle.book.specs.Values.{rulesHere, valueAt, finalValue}
+use Rattle.rules.proofs.Rows.{pivot-root, accepted-at}
 
 -- a pivot p: the root of a double x that is not refused
 pub record RootOf (p : Float) : Type 0 where

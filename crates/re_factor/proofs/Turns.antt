@@ -12,7 +12,7 @@ use Rattle.storage.specs.Runs.{start, tab, cells}
 use Rattle.storage.specs.Shape.{Shape, diagonal, runs, runLength, runOf, inRun, rowAt, columnAt, hasCell, sizeOf, placeOf, fill}
 use Rattle.storage.specs.Part.{store}
 use Rattle.storage.proofs.Starts.{start-below, start-single}
-use Rattle.storage.proofs.Cells.{length-cells, tab-ext}
+use Rattle.storage.proofs.Cells.{length-cells, tab-ext, any-default}
 use Rattle.storage.proofs.Places.{lies}
 use Rattle.storage.proofs.Parts.{getD-part, store-more}
 use Rattle.storage.proofs.Filling.{Filling, filling-next}
@@ -20,7 +20,7 @@ use Rattle.rules.specs.Arithmetic.{ieee}
 use Rattle.rules.specs.Begin.{diagonalCell}
 use Rattle.blocks.specs.Blocks.{block, entry}
 use Rattle.blocks.specs.Done.{Done}
-use Rattle.blocks.proofs.Laws.{any-default, read-block, has-diagonal, begun, ended, next-run, done-length, same-block, next}
+use Rattle.blocks.proofs.Laws.{read-block, has-diagonal, begun, ended, next-run, done-length, same-block, next}
 use Rattle.re_factor.specs.Factor.{pivotAt, startedCell, started}
 
 -- a pivot that is read at its place

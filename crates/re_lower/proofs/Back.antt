@@ -15,7 +15,8 @@ use Rattle.rules.specs.Sums.{chain, lessFrom}
 use Rattle.rules.specs.Cholesky.{at}
 use Rattle.rules.specs.Solves.{backward}
 use Rattle.re_lower.specs.Lower.{lower}
-use Rattle.re_lower.proofs.Laws.{any-default, chain-ext}
+use Rattle.storage.proofs.Cells.{any-default}
+use Rattle.rules.proofs.Rows.{chain-ext}
 
 -- where row n starts
 pub start-half : (n : ℕ) → n * (n + 1) / 2 ≡ start triangle n

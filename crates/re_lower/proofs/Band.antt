@@ -11,7 +11,7 @@ use lib.Ieee.{Float, nan, sub, mul, div, binary64}
 use Rattle.storage.specs.Runs.{start, triangle, tab, cells}
 use Rattle.storage.specs.Part.{store}
 use Rattle.storage.proofs.Starts.{start-below, start-le}
-use Rattle.storage.proofs.Cells.{length-tab, getD-tab, take-tab, length-cells, getD-cells}
+use Rattle.storage.proofs.Cells.{length-tab, getD-tab, take-tab, length-cells, getD-cells, any-default}
 use Rattle.storage.proofs.Parts.{store-before, store-in, store-behind, store-one}
 use Rattle.rules.specs.Arithmetic.{ieee}
 use Rattle.rules.specs.Sums.{chain, lessFrom}
@@ -29,7 +29,8 @@ use Rattle.re_lower.specs.Band.{
   solvedTo,
   RowReady,
 }
-use Rattle.re_lower.proofs.Laws.{any-default, chain-ext, length-forward, forward-ext, rows-stay}
+use Rattle.rules.proofs.Rows.{chain-ext, length-forward, rows-stay}
+use Rattle.re_lower.proofs.Laws.{forward-ext}
 use Rattle.re_lower.proofs.Turns.{first-in, first-behind}
 
 -- ---- one cell written

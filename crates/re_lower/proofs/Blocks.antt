@@ -21,7 +21,7 @@ use Rattle.rules.specs.Solves.{backward}
 use Rattle.re_lower.specs.Lower.{answerOf, leftOfTriangle, TriangleDone, leftOfDiagonal, DiagonalDone, rowSolved, backSolved}
 use Rattle.re_lower.specs.declared.Pivots.{Pivots}
 use Rattle.re_lower.specs.declared.Pivots.the-variants.{Accepted, Refused}
-use Rattle.re_lower.proofs.Laws.{length-forward}
+use Rattle.rules.proofs.Rows.{length-forward}
 use Rattle.re_lower.proofs.Back.{length-backward}
 
 -- ---- the answer, and the rule's

@@ -27,7 +27,7 @@ use Rattle.rules.specs.Sums.{chain, lessFrom}
 use Rattle.rules.specs.Cholesky.{at, besidePivot, factor, radicand, pivots}
 use Rattle.re_lower.specs.Lower.{lower, pivot, TriangleDone, DiagonalDone}
 use Rattle.re_lower.specs.declared.Pivots.the-variants.{Accepted}
-use Rattle.re_lower.proofs.Laws.{pivot-root, accepted-at}
+use Rattle.rules.proofs.Rows.{pivot-root, accepted-at}
 use Rattle.re_lower.proofs.Turns.{first-in}
 use Rattle.re_lower.proofs.Blocks.{accepted-none}
 

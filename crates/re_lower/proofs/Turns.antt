@@ -12,14 +12,15 @@ use Rattle.logarithm.specs.Ln.{lnOf}
 use Rattle.storage.specs.Runs.{start, triangle, single, tab, cells}
 use Rattle.storage.specs.Part.{store}
 use Rattle.storage.proofs.Starts.{start-below, start-single}
-use Rattle.storage.proofs.Cells.{length-tab, length-cells, getD-cells}
+use Rattle.storage.proofs.Cells.{length-tab, length-cells, getD-cells, any-default}
 use Rattle.storage.proofs.Parts.{store-before, store-in, store-behind, store-one, store-more}
 use Rattle.rules.specs.Arithmetic.{ieee}
 use Rattle.rules.specs.Sums.{chain, lessFrom, logsFrom}
 use Rattle.rules.specs.Cholesky.{at, forward, besidePivot, factor, radicand}
 use Rattle.re_lower.specs.Lower.{lower, pivot, chained}
 use Rattle.re_lower.specs.Band.{solvedTo}
-use Rattle.re_lower.proofs.Laws.{any-default, chain-ext, length-forward, forward-ext, rows-grow}
+use Rattle.rules.proofs.Rows.{chain-ext, length-forward}
+use Rattle.re_lower.proofs.Laws.{forward-ext, rows-grow}
 
 -- a store from the start on
 module _ {A : Type 0} (w l : List A) (fits : length l ≤ length w) (d : A) (i : ℕ) where

@@ -1,5 +1,5 @@
 -- A step whose turn it is: it is ready, and behind it the next one is.
-use Prim.Native.Nat.{ℕ, zero, suc, _+_, _≤_}
+use Prim.Native.Nat.{ℕ, suc, _+_, _≤_}
 use mathlib.Core.Path.{_≡_, refl, sym, ap, _∙_}
 use mathlib.Core.Bool.{Bool, true, false, _&&_, cond, and-eq-true-iff, true≢false}
 use mathlib.Core.List.{List, [], _∷_, _++_}
@@ -7,7 +7,7 @@ use mathlib.Core.Option.{Option, none, some}
 use native.Mathlib.Omega.{arith}
 use borrow.Author.Tests.{eqb-true}
 use lib.Dec.{leb, eqb}
-use lib.ListN.{length, getD, replicate}
+use lib.ListN.{length}
 use lib.Ieee.{Float}
 use Rattle.storage.specs.Runs.{start, triangle}
 use Rattle.storage.proofs.Parts.{length-part}
@@ -31,6 +31,7 @@ use Rattle.update.specs.Calls.{advanced, refusedBy, stepped, onPivot, stepOf}
 use Rattle.moves.proofs.Kept.{layout-kept, progress-read, headed-with}
 use Rattle.moves.proofs.Moves.{lawfully, length-advanced, stage-advanced, lawful-advanced}
 use Rattle.ready_step.specs.Underway.{isRefused, Underway}
+use Rattle.storage.proofs.Cells.{default-at}
 
 -- the state of a lawful progress goes with the steps left
 state-law : (k : ℕ) (g : Progress) → progressLawful k g ≡ true → stateLawful (g .state) (g .left) (length (rustOrder k)) ≡ true
@@ -134,11 +135,6 @@ pub prefix : (v : Workspace) (a b : List Step) → Underway v (a ++ b) → Under
 prefix v a b u = record { lawful = u .lawful; begun = u .begun; set = u .set; stands = u .stands; order = order-prefix (layoutOf (v .heading) .k) (u .set) a b (u .order) }
 
 -- ---- the first
-noughts : (n i : ℕ) → _≡_ {A = ℕ} (getD (replicate n 0) i 0) 0
-noughts zero i = refl
-noughts (suc n) zero = refl
-noughts (suc n) (suc i) = noughts n i
-
 -- an update just begun
 pub just-begun : (x : List ℕ) (v : Workspace) → headed x (length (v .doubles)) ≡ true → v .heading ≡ headingWith x (underWay (layoutOf x .k)) → Underway v (rustOrder (layoutOf (v .heading) .k))
 just-begun x v ok e =
@@ -148,5 +144,5 @@ just-begun x v ok e =
     known v (rustOrder (layoutOf (v .heading) .k)) (layoutOf x) (underWay n) is-y (ap progressOf e ∙ progress-read x (f .long) (underWay n) refl)
     (rw e (headed-with x (length (v .doubles)) ok (underWay n) refl (under-way-lawful n (is-lawful (layoutOf x) (f .layout) .blocks .1))))
     (λ z. true≢false (ap isIdle (sym z))) (λ s. false)
-    (represents-same n (λ i j. 0) (stageOf (underWay n)) (λ s. false) (λ i j a b. sym (noughts 45 (start triangle i + j))) (represents-begun n))
+    (represents-same n (λ i j. 0) (stageOf (underWay n)) (λ s. false) (λ i j a b. sym (default-at {A = ℕ} 0 45 (start triangle i + j))) (represents-begun n))
     (rw is-y (rust-order n))

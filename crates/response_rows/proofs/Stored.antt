@@ -28,14 +28,9 @@ use Rattle.workspace.specs.Memory.{cellOf, loadedBlock}
 use Rattle.workspace.specs.Loaded.{rowStart, sheetRow}
 use Rattle.workspace.specs.Response.{responseCell, respondedBlock, storeResponse}
 use Rattle.response_rows.specs.Strided.{strided, from, fixedRow, fixedRows, lastAt, lastRow, responseRows}
+use Rattle.storage.proofs.Cells.{any-default}
 use Rattle.response_rows.proofs.Strided.{length-strided, strided-at, strided-else, strided-ext}
 use Rattle.response_rows.proofs.Rows.{rows-within}
-
--- what a list has at an index of its own
-own : {A : Type 0} (l : List A) (i : ℕ) (d e : A) → i < length l → getD l i d ≡ getD l i e
-own [] i d e h = absurd (omega arith)
-own (x ∷ l) zero d e h = refl
-own (x ∷ l) (suc i) d e h = own l i d e (omega arith)
 
 -- ---- one row of a block whose cells lie `step` apart
 
@@ -220,7 +215,7 @@ module _ (h : List ℕ) (w zy xy yl : List Float) where
           (levels y n) (y .p) (y .p + 1)
           (subst (λ (s : Shape). Row s (y .p) (levels y n) (y .p) (y .p + 1)) (fixed-shape n (omega arith)) (columns-row (y .p + 1) (levels y n) (y .p) (omega arith)))
           (omega arith) (from zy (rowStart y n))
-          (λ c b. rw (ne-eqb n (y .k) (λ e. omega arith)) (own zy (sheetRow y n c) (ieee .zero) nan (omega (arith, rows, rows-within y ok n (omega arith)))))
+          (λ c b. rw (ne-eqb n (y .k) (λ e. omega arith)) (any-default zy (sheetRow y n c) (ieee .zero) nan (omega (arith, rows, rows-within y ok n (omega arith)))))
           ∙ sym (across-more n)
 
     -- the last triangle: both copies are one
@@ -240,8 +235,8 @@ module _ (h : List ℕ) (w zy xy yl : List Float) where
       let g : ℕ → Float = responseCell y zy xy yy (y .k) in
       ap (lastRow y xy yl) (fixed-stored room ok rows (y .k) (omega arith))
       ∙ last-one room g v
-      (λ c l. rw (eq-eqb (y .k) (y .k) refl, ne-eqb c (y .p) (λ e. omega arith)) (rw (zero-add c) (own xy c nan (ieee .zero) (omega (arith, effects)))))
-      (rw (eq-eqb (y .k) (y .k) refl, eq-eqb (y .p) (y .p) refl) (own yl 0 nan (ieee .zero) (omega (arith, one))))
+      (λ c l. rw (eq-eqb (y .k) (y .k) refl, ne-eqb c (y .p) (λ e. omega arith)) (rw (zero-add c) (any-default xy c nan (ieee .zero) (omega (arith, effects)))))
+      (rw (eq-eqb (y .k) (y .k) refl, eq-eqb (y .p) (y .p) refl) (any-default yl 0 nan (ieee .zero) (omega (arith, one))))
       ∙ block-stored room (y .k) (omega arith) v (length-across room (y .k) (omega arith)) (later-block room (y .k) (omega arith) (y .k) (omega arith) (omega arith))
       (y .p + 1) (start triangle (y .p)) 1
       (subst (λ (s : Shape). Row s (y .p) (y .p + 1) (start triangle (y .p)) 1) last-shape (triangle-row (y .p)))

@@ -1,4 +1,5 @@
 pub mod Sums
+pub mod Rows
 pub mod Exact
 pub mod Forms
 pub mod Controls

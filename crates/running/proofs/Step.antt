@@ -27,6 +27,7 @@ use Rattle.book.specs.Values.{rulesHere, startHere}
 use Rattle.standing.proofs.Stands.{Site, Begun, Stands, Follows}
 use Rattle.standing.proofs.Site.{layout-of, progress-of, headed-of, loaded-many}
 use Rattle.standing.proofs.Step.{Comes, step-ready, step-comes}
+use Rattle.heading_rules.proofs.Lawful.{same-bools}
 use Rattle.running.proofs.Rust.{answerIn, in-step}
 
 -- what a step comes to where 20 does not, by the four tests that follow: under way, named, done, its forerunners done
@@ -45,12 +46,6 @@ step-tested : (v : Workspace) (s : Step) (k : ℕ) (g : Progress) → headed (v 
 unfolding stepOf
 step-tested v s k g e f p =
     rw (e, f) (ap (λ (x : Progress). tested v s (isUnderWay (x .state)) (named k s) (done (stageOf x) s) (all (done (stageOf x)) (after s))) p)
-
--- two tests that pass together are the same
-both-pass : (a b : Bool) → (a ≡ true → b ≡ true) → (b ≡ true → a ≡ true) → a ≡ b
-both-pass true b f g = sym (f refl)
-both-pass false true f g = g refl
-both-pass false false f g = refl
 
 -- an update is under way where a step is left
 under-way : (b : Bool) → isUnderWay (pick b Finished UnderWay) ≡ pick b false true
@@ -103,7 +98,7 @@ module _ (sheet : Sheet) (h : List ℕ) (w : List Float) (here : Site sheet h w)
         let g = stageOf (u .progress) in
         let by-set = ready-after (last sheet) g (begun .held .most) d (begun .represents) s n in
         let by-stage = ready-after (last sheet) g (begun .held .most) (done g) (λ t m. refl) s n in
-        both-pass (all (done g) (after s)) (all d (after s)) (λ x. by-set .0 (by-stage .1 (sym (begun .represents s n) ∙ f, x)) .1) (λ x. by-stage .0 (by-set .1 (f, x)) .1)
+        same-bools (all (done g) (after s)) (all d (after s)) (λ x. by-set .0 (by-stage .1 (sym (begun .represents s n) ∙ f, x)) .1) (λ x. by-stage .0 (by-set .1 (f, x)) .1)
 
     -- whatever the tests say
     answered : (z exists already forerun : Bool) (by-stage by-stages : Bool) → named (last sheet) s ≡ exists → d s ≡ already → all d (after s) ≡ forerun

@@ -25,6 +25,7 @@ use Rattle.update.specs.Working.{factored, refusedRow, solved, subtracted, logg
 use Rattle.update.specs.Calls.{madeBy, sumBy, refusedBy}
 use Rattle.book.specs.Book.{layout, last}
 use Rattle.book.specs.Values.{rulesHere, startHere}
+use Rattle.update.proofs.Lengths.{length-solved}
 use Rattle.same_rules.proofs.Rows.{someOf, shape-factor, some-rows, solved-rows, logged-rows, subtracted-rows, started-rows}
 
 -- ---- what a rule makes is as long as its shape says, if the block was
@@ -42,14 +43,6 @@ length-factored (packed n) b e = length-fill (packed n) _
 length-factored (diagonal n) b e = length-fill (diagonal n) _
 length-factored (columns rows cols) b e = e
 length-factored (entries cols row) b e = e
-
--- T by a triangle or a diagonal fills its target's shape, and by any other block leaves it
-length-solved : (s d : Shape) (t f : List Float) → length t ≡ sizeOf s → length (solved s d t f) ≡ sizeOf s
-unfolding solved
-length-solved s (packed n) t f e = length-fill s _
-length-solved s (diagonal n) t f e = length-fill s _
-length-solved s (columns rows cols) t f e = e
-length-solved s (entries cols row) t f e = e
 
 -- theta of sorted block b, theta being in sheet order
 abbrev thetaBy : List Float → Layout → ℕ → Float

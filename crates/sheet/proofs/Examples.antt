@@ -1,17 +1,16 @@
 -- Document 01's worked sheet and others, by computation.
-use Prim.Native.Nat.{ℕ, _<_}
+use Prim.Native.Nat.{ℕ}
 use Prim.Native.String.{String}
 use mathlib.Core.Path.{_≡_, refl}
 use mathlib.Core.Bool.{true, false}
 use mathlib.Core.List.{List, [], _∷_, _++_}
-use borrow.Author.Tests.{lt-ltb}
-use lib.ListN.{length, take}
+use lib.ListN.{take}
 use Rattle.sheet.specs.declared.Counts.{Counts}
 use Rattle.sheet.specs.declared.Reading.the-variants.{Sheet as Read, Refused}
 use Rattle.sheet.specs.declared.Starts.{Starts}
 use Rattle.sheet.specs.Line.{inForm, sizeLine, blockLine, verdictOf}
 use Rattle.sheet.specs.Run.{blockVerdict}
-use Rattle.sheet.specs.Sheet.{Sheet, accepted, refused, countsWithin, readSheet, sheetOf}
+use Rattle.sheet.specs.Sheet.{Sheet, accepted, countsWithin}
 use Rattle.sheet.specs.Text.{ended, with-line, reading}
 use Rattle.sheet.proofs.Notation.{without, read, load, refusal, faulty}
 
@@ -76,11 +75,6 @@ with-theta = refl
 theta-left-over : load (ended (worked ++ ("theta 0 3ff0000000000000" ∷ []))) ≡ Refused 2 9
 unfolding ended load
 theta-left-over = refl
-
--- ---- 1: no line is looked at
-too-long : (s : List ℕ) → 16777216 < length s → sheetOf s ≡ refused 1 0
-unfolding sheetOf readSheet
-too-long s h = simp (lt-ltb 16777216 (length s) h)
 
 -- ---- a sheet with no rows, and two fixed effects
 no-rows : List String

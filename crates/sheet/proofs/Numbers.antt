@@ -1,11 +1,11 @@
 -- Reading refuses with 1 and no line, or with 2, 3 or 4 and a line.
-use Prim.Native.Nat.{ℕ, zero, suc, _+_, _≤_}
+use Prim.Native.Nat.{ℕ, zero, suc, _+_, _≤_, _<_}
 use mathlib.Core.Path.{_≡_, refl, sym, _∙_, subst}
 use mathlib.Core.Logic.{_⊎_, inl, inr}
 use mathlib.Core.Bool.{Bool, true, false, _&&_, cond}
 use mathlib.Core.List.{List}
 use native.Mathlib.Omega.{arith}
-use borrow.Author.Tests.{eqb-false}
+use borrow.Author.Tests.{eqb-false, lt-ltb}
 use lib.Dec.{ltb, eqb}
 use lib.ListN.{length}
 use Rattle.sheet.specs.declared.Counts.{Counts}
@@ -136,3 +136,8 @@ alone-refusal s number line e = go (readSheet s) refl e
     go : (o : Outcome) → readSheet s ≡ o → alone s o ≡ refused number line → Refusal number line
     go (accepted sheet starts) u g = left-over sheet starts (eqb (starts .end) (length s)) u g
     go (refused m k) u g = read-refusal s number line (u ∙ g)
+
+-- 1: of bytes that are too long no line is looked at
+pub long-refused : (s : List ℕ) → 16777216 < length s → sheetOf s ≡ refused 1 0
+unfolding sheetOf readSheet
+long-refused s h = rw (lt-ltb 16777216 (length s) h) refl

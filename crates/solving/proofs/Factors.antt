@@ -16,8 +16,9 @@ use Rattle.heading_rules.specs.Heading.{lawful}
 use Rattle.block_sizes.proofs.Sizes.{not-both}
 use Rattle.cross_block.specs.Blocks.{dividedColumns, solvedRows}
 use Rattle.working_blocks.specs.Rows.{rowsOf, isDiagonal}
-use Rattle.working_blocks.proofs.Shapes.{Apart, later, diagonal-shape, packed-shape, sparse-shape, dense-shape, block-inside, block-apart, sparse-two, triangle-dense, rows-limit}
+use Rattle.working_blocks.proofs.Shapes.{Apart, later, diagonal-shape, packed-shape, sparse-shape, dense-shape, block-inside, block-apart, sparse-two, rows-limit}
 use Rattle.solving.specs.Factor.{heightOf}
+use Rattle.heading_rules.proofs.Sorted.{triangle-dense}
 
 -- ---- rows
 

@@ -1,11 +1,11 @@
 -- A loop that tests every number below n: those below j pass.
 use Prim.Native.Nat.{ℕ, _+_, _≤_, _<_}
 use mathlib.Core.Path.{_≡_, refl, sym, _∙_}
-use mathlib.Core.Bool.{Bool, true, false}
+use mathlib.Core.Bool.{Bool, true, false, true≢false}
 use native.Mathlib.Omega.{arith}
 use native.Mathlib.Numerals.{add-one}
 use Rattle.heading_rules.specs.Heading.{every}
-use Rattle.heading_rules.proofs.Lawful.{both, every-at}
+use Rattle.heading_rules.proofs.Lawful.{both, every-at, is-false}
 
 pub record Passing (f : ℕ → Bool) (n j : ℕ) : Type 0 where
   pub within : j ≤ n
@@ -20,15 +20,8 @@ pub passing-more : {f : ℕ → Bool} {n j : ℕ} {t : Bool} → Passing f n j �
 unfolding every
 passing-more {f} {n} {j} e h q z = record { within = omega arith; far = rw add-one (both (every f j) (f j) (e .far) (sym q ∙ z)) }
 
-fails : (b : Bool) → (b ≡ true → ⊥) → false ≡ b
-fails true h = absurd (h refl)
-fails false h = refl
-
-apart : (b : Bool) → b ≡ true → b ≡ false → ⊥
-apart b e z = let q : _≡_ {A = ℕ} 0 1 = cc in omega arith
-
 pub passing-fails : (f : ℕ → Bool) (n j : ℕ) {t : Bool} → j < n → t ≡ f j → t ≡ false → false ≡ every f n
-passing-fails f n j h q z = fails (every f n) (λ a. apart (f j) (every-at f n a j h) (sym q ∙ z))
+passing-fails f n j h q z = sym (is-false (every f n) (λ a. true≢false (sym (every-at f n a j h) ∙ (sym q ∙ z))))
 
 pub passing-all : (f : ℕ → Bool) (n : ℕ) {j : ℕ} → Passing f n j → n ≤ j → true ≡ every f n
 passing-all f n {j} e h =

@@ -10,10 +10,10 @@ use lib.Dec.{eqb}
 use lib.ListN.{length, getD, take, set, replicate, length-set, length-take, getD-replicate}
 use lib.Seq.{getD-set-same, getD-set-other, getD-take, ext-getD}
 use Rattle.layout.specs.declared.Layout.{Layout}
-use Rattle.layout.specs.Blocks.{insert, sorted, sum, padded}
+use Rattle.layout.specs.Blocks.{sorted, sum, padded}
 use Rattle.layout.specs.Shapes.{levels}
 use Rattle.heading_rules.specs.Heading.{every, same, sheetLevels}
-use Rattle.heading_rules.proofs.Sorted.{All, all-map, length-sorted, below-sorted}
+use Rattle.heading_rules.proofs.Sorted.{length-sorted, sorted-ext}
 use Rattle.layout.proofs.Sums.{padded-at, length-padded}
 
 -- ---- the first s sorted blocks stand by sheet index
@@ -41,19 +41,6 @@ pub sheets-done : (y : Layout) (r : List ℕ) (k : ℕ) {s : ℕ} → Sheets y r
 sheets-done y r k {s} e g h =
     let q : k ≡ s = omega arith in
     rw q (e .at)
-
--- ---- the sorted list asks the levels of its own blocks only
-insert-ext : (f g : ℕ → ℕ) (i : ℕ) (l : List ℕ) → f i ≡ g i → All (λ s. f s ≡ g s) l → insert f i l ≡ insert g i l
-unfolding insert
-insert-ext f g i [] e a = refl
-insert-ext f g i (s ∷ l) e a = rw (e, a .0, insert-ext f g i l e (a .1))
-
-pub sorted-ext : (f g : ℕ → ℕ) (k : ℕ) → ((i : ℕ) → i < k → f i ≡ g i) → sorted f k ≡ sorted g k
-unfolding sorted
-sorted-ext f g zero h = refl
-sorted-ext f g (suc k) h =
-    ap (insert f k) (sorted-ext f g k (λ i l. h i (omega arith)))
-    ∙ insert-ext f g k (sorted g k) (h k (omega arith)) (all-map (λ s. s < k) (λ s. f s ≡ g s) (λ s l. h s (omega arith)) (sorted g k) (below-sorted g k))
 
 -- ---- lists compared number by number
 pub assoc : (a b c : Bool) → ((a && b) && c) ≡ (a && (b && c))

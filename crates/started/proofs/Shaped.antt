@@ -22,7 +22,7 @@ use Rattle.re_factor.specs.Factor as factor
 use Rattle.cross_block.specs.Blocks.{scaledTwice, scaledOnce}
 use Rattle.update.specs.Working.{started}
 use Rattle.working_blocks.specs.Rows.{isDiagonal}
-use Rattle.working_blocks.proofs.Shapes.{rows-level, diagonal-shape, packed-shape}
+use Rattle.working_blocks.proofs.Shapes.{rows-level, diagonal-shape, packed-shape, loaded-pair}
 use Rattle.started.specs.Started.{startedBlock}
 
 -- ---- shapes
@@ -42,11 +42,7 @@ module _ (y : Layout) (j : ℕ) where
     shape-loaded = rw (eq-eqb j j refl, lt-ltb j (y .k) h) refl
 
 module _ (y : Layout) (row : ℕ → ℕ) where
-  -- any other block is loaded as it works
-  pub shape-beside : (i j : ℕ) → j < i → loadedShape y row i j ≡ shape y row i j
-  unfolding loadedShape
-  shape-beside i j h = rw (ne-eqb i j (λ e. omega arith)) refl
-
+  -- the last block is loaded as it works
   pub shape-last : loadedShape y row (y .k) (y .k) ≡ shape y row (y .k) (y .k)
   unfolding loadedShape
   shape-last = rw (eq-eqb (y .k) (y .k) refl, le-ltb (y .k) (y .k) (omega arith)) refl
@@ -103,14 +99,14 @@ module _ (y : Layout) (row : ℕ → ℕ) (t : ℕ → Float) where
       → startedBlock y row t i j v ≡ scaledTwice (shape y row i j) (workingAt y i j) (loadedAt y i j) (t j) (t i) v
   pair-started i j h g v =
       block-made i j v
-      ∙ rw (ne-eqb j (y .k) (λ q. omega arith), ne-eqb i (y .k) (λ q. omega arith), ne-eqb i j (λ q. omega arith), ← (size-loaded y row i j), shape-beside y row i j h) refl
+      ∙ rw (ne-eqb j (y .k) (λ q. omega arith), ne-eqb i (y .k) (λ q. omega arith), ne-eqb i j (λ q. omega arith), ← (size-loaded y row i j), loaded-pair y row i j h) refl
 
   -- fixed rows
   pub fixed-started : (j : ℕ) → j < y .k → (v : List Float)
       → startedBlock y row t (y .k) j v ≡ scaledOnce (shape y row (y .k) j) (workingAt y (y .k) j) (loadedAt y (y .k) j) (t j) v
   fixed-started j h v =
       block-made (y .k) j v
-      ∙ rw (ne-eqb j (y .k) (λ q. omega arith), eq-eqb (y .k) (y .k) refl, ← (size-loaded y row (y .k) j), shape-beside y row (y .k) j h) refl
+      ∙ rw (ne-eqb j (y .k) (λ q. omega arith), eq-eqb (y .k) (y .k) refl, ← (size-loaded y row (y .k) j), loaded-pair y row (y .k) j h) refl
 
   -- the last triangle
   pub last-started : (v : List Float)

@@ -5,13 +5,25 @@ use mathlib.Core.List.{List, [], _∷_, _++_}
 use mathlib.Core.Logic.{by-cases}
 use native.Mathlib.Decide.{decLt}
 use native.Mathlib.Omega.{arith}
-use lib.ListN.{length, getD, take, drop, length-append, length-drop, List·getD-append}
+use lib.ListN.{length, getD, take, drop, replicate, length-append, length-drop, List·getD-append}
 use lib.Seq.{take-add, getD-append-add, getD-drop, take-suc, take-all}
 use Rattle.storage.specs.Runs.{start, single, tab, cells}
 use Rattle.storage.specs.Part.{part}
 use Rattle.storage.proofs.Starts.{start-below}
 
 module _ {A : Type 0} where
+  -- inside a list the default does not count
+  pub any-default : (l : List A) (i : ℕ) (d e : A) → i < length l → getD l i d ≡ getD l i e
+  any-default [] i d e h = absurd (omega arith)
+  any-default (x ∷ l) zero d e h = refl
+  any-default (x ∷ l) (suc i) d e h = any-default l i d e (omega arith)
+
+  -- nor in a list of defaults
+  pub default-at : (d : A) (n i : ℕ) → getD (replicate n d) i d ≡ d
+  default-at d zero i = refl
+  default-at d (suc n) zero = refl
+  default-at d (suc n) (suc i) = default-at d n i
+
   -- a list of n cells has n
   pub length-tab : (n : ℕ) (f : ℕ → A) → length (tab n f) ≡ n
   unfolding tab

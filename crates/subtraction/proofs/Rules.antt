@@ -29,7 +29,8 @@ use Rattle.update.specs.Working.{subtracted}
 use Rattle.update.specs.Calls.{madeBy}
 use Rattle.working_blocks.specs.Rows.{rowsOf}
 use Rattle.working_blocks.proofs.Workspace.{fits-lawful, fits-two}
-use Rattle.working_blocks.proofs.Shapes.{rows-level, last-shape, triangle-shape, second-shape, dense-shape, sparse-shape, loaded-pair, sparse-two, triangle-dense}
+use Rattle.working_blocks.proofs.Shapes.{rows-level, last-shape, triangle-shape, second-shape, dense-shape, sparse-shape, loaded-pair, sparse-two}
+use Rattle.heading_rules.proofs.Sorted.{triangle-dense}
 
 -- What S chooses by: where the target, its source, the other source and the loaded pair (1,0) lie, their shapes, the inner count, and the kind of target.
 record Choice : Type 0 where

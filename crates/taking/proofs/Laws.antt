@@ -13,7 +13,7 @@ use Rattle.refusal.specs.declared.Answer.{Answer}
 use Rattle.refusal.specs.declared.Answer.the-variants.{Accepted}
 use Rattle.refusal.specs.Numbers.{refuse}
 use Rattle.storage.specs.Runs.{start, triangle, tab}
-use Rattle.storage.specs.Shape.{Shape, packed, diagonal, columns, entries, sizeOf}
+use Rattle.storage.specs.Shape.{sizeOf}
 use Rattle.storage.specs.Part.{store}
 use Rattle.storage.proofs.Parts.{length-part, length-store, drop-store, part-else, store-behind}
 use Rattle.storage.proofs.Blocks.{length-fill}
@@ -33,7 +33,7 @@ use Rattle.re_lower.specs.declared.Pivots.the-variants.{Accepted as Factored, R
 use Rattle.re_lower.proofs.Blocks.{accepted-none, refused-some}
 use Rattle.update.specs.declared.Name.{Name}
 use Rattle.update.specs.Names.{stepOfName}
-use Rattle.update.specs.Working.{subtracted, solved}
+use Rattle.update.specs.Working.{subtracted}
 use Rattle.update.specs.Calls.{advanced, madeBy, sumBy, refusedBy, stepped, onPivot}
 use Rattle.block_sizes.proofs.Sizes.{doubles-small}
 use Rattle.heading_rules.specs.Fits.{Fits}
@@ -41,6 +41,7 @@ use Rattle.factor_logs.specs.Factors.{OwnBlock, Factors}
 use Rattle.factor_logs.proofs.Forms.{kept}
 use Rattle.taking.specs.declared.Moved.{Moved}
 use Rattle.taking.specs.Taken.{movedBy, doublesBy, Taken}
+use Rattle.update.proofs.Lengths.{length-solved}
 
 -- ---- stores
 
@@ -78,15 +79,6 @@ module _ (y : Layout) (ok : lawful y ≡ true) (w : List Float) (room : doublesN
   all-cleared e =
       e ∙ ap (λ (l : List Float). store from l w) (same-cells (sum + 1 - from) (ieee .zero))
       ∙ ap₂ (λ (a b : ℕ). store a (replicate (b - a) (ieee .zero)) w) is-from (ap (λ (x : ℕ). x + 1) is-sum ∙ add-one (sumAt y))
-
--- ---- the lengths of what steps make
-
-length-solved : (s d : Shape) (t f : List Float) → length t ≡ sizeOf s → length (solved s d t f) ≡ sizeOf s
-unfolding solved
-length-solved s (packed n) t f e = length-fill s _
-length-solved s (diagonal n) t f e = length-fill s _
-length-solved s (columns rows cols) t f e = e
-length-solved s (entries cols r) t f e = e
 
 abbrev both : Answer → Progress → Moved
 both a p = record { answer = a; progress = p }

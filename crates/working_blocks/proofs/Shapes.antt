@@ -1,22 +1,18 @@
 -- The working blocks of a lawful layout as the kernels take them: the shape of each, its limits, its place among the doubles, and that no two share one.
-use Prim.Native.Nat.{ℕ, _+_, _*_, _≤_, _<_}
-use mathlib.Core.Path.{_≡_, refl, sym, ap, ap₂, _∙_}
-use mathlib.Core.Bool.{Bool, true, false, _&&_, _||_, cond, and-eq-true-iff, true≢false}
+use Prim.Native.Nat.{ℕ, _+_, _≤_, _<_}
+use mathlib.Core.Path.{_≡_, refl, sym, ap, _∙_}
+use mathlib.Core.Bool.{Bool, true, false, _&&_, _||_, and-eq-true-iff, true≢false}
 use mathlib.Core.Logic.{_⊎_, inl, inr, ⊎-elim, by-cases}
 use native.Mathlib.Decide.{decLt}
-use native.Mathlib.Nat.{le-trans, mul-le-mul}
 use native.Mathlib.Omega.{arith}
-use lib.Dec.{ltb, leb, eqb}
-use borrow.Author.Tests.{leb-true, eqb-true, eqb-false, eq-eqb, ne-eqb}
+use lib.Dec.{eqb}
+use borrow.Author.Tests.{eqb-true, eqb-false, eq-eqb, ne-eqb}
 use Rattle.storage.specs.Shape.{Shape, packed, diagonal, columns, entries, sizeOf}
 use Rattle.layout.specs.declared.Layout.{Layout}
-use Rattle.layout.specs.declared.Pair.{Pair}
-use Rattle.layout.specs.declared.Pair.the-variants.{Dense, Sparse, Refused}
-use Rattle.layout.specs.Gate.{thin, pairOf}
 use Rattle.layout.specs.Shapes.{pick, levels, shape, loadedShape, sizes, loadedSizes, loadedAt, workingAt, doublesNeeded}
-use Rattle.heading_rules.specs.Heading.{isDense, isSparse, lawful}
+use Rattle.heading_rules.specs.Heading.{lawful}
 use Rattle.heading_rules.proofs.Lawful.{is-lawful}
-use Rattle.heading_rules.proofs.Sorted.{levels-fall, packed-rows}
+use Rattle.heading_rules.proofs.Sorted.{dense-rows, packed-rows}
 use Rattle.layout.proofs.Places.{size-working, size-loaded, working-inside, working-behind, working-apart, loaded-inside}
 use Rattle.working_blocks.specs.Rows.{rowsOf, isDiagonal}
 
@@ -139,17 +135,6 @@ module _ (y : Layout) where
     pub sparse-two : y .sparse ≡ true → (y .diagonal ≡ true) × (y .k ≡ 2)
     sparse-two s = is-lawful y ok .sparse s
 
-    -- a triangle's pairs are dense
-    pub triangle-dense : (j : ℕ) → 0 < j → j < y .k → (y .diagonal && eqb j 1) ≡ false → y .sparse ≡ false
-    triangle-dense j h g d = step (y .sparse) refl
-      where
-        step : (b : Bool) → y .sparse ≡ b → b ≡ false
-        step true e =
-            let t = sparse-two e in
-            let one : j ≡ 1 = omega (arith, t .1) in
-            sym (ap₂ (λ (a : Bool) (n : ℕ). a && eqb n 1) (t .0) one) ∙ d
-        step false e = refl
-
     -- a triangle has at most 316 rows
     pub rows-limit : (i : ℕ) → 0 < i → i ≤ y .k → (i ≡ y .k) ⊎ ((y .diagonal && eqb i 1) ≡ false) → rowsOf y i ≤ 316
     rows-limit i h g why =
@@ -162,31 +147,4 @@ module _ (y : Layout) where
 
     -- and so has a diagonal block 1 whose pair is dense
     pub second-limit : 1 < y .k → y .sparse ≡ false → rowsOf y 1 ≤ 316
-    unfolding pairOf
-    second-limit h s =
-        let m = levels y 1 in
-        let n = levels y 0 in
-        omega (
-          arith,
-          rows-level 1 h,
-          below-root m n (levels-fall y ok 0 1 (omega arith) h)
-              (leb-true (m * n) 100000
-              (dense-only (leb (m * n) 100000) (ltb 2 (y .k)) (y .diagonal && thin n (m * n)) (second (y .sparse) (isSparse pair) (isDense pair) s (is-lawful y ok .pair 1 0 h (omega arith))))),
-        )
-      where
-        pair : Pair
-        pair = pairOf (y .k) (levels y 1) (levels y 0) (y .diagonal) (levels y 0)
-
-        second : (t a b : Bool) → t ≡ false → cond t a b ≡ true → b ≡ true
-        second true a b e p = absurd (true≢false e)
-        second false a b e p = p
-
-        dense-only : (a b c : Bool) → isDense (cond a Dense (cond b (Refused 10) (cond c Sparse (Refused 11)))) ≡ true → a ≡ true
-        dense-only true b c e = refl
-        dense-only false true c e = e
-        dense-only false false true e = e
-        dense-only false false false e = e
-
-        below-root : (a b : ℕ) → a ≤ b → a * b ≤ 100000 → a ≤ 316
-        below-root a b l p =
-            by-cases (decLt 316 a) (λ q. let big : 317 ≤ a = omega arith in absurd (omega (arith, mul-le-mul big (le-trans big l)))) (λ q. omega arith)
+    second-limit h s = omega (arith, rows-level 1 h, dense-rows y ok 1 (omega arith) h s)

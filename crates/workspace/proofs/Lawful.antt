@@ -24,7 +24,7 @@ use Rattle.layout.specs.Gate.{thin, pairOf}
 use Rattle.layout.specs.Shapes.{Target, target, levels, across, pairs}
 use Rattle.layout.proofs.Sums.{sum-same, sum-front, sum-over, over-sorted, padded-at, each-at}
 use Rattle.heading_rules.specs.Heading.{every, bit, within, same, sheetLevels, isDense, isSparse, pairLawful, lawful}
-use Rattle.heading_rules.proofs.Sorted.{All, all-map, all-at, length-sorted, below-sorted}
+use Rattle.heading_rules.proofs.Sorted.{all-at, length-sorted, below-sorted, sorted-ext}
 use Rattle.heading_rules.proofs.Lawful.{both, unless, every-of, every-at}
 use Rattle.workspace.specs.Loaded.{
   rowStart,
@@ -72,20 +72,6 @@ module _ (m : ℕ → ℕ) where
   in-sorted (suc k) i h =
       by-cases (decLt i k) (λ l. in-insert i k (sorted m k) (inr (in-sorted k i l)))
       (λ l. let e : k ≡ i = omega arith in in-insert i k (sorted m k) (inl e))
-
--- the levels of blocks 0 to k - 1 alone decide
-insert-same : (m n : ℕ → ℕ) (i : ℕ) (l : List ℕ) → m i ≡ n i → All (λ s. m s ≡ n s) l → insert m i l ≡ insert n i l
-unfolding insert
-insert-same m n i [] e a = refl
-insert-same m n i (s ∷ l) e a =
-    ap₂ (λ (b : Bool) (z : List ℕ). cond b (i ∷ s ∷ l) (s ∷ z)) (ap₂ (λ (x z : ℕ). ltb x z) (a .0) e) (insert-same m n i l e (a .1))
-
-pub sorted-same : (m n : ℕ → ℕ) (k : ℕ) → ((i : ℕ) → i < k → m i ≡ n i) → sorted m k ≡ sorted n k
-unfolding sorted
-sorted-same m n zero h = refl
-sorted-same m n (suc k) h =
-    insert-same m n k (sorted m k) (h k (omega arith)) (all-map (λ s. s < k) (λ s. m s ≡ n s) (λ s b. h s (omega arith)) (sorted m k) (below-sorted m k))
-    ∙ ap (λ (z : List ℕ). insert n k z) (sorted-same m n k (λ i b. h i (omega arith)))
 
 -- ---- lists with noughts behind them
 
@@ -182,7 +168,7 @@ module _ (sheet : Sheet) (few : sheet .counts .k ≤ 8) where
   order-test =
       ap₂ same
       (ap (λ (n : ℕ). take n (padded 8 list)) (sym long) ∙ padded-take 8 list (omega (arith, long, few)))
-      (sorted-same (sheetLevels (layoutOfSheet sheet) (sheet .counts .k)) (sheetM sheet) (sheet .counts .k) sheet-levels)
+      (sorted-ext (sheetLevels (layoutOfSheet sheet) (sheet .counts .k)) (sheetM sheet) (sheet .counts .k) sheet-levels)
       ∙ same-refl list
 
   pub total : length (sheet .blocks) ≡ sheet .counts .k → sum (levels (layoutOfSheet sheet)) (sheet .counts .k) ≡ levelsOf (sheet .blocks)

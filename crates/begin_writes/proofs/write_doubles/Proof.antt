@@ -3,7 +3,8 @@ use mathlib.Core.Path.{refl}
 use native.Mathlib.Omega.{arith}
 use lib.ListN.{length-set}
 use Rattle.block_sizes.proofs.Sizes.{doubles-small}
-use Rattle.begin_writes.proofs.Stored.{theta-inside, theta-stored, doubles-begun}
+use Rattle.layout.proofs.Places.{theta-inside}
+use Rattle.begin_writes.proofs.Stored.{theta-stored, doubles-begun}
 use borrow.Author.Needs.{needs}
 use Rattle.begin_writes.proofs.write_doubles.Statement.{statement}
 use Rattle.begin_writes.proofs.write_doubles.Tie as tie

@@ -2,9 +2,9 @@
 use native.Mathlib.Omega.{arith}
 use Rattle.rules.specs.Arithmetic.{ieee}
 use Rattle.rules.specs.Cholesky.{forward}
-use Rattle.re_lower.proofs.Laws.{length-forward}
 use Rattle.re_factor.proofs.Lends.{lent-solve}
 use borrow.Author.Needs.{needs}
+use Rattle.rules.proofs.Rows.{length-forward}
 use Rattle.block_solve.proofs.forward.Statement.{statement}
 use Rattle.block_solve.proofs.forward.Tie as tie
 use Rattle.block_solve.proofs.forward.Reads as reads

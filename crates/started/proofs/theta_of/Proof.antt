@@ -2,10 +2,10 @@
 use native.Mathlib.Omega.{arith}
 use lib.Ieee.{nan}
 use Rattle.rules.specs.Arithmetic.{ieee}
-use Rattle.blocks.proofs.Laws.{any-default}
 use Rattle.block_sizes.proofs.Sizes.{few-blocks}
 use Rattle.block_map.proofs.Rows.{order-below}
 use borrow.Author.Needs.{needs}
+use Rattle.storage.proofs.Cells.{any-default}
 use Rattle.started.proofs.theta_of.Statement.{statement}
 use Rattle.started.proofs.theta_of.Tie as tie
 use Rattle.started.proofs.theta_of.Reads as reads

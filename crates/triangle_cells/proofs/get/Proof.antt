@@ -6,7 +6,7 @@ use native.Mathlib.Omega.{arith}
 use lib.Ieee.{nan}
 use Rattle.rules.specs.Arithmetic.{ieee}
 use Rattle.rules.specs.Cholesky.{at}
-use Rattle.re_lower.proofs.Laws.{any-default}
+use Rattle.storage.proofs.Cells.{any-default}
 use Rattle.triangle_cells.proofs.get.Statement.{statement}
 use Rattle.triangle_cells.proofs.get.Tie as tie
 use Rattle.triangle_cells.proofs.get.Reads as reads
