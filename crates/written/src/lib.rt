@@ -1,1 +1,1 @@
-// Every sheet in form, written as Record 1 of document 01 says, is read as itself.
+// A sheet as text (document 01, Record 1), in specs/; and in proofs/ that each sheet in form is read out of its text again, and that nothing else is read.
