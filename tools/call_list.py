@@ -1,44 +1,45 @@
 #!/usr/bin/env python3
-"""Writes the test list of the calls: load, begin, step, replace_response, profile_deviance and deviance_from_factor.
+"""Writes the test list of the calls: load, begin, step, replace_response, profile_deviance, deviance_from_factor and solve_profile_blocked.
 
     call_list.py STDIN STDOUT [ACCEPTED...]
     call_list.py --pivots SHEET
-    call_list.py --original DRIVER
+    call_list.py --original DRIVER [SHEETS]
 
 STDIN gets the calls, and STDOUT what the program `calls` must print of them.  ACCEPTED are files with a sheet and its theta lines, as
 the generator of the Rust original makes them (sheet_list.py says which the stored list was made with); each becomes a sheet that must load.
 The second form prints the pivots, or the refusal, of a file with a sheet and its theta lines, as the program `factor` of document 01 does.
-The third compares what is computed here with the driver of the Rust original: pivots, refused places and deviances of each sheet of the list
-with each theta that it tries.  The Rust original is a package that compiles the published Rust over stand-ins for its array crates (build.rs,
-standins/, a driver, the generator gen.py); DRIVER is the program that cargo builds of it.  It is kept apart from this repository, and a plain clone
-of the Rust will not do.
+The third compares what is computed here with the driver of the Rust original: pivots, refused places, deviances and solutions of each sheet of
+the list with each theta that it tries, and of so many SHEETS more, drawn by a fixed generator.  The Rust original is a package that compiles the
+published Rust over stand-ins for its array crates (build.rs, standins/, a driver, the generator gen.py); DRIVER is the program that cargo builds of
+it.  It is kept apart from this repository, and a plain clone of the Rust will not do.
 
-How the list is made.  The arithmetic below is written from document 01 alone (Records 4 to 6, the book of Record 5, both tables of
+How the list is made.  The arithmetic below is written from document 01 alone (Records 4 to 7, the book of Record 5, both tables of
 refusals), one operation of a Python float, which is an IEEE double, at a time and in that document's orders.  It shares nothing with the
 proved code.  Where document 01 leaves the memory's order open, the layout is that of docs/DECISIONS.md, and sheet_list.py has the reading of
 a sheet, what load leaves, and the sheets that load and replace_response are tried with.  The square root is math.sqrt, which rounds
 correctly; the logarithm is the whole-number definition of crates/logarithm/specs/Ln.antt, in Python's whole numbers.  Every NaN is the word
 7ff8000000000000.  When an update is finished, the script holds the factor to the one that the Rust's order makes on a freshly loaded workspace.
 
-The list is lines of 16 lower-case hexadecimal digits, a word each.  Memory is 1,024 numbers of a heading and 8,192 doubles, numbered
-through; a call is lent the first of each.  A call is
+The list is lines of 16 lower-case hexadecimal digits, a word each.  Memory is 1,024 numbers of a heading, 8,192 doubles and the 4,096
+doubles of a result list, numbered through; a call is lent the first of each.  A call is
 
      0       what is called: 1 begin, 2 S, 3 C, 4 T, 5 replace_response, 6 profile_deviance, 7 deviance_from_factor; 8 load, before which
-             memory is filled with a pattern; 0 nothing, numbers and doubles are altered, as a stranger to the calls may
+             memory is filled with a pattern; 9 solve_profile_blocked; 0 nothing, numbers and doubles are altered, as a stranger to the calls may
      1 to 3  the numbers of the step's name; 1 at 1 for REML; the sheet's bytes at 1 for load
-     4 to 6  the lengths of the lists: theta, or Z'y, X'y, y'y
+     4 to 6  the lengths of the lists: theta, or Z'y, X'y, y'y, or the result list
      7, 8    how many numbers and doubles are lent
      9       how many words follow
     10, 11   from where to before where, counted from word 0, the words are lines any of which number 9 may name
     then     the lists; or the sheet's bytes, eight to a word, the first highest, noughts behind, and those lines; or places and words by turns
 
 What is printed of a call: a line with word 0, how the answer stands (0 accepted, 1 refused, 2 a value, 3 a refused pivot of
-profile_deviance, 4 no scale), the refusal's number and places (0 for the first where it is one of the lines; 26, block and row of that
-pivot) and the value's word; then a line for each number and double that is other than before, with its place and its word.  An alteration has
-only the latter.
+profile_deviance, 4 no scale, 5 a solution), the refusal's number and places (0 for the first where it is one of the lines; 26, block and row of that
+pivot) and the word of the value or of the deviance; of a solution then a line with the word of sigma2; then a line for each number and double that
+is other than before, with its place and its word.  An alteration has only the latter.
 
-The word 9 ends this part.  In the second the calls are on a workspace of 3 by 33,334 cells, one entry in each column, too large for a list: its
-heading and its loaded doubles follow a rule, and behind each call's line stands a sum over all numbers and doubles.
+The word 10 ends this part.  In the second the calls are on a workspace of 3 by 33,334 cells, one entry in each column, too large for a list: its
+heading and its loaded doubles follow a rule, and behind each call's line stands a sum over all numbers and doubles, of a solve over the numbers and
+a result list that was +0.0.
 """
 import math
 import os
@@ -51,12 +52,12 @@ sys.path.insert(0, os.path.dirname(os.path.abspath(__file__)))
 import sheet_list
 
 HEAD = 12
-NUMBERS, DOUBLES = 1024, 8192
+NUMBERS, DOUBLES, RESULTS = 1024, 8192, 4096
 NAN = 0x7FF8000000000000
 TWO_PI = struct.unpack(">d", bytes.fromhex("401921fb54442d18"))[0]
-BEGIN, SUBTRACT, FACTOR, SOLVE, RESPONSE, PROFILE, DEVIANCE, LOAD, END = range(1, 10)
+BEGIN, SUBTRACT, FACTOR, SOLVE, RESPONSE, PROFILE, DEVIANCE, LOAD, SOLUTION, END = range(1, 11)
 ALTER = 0
-ACCEPTED, REFUSED, VALUE, PIVOT, NO_SCALE = range(5)
+ACCEPTED, REFUSED, VALUE, PIVOT, NO_SCALE, SOLVED = range(6)
 
 
 def word(x):
@@ -112,6 +113,36 @@ def ln(x):
     total = (rise - 1074) * LN2 + (series if m >= centre else -series)
     # the quotient of two whole numbers is rounded once, to the nearest double
     return total / UNIT
+
+
+# ---- the sums and the substitutions of a solution (Record 7)
+
+def dot(a, b):
+    s = 0.0
+    for x, y in zip(a, b):
+        s = s + x * y
+    return s
+
+
+def less(x, a, b):
+    """Product by product."""
+    for y, z in zip(a, b):
+        x = x - y * z
+    return x
+
+
+def forward(v, l):
+    out = []
+    for c, x in enumerate(v):
+        out.append(divide(less(x, out, (l[c, e] for e in range(c))), l[c, c]))
+    return out
+
+
+def backward(v, l):
+    out = []
+    for c in reversed(range(len(v))):
+        out.insert(0, divide(less(v[c], (l[r, c] for r in range(c + 1, len(v))), out), l[c, c]))
+    return out
 
 
 # ---- the steps (Records 4 and 5). A name is (kind, i, j, h) with 0 for what the kind has not.
@@ -360,17 +391,86 @@ class Workspace:
     def deviance(self, reml):
         pivots = [self.working[self.k, self.k][r, r] for r in range(self.p + 1)]
         r2 = pivots[-1] * pivots[-1]
-        d = self.n - self.p if reml else self.n
+        d = self.freedom(reml)
         if r2 <= 0 or d <= 0:
             return (NO_SCALE, (0, 0, 0), 0)
-        s = divide(r2, float(d))
-        v = float(d) * ln(TWO_PI * s) + 2.0 * self.sum + float(d)
+        return (VALUE, (0, 0, 0), word(self.value(d, divide(r2, d), pivots[:-1], reml)))
+
+    def freedom(self, reml):
+        return float(self.n) - float(self.p) if reml else float(self.n)
+
+    def value(self, d, s, pivots, reml):
+        v = d * ln(TWO_PI * s) + 2.0 * self.sum + d
         if reml:
             t = 0.0
-            for x in pivots[:-1]:
+            for x in pivots:
                 t = t + ln(x)
             v = v + 2.0 * t
-        return (VALUE, (0, 0, 0), word(v))
+        return v
+
+    # Record 7
+    def solved(self, v):
+        """A to the -1 times v, both by sorted blocks."""
+        k, l = self.k, self.working
+        z = [list(block) for block in v]
+
+        def within(i, substitution):
+            if self.is_diagonal(i):
+                return [divide(x, l[i, i][c, c]) for c, x in enumerate(z[i])]
+            return substitution(z[i], l[i, i])
+
+        for i in range(k):
+            for j in range(i):
+                if self.sparse:
+                    for c, source in enumerate(z[j]):
+                        if source != 0:
+                            r = self.rows[c]
+                            z[i][r] = z[i][r] - l[i, j][r, c] * source
+                else:
+                    z[i] = [x - dot((l[i, j][r, c] for c in range(self.m[j])), z[j]) for r, x in enumerate(z[i])]
+            z[i] = within(i, forward)
+        for i in reversed(range(k)):
+            for j in range(i + 1, k):
+                for c in range(self.m[i]):
+                    rows = [self.rows[c]] if self.sparse else range(self.m[j])
+                    z[i][c] = z[i][c] - dot((l[j, i][r, c] for r in rows), (z[j][r] for r in rows))
+            z[i] = within(i, backward)
+        return z
+
+    def result_length(self):
+        p, q = self.p, self.q
+        return p + 2 * q + p * (p + 1) // 2 + q * (p + 1)
+
+    def solution(self, reml):
+        """Deviance, sigma2 and the result list: beta, b, u, L_X by rows, w of y, w of each column."""
+        k, p = self.k, self.p
+
+        def by_sheet(blocks):
+            return [x for b in range(k) for x in blocks[self.order.index(b)]]
+
+        theta = [self.theta[b] for b in self.order]
+        scaled = [[[self.loaded[k, j][r, c] * theta[j] for c in range(self.m[j])] for j in range(k)] for r in range(p + 1)]
+        v = [by_sheet(blocks) for blocks in scaled]
+        w = [by_sheet(self.solved(blocks)) for blocks in scaled]
+        vy, wy = v[p], w[p]
+        a = self.loaded[k, k]
+        l = {}
+        for r in range(p):
+            row = forward([a[r, c] - dot(v[r], w[c]) for c in range(r)], l)
+            x = less(a[r, r] - dot(v[r], w[r]), row, row)
+            if not x > 0:
+                raise Pivot(r, 0)
+            for c, y in enumerate(row + [root(x)]):
+                l[r, c] = y
+        right = [a[p, j] - dot(v[j], wy) for j in range(p)]
+        beta = backward(forward(right, l), l)
+        r2 = (a[p, p] - dot(vy, wy)) - dot(beta, right)
+        d = self.freedom(reml)
+        sigma2 = divide(r2, d)
+        deviance = self.value(d, sigma2, [l[r, r] for r in range(p)], reml)
+        u = [x - dot((w[j][i] for j in range(p)), beta) for i, x in enumerate(wy)]
+        b = [t * x for t, x in zip(by_sheet([[t] * m for t, m in zip(theta, self.m)]), u)]
+        return deviance, sigma2, beta + b + u + list(l.values()) + wy + [x for j in range(p) for x in w[j]]
 
     # the calls; each gives how the answer stands, number and places, the value's word
     def call_begin(self, theta):
@@ -430,6 +530,18 @@ class Workspace:
     def call_deviance(self, reml):
         return self.deviance(reml) if self.finished() else refusal(25)
 
+    def call_solve(self, reml, length):
+        """The answer with sigma2 behind it, and the words of the result list, none where it is left as it was."""
+        if not self.finished():
+            return refusal(25), None
+        if length != self.result_length():
+            return refusal(13), None
+        try:
+            deviance, sigma2, result = self.solution(reml)
+        except Pivot as p:
+            return refusal(27, *p.place), [0] * length
+        return (SOLVED, (0, 0, 0), word(deviance), word(sigma2)), [word(x) for x in result]
+
 
 YES = (ACCEPTED, (0, 0, 0), 0)
 
@@ -478,10 +590,12 @@ class Case:
         self.room = len(self.heading) + 2, len(self.doubles) + 3
         self.broken = None
         self.calls = []
+        # a solve alters no workspace: it is drawn apart, so that the other calls are the same without it
+        self.solves = random.Random(text)
 
-    def record(self, kind, numbers, lists, lent, answer):
+    def record(self, kind, numbers, lists, lent, answer, result=()):
         c = Call()
-        c.kind, c.numbers, c.lists, c.lent, c.answer = kind, numbers, lists, lent, answer
+        c.kind, c.numbers, c.lists, c.lent, c.answer, c.result = kind, numbers, lists, lent, answer, result
         heading, doubles = (self.broken or self.w.heading()), self.w.doubles()
         c.heading = [(i, x) for i, (x, old) in enumerate(zip(heading, self.heading)) if x != old]
         c.doubles = [(i, x) for i, (x, old) in enumerate(zip(doubles, self.doubles)) if x != old]
@@ -508,6 +622,16 @@ class Case:
         else:
             answer = w.call_deviance(numbers[0])
         return self.record(kind, numbers, lists, lent, answer)
+
+    def solve(self, reml, more=0, cut=(2, 3)):
+        """A solve that is lent a result list with so many doubles more than it must have."""
+        lent = len(self.heading) + cut[0], len(self.doubles) + cut[1]
+        length = max(0, self.w.result_length() + more)
+        if self.broken or min(cut) < 0:
+            answer, result = refusal(20), None
+        else:
+            answer, result = self.w.call_solve(reml, length)
+        return self.record(SOLUTION, (int(reml),), (length,), lent, answer, result or ())
 
     def hold(self):
         """Demand 3: a finished update leaves what begin and the Rust's order give a freshly loaded workspace with the same numbers and theta."""
@@ -572,9 +696,11 @@ class Case:
         for c in self.calls:
             if c.kind == ALTER:
                 out.alter(dict(c.heading), dict(c.doubles))
+            elif c.kind == SOLUTION:
+                out.solve(c.numbers, c.lists, c.lent, c.answer)
             else:
                 out.call(c.kind, c.numbers, c.lists, c.lent, c.answer)
-            out.left(dict(c.heading), dict(c.doubles))
+            out.left(dict(c.heading), dict(c.doubles), dict(enumerate(c.result)))
 
 
 class Output:
@@ -592,11 +718,12 @@ class Output:
         end = HEAD + len(body)
         self.words += [kind, *numbers, *lengths, *lent, len(body) + len(lines), end, end + len(lines), *body, *lines]
 
-    def answer(self, kind, how, places, value):
+    def answer(self, kind, how, places, value, *behind):
         self.lines.append("%d %d %d %d %d %016x\n" % (kind, how, *places, value))
+        self.lines += [" %016x\n" % x for x in behind]
 
     def load(self, text, room, answer, lines=()):
-        self.memory = [sheet_list.PATTERN_U32] * NUMBERS + [sheet_list.PATTERN_F64] * DOUBLES
+        self.memory = [sheet_list.PATTERN_U32] * NUMBERS + [sheet_list.PATTERN_F64] * (DOUBLES + RESULTS)
         body = [int.from_bytes(text[i:i + 8].ljust(8, b"\0"), "big") for i in range(0, len(text), 8)]
         self.head(LOAD, [len(text)], [], room, body, lines)
         number, first, second = answer
@@ -606,13 +733,17 @@ class Output:
         self.head(kind, numbers, [len(l) for l in lists], lent, [x for l in lists for x in l])
         self.answer(kind, *answer)
 
+    def solve(self, numbers, lengths, lent, answer):
+        self.head(SOLUTION, numbers, lengths, lent, [])
+        self.answer(SOLUTION, *answer)
+
     def alter(self, heading, doubles):
         body = [x for i, w in heading.items() for x in (i, w)] + [x for i, w in doubles.items() for x in (NUMBERS + i, w)]
         self.head(ALTER, [], [], (0, 0), body)
 
-    def left(self, heading, doubles):
+    def left(self, heading, doubles, results=()):
         """The numbers and doubles that the call, or the alteration, must leave so."""
-        for at, words in ((0, heading), (NUMBERS, doubles)):
+        for at, words in ((0, heading), (NUMBERS, doubles), (NUMBERS + DOUBLES, dict(results))):
             for i in sorted(words):
                 if self.memory[at + i] != words[i]:
                     self.memory[at + i] = words[i]
@@ -769,6 +900,8 @@ def wander(c, rng, count, odd=0.15):
     """Calls of all kinds, drawn."""
     w = c.w
     for _ in range(count):
+        if c.solves.random() < 0.02:
+            c.solve(c.solves.random() < 0.5, c.solves.choice([0, 0, 0, -1, 1]))
         x = rng.random()
         steps = rust_order(w.k)
         o = {} if rng.random() < 0.97 else {"cut": rng.choice([(-1, 3), (2, -1), (-128, 0)])}
@@ -807,6 +940,14 @@ def whole(c, rng, orders, odd=0.0):
         c.finish(rng)
         c.deviance(False)
         c.deviance(True)
+    if c.w.finished():
+        solve(c)
+
+
+def solve(c):
+    """Both solutions, one behind the other."""
+    c.solve(False)
+    c.solve(True)
 
 
 def damaged(c, rng):
@@ -824,16 +965,52 @@ def damaged(c, rng):
                  lambda: c.respond(*response(rng, w, 0)), lambda: c.begin(*t[1:]), lambda: c.profile(True, INF, *t[1:]), lambda: c.step(any_name(rng, k))]
         for call in rng.sample(calls, 3):
             call()
+        c.solve(c.solves.random() < 0.5, c.solves.choice([0, 1]))
         c.mend()
         c.step(rng.choice(rust_order(k)))
+
+
+def altered(c):
+    """Solutions on a finished factor with doubles that a stranger wrote: X'X not above 0 in each row, NaN, ±0; infinities and NaN anywhere."""
+    w, rng = c.w, c.solves
+    solve(c)
+    last = sum(len(b) for b in w.loaded.values()) - (w.p + 1) * (w.p + 2) // 2
+    steps = set(rust_order(w.k))
+    for r in range(w.p):
+        at = last + r * (r + 1) // 2 + r
+        kept = c.doubles[at]
+        for x in (-1e6, QUIET, -0.0, INF):
+            c.alter(steps, [(at, x)])
+            c.solve(rng.random() < 0.5)
+        c.alter(steps, [(at, kept)])
+    kept = list(enumerate(c.doubles))
+    for odd in ([INF], [0.0, -0.0], [INF, NINF, QUIET, 0.0, 1e200, -1e-200]):
+        for most in (1, 3):
+            c.alter(steps, [(rng.randrange(len(kept)), rng.choice(odd)) for _ in range(rng.randint(1, most))])
+            c.solve(rng.random() < 0.5)
+            c.alter(steps, kept)
+
+
+def collinear(p):
+    """Three levels, each with four readings whose columns of X are multiples of one another."""
+    base = [1.0, 2.0, 5.0]
+    zz = {(i, i): 4.0 for i in range(3)}
+    squares = 4.0 * sum(x * x for x in base)
+    return sheet(12, [3], zz, [[4.0 * x * (c + 1) for c in range(p)] for x in base], [3.0, -2.0, 1.0],
+                 [[squares * (r + 1) * (c + 1) for c in range(r + 1)] for r in range(p)], [7.0 * (c + 1) for c in range(p)], 90.0)
+
+
+# fixed effects and a theta
+COLLINEAR = [(2, 1.7), (3, 2.1), (4, 6.1)]
 
 
 def worked():
     return sheet(3, [1], {(0, 0): 3.0}, [[2.0]], [4.0], [[5.0]], [6.0], 9.0)
 
 
-def pair(n, m0, m1, rows, cells, diagonal0, diagonal1, p=1):
-    """k = 2 with one entry in each column: rows and cells by column of block 0; a diagonal of None is absent."""
+def pair(n, m0, m1, rows, cells, diagonal0, diagonal1, p=1, xx=5000.0, yy=9000.0, null=None):
+    """k = 2 with one entry in each column: rows and cells by column of block 0; a diagonal of None is absent. Z'X is -0 in row `null` of block 1
+    and in the columns that have their entry there."""
     zz = {}
     for c in range(m0):
         if diagonal0[c] is not None:
@@ -843,8 +1020,8 @@ def pair(n, m0, m1, rows, cells, diagonal0, diagonal1, p=1):
         if diagonal1[r] is not None:
             zz[m0 + r, m0 + r] = diagonal1[r]
     q = m0 + m1
-    return sheet(n, [m0, m1], zz, [[0.5 + r + c for c in range(p)] for r in range(q)], [1.0 + r for r in range(q)],
-                 [[0.25] * r + [5000.0 + r] for r in range(p)], [1.5] * p, 9000.0)
+    zx = [[-0.0 if (rows[r] if r < m0 else r - m0) == null else 0.5 + r + c for c in range(p)] for r in range(q)]
+    return sheet(n, [m0, m1], zz, zx, [1.0 + r for r in range(q)], [[0.25] * r + [xx + r] for r in range(p)], [1.5] * p, yy)
 
 
 def cases():
@@ -861,18 +1038,29 @@ def cases():
     for s in (cholesky(0), solving(1, 0), subtraction(9, 9, 9), cholesky(2 ** 64 - 1)):
         c.step(s)
     c.deviance(False)
+    c.solve(False)
     c.begin(1.0)
     c.step(solving(1, 0))
     c.step(cholesky(0))
+    c.solve(True)
     c.step(cholesky(0))
     c.finish()
     c.step(cholesky(0))
     c.deviance(False)
     c.deviance(True)
+    # a result list one too short, one too long, none, all that there is; a lent list too short; and twice the same solution
+    for more in (-1, 1, -100, RESULTS - c.w.result_length(), 0):
+        c.solve(False, more)
+    for cut in ((-1, 3), (2, -1), (-128, 0), (0, 0)):
+        c.solve(True, 0, cut=cut)
+    c.solve(False)
     c.profile(False, 0.0)
+    solve(c)
     c.profile(True, 1.0)
+    c.solve(True)
     c.respond([4.0], [6.0], [9.0])
     c.deviance(False)
+    c.solve(False)
     wander(c, rng, 60)
     damaged(c, rng)
     for n in (1, 2):
@@ -880,12 +1068,14 @@ def cases():
         for reml in (False, True):
             c.profile(reml, 1.0)
             c.deviance(not reml)
+            solve(c)
         whole(c, rng, 2, 0.3)
 
     # s underflows to 0, and the deviance is -infinity
     c = case(sheet(3, [2], {(0, 0): 1.0, (1, 1): 2.0}, [[0.0], [0.0]], [0.0, -0.0], [[1.0]], [0.0], 5e-324))
     c.profile(False, 1.0)
     c.profile(True, 1.0)
+    solve(c)
 
     # simulated readings: k = 1 to 4 and 8, crossed and nested, and p of 1 to 4
     shapes = [([5], 1, 20), ([7], 3, 30), ([6, 4], 2, 40), ([3, 5], 2, 40), ([4, 4], 1, 25), ([5, 3, 4], 2, 50), ([2, 6, 3], 3, 50), ([4, 3, 2, 3], 2, 60),
@@ -896,6 +1086,7 @@ def cases():
         whole(c, rng, 2 if sum(sizes) < 20 else 1)
         if len(sizes) == 8:
             c.profile(True, *thetas(rng, 8, 0))
+            c.solve(False)
             continue
         wander(c, rng, 40)
         whole(c, rng, 1, 0.4)
@@ -911,6 +1102,7 @@ def cases():
     whole(c, rng, 1)
     c.profile(True, 0.5, 0.5)
     c.profile(False, 0.5, 0.5)
+    solve(c)
 
     # any words: refused pivots, infinities, NaNs
     for sizes, p, n, each in (([3], 1, 5, False), ([6], 2, 9, False), ([4, 3], 1, 10, False), ([3, 4], 3, 10, False), ([5, 2], 2, 10, True), ([3, 3], 1, 10, True),
@@ -928,6 +1120,7 @@ def cases():
         c.begin(*t)
         c.finish(rng)
         c.deviance(False)
+        c.solve(True)
     for k in (2, 3):
         sizes = [3, 2, 2][:k]
         q = sum(sizes)
@@ -945,6 +1138,7 @@ def cases():
                 c.begin(*t)
                 c.finish(rng)
                 c.deviance(True)
+                c.solve(True)
 
     # where the Rust leaves out a diagonal subtraction: a cell that underflowed in scaling, one in the division of T(1,0), a NaN column
     for text, t in ((pair(20, 3, 2, [0, 1, 0], [1e150, 1e-200, 0.5], [3.0, 3.0, 3.0], [3.0, 3.0]), (1e-150, 1.0)),
@@ -958,7 +1152,30 @@ def cases():
         c.begin(*t)
         c.finish(rng)
         c.deviance(True)
+        c.solve(False)
         whole(c, rng, 2, 0.2)
+
+    # a pivot of the finish that rounding takes to 0 or below, in row 1 and in row 2: columns that are constant in each level
+    for p, t in COLLINEAR:
+        c = case(collinear(p))
+        c.profile(False, t)
+        c.solve(True)
+        assert c.calls[-1].answer[1] == (27, p - 1, 0)
+
+    # with theta 0, X'X of ±0, which is not above 0, and of the least number above
+    c = case(worked())
+    c.profile(False, 0.0)
+    for x in (0.0, -0.0, 5e-324):
+        c.alter(set(rust_order(1)), [(3, x)])
+        c.solve(False)
+
+    # infinite offsets of the response, of both signs in one row of block 1, so that NaN passes the pivots
+    c = case(simulated(random.Random("overflow"), [3, 2], 2, 30))
+    c.respond([1.7e308, -1.7e308, 1.7e308, -3.0, 2.0], [1.0, 2.0], [5.0])
+    c.profile(False, 4.0, 0.5)
+    solve(c)
+    c.profile(False, 1.0, 0.5)
+    c.solve(True)
 
     # workspaces that a stranger altered: steps on doubles that begin did not write, divisions by 0, a factor that nothing made
     for text in (worked(), simulated(rng, [4, 3], 2, 30), simulated(rng, [5, 2], 1, 30, nested=True), simulated(rng, [3, 2, 2], 1, 30)):
@@ -971,6 +1188,7 @@ def cases():
         c.alter(set(rust_order(k)))
         c.deviance(False)
         c.deviance(True)
+        c.solve(True)
         n = len(c.doubles)
         for x in (-3.0, 5e-324, 1e200, INF, QUIET, -0.0, 2.0):
             c.alter(set(rust_order(k)), [(n - 2, x), (n - 1, rng.choice([1.0, -2.5, INF, QUIET]))])
@@ -984,19 +1202,23 @@ def cases():
             c.alter(done, [(i, rng.choice([INF, QUIET, 0.0, -0.0, drawn(rng), drawn(rng)])) for i in range(at, n)])
             c.finish(rng)
             c.deviance(True)
+            c.solve(True)
         c.begin(*thetas(rng, k, 0))
         c.finish(rng)
         c.deviance(True)
+        altered(c)
 
-    # sparse pairs: more than 100,000 cells, one entry in each column
+    # sparse pairs: more than 100,000 cells, one entry in each column; a source of -0 is skipped going forward, and leaves a -0
     c = case(pair(2000, 317, 316, [rng.randrange(316) for _ in range(317)], [float(rng.randint(1, 4)) for _ in range(317)],
-                  [None if rng.random() < 0.1 else float(rng.randint(3, 9)) for _ in range(317)], [float(rng.randint(9, 30)) for _ in range(316)]))
-    assert c.w.sparse and c.w.diagonal
+                  [None if rng.random() < 0.1 else float(rng.randint(3, 9)) for _ in range(317)], [float(rng.randint(9, 30)) for _ in range(316)],
+                  xx=1e9, yy=1e9, null=7))
+    assert c.w.sparse and c.w.diagonal and 7 in c.w.rows
     c.step(solving(1, 0))
     c.begin(0.5, 0.25)
     c.finish(rng)
     c.deviance(False)
     c.deviance(True)
+    solve(c)
     c.step(subtraction(2, 1, 0))
     c.profile(True, 1e200, 0.5)
     c.profile(False, 5.0, 5.0)
@@ -1012,6 +1234,7 @@ def cases():
     c.respond([1.0] * 633, [2.0], [800.0])
     c.deviance(False)
     c.profile(False, 0.5, 0.25)
+    c.solve(False, -1)
     return out
 
 
@@ -1021,7 +1244,7 @@ def main():
     if sys.argv[1] == "--pivots":
         return print_pivots(sys.argv[2])
     if sys.argv[1] == "--original":
-        return compare(sys.argv[2])
+        return compare(sys.argv[2], int(sys.argv[3]) if len(sys.argv) > 3 else 0)
     out = Output()
     for c in sheet_list.cases(sys.argv[3:]):
         write_sheet(out, c)
@@ -1065,39 +1288,78 @@ class Original(Workspace):
         super().subtract(i, j, h)
 
 
-def compare(driver):
+def more_sheets(count):
+    """So many more sheets, each with a theta: simulated readings, whole numbers throughout, any words."""
+    rng = random.Random("solutions of document 01")
+    for i in range(count):
+        k = rng.choice([1, 2, 2, 2, 3, 4, 5, 8])
+        sizes = [rng.randint(1, 12 if k < 4 else 4) for _ in range(k)]
+        p = rng.randint(1, 5)
+        if i % 4 == 3:
+            yield wild(rng, sizes, p, rng.randint(1, 40), one_each=k == 2 and rng.random() < 0.5), thetas(rng, k, rng.choice([0.0, 0.3]))
+        else:
+            text = simulated(rng, sizes, p, rng.randint(sum(sizes), 120), nested=k == 2 and rng.random() < 0.5, exact=i % 4 == 2)
+            yield text, [rng.choice([0.0, 1.0, 2.0, -0.5]) if i % 4 == 2 else rng.uniform(0, 2) for _ in range(k)]
+
+
+def apart(a, b):
+    """Two words' doubles, in parts of the larger."""
+    x, y = double(a), double(b)
+    return 0.0 if a == b else abs(x - y) / max(abs(x), abs(y)) if math.isfinite(x - y) else math.inf
+
+
+def compare(driver, count):
     def run(text, *words):
         return subprocess.run([driver, *words], input=text, capture_output=True, check=True).stdout.decode()
 
-    seen, same, left_out, values, equal = 0, 0, 0, 0, 0
+    tries = []
     for c in cases():
         tried = []
         for x in c.calls:
             if x.kind in (BEGIN, PROFILE) and x.answer[0] != REFUSED and x.lists[0] not in tried:
                 tried.append(x.lists[0])
-        for t in tried:
-            text = c.text + b"".join(b"theta\t%d\t%016x\n" % (i, w) for i, w in enumerate(t))
-            theta = [double(w) for w in t]
-            w = workspace_of(c.text)
-            mine = pivots(w, theta)
-            rust = run(text, "pivots")
-            if rust == "err\n":
-                rust = run(text, "place")
-            seen += 1
-            if mine != rust:
-                w.__class__ = Original
-                assert pivots(w, theta) == rust, text.decode()
-                left_out += 1
-                continue
+        tries += [(c.text, t) for t in tried]
+    tries += [(text, [bits(t) for t in theta]) for text, theta in more_sheets(count)]
+    seen, same, left_out, values, equal = 0, 0, 0, 0, 0
+    solves, refused, results, solved, farthest = 0, 0, 0, 0, 0.0
+    for text, t in tries:
+        theta = [double(w) for w in t]
+        w = workspace_of(text)
+        text = text + b"".join(b"theta\t%d\t%016x\n" % (i, x) for i, x in enumerate(t))
+        mine = pivots(w, theta)
+        rust = run(text, "pivots")
+        if rust == "err\n":
+            rust = run(text, "place")
+        seen += 1
+        if mine != rust:
+            w.__class__ = Original
+            assert pivots(w, theta) == rust, text.decode()
+            left_out += 1
+        else:
             same += 1
-            if w.finished():
-                for mode, reml in (("ml", False), ("reml", True)):
-                    how, _, value = w.deviance(reml)
-                    rust = int(run(text, "deviance", mode).split("\t")[1], 16)
-                    values += 1
-                    equal += rust == (value if how == VALUE else 0x7FEFFFFFFFFFFFFF)
+        if not w.finished():
+            continue
+        for mode, reml in (("ml", False), ("reml", True)):
+            how, _, value = w.deviance(reml)
+            rust = int(run(text, "deviance", mode).split("\t")[1], 16)
+            values += 1
+            equal += rust == (value if how == VALUE else 0x7FEFFFFFFFFFFFFF)
+            answer, result = w.call_solve(reml, w.result_length())
+            rust = run(text, "solve", mode)
+            solves += 1
+            if answer[0] == REFUSED or rust == "err\n":
+                assert answer[0] == REFUSED and rust == "err\n", text.decode()
+                refused += 1
+                continue
+            mine, rust = [*answer[2:], *result], [int(line.split("\t")[-1], 16) for line in rust.splitlines()]
+            assert len(mine) == len(rust)
+            results += mine[1:] == rust[1:]
+            solved += mine == rust
+            farthest = max(farthest, *map(apart, mine, rust))
     print("updates %d: %d bit for bit, %d where the Rust leaves out a diagonal subtraction" % (seen, same, left_out))
     print("deviances %d: %d bit for bit" % (values, equal))
+    print("solutions %d: both refuse %d; sigma2 and result list of the others: %d bit for bit, with the deviance %d; words are at most %.2g of their size apart"
+          % (solves, refused, results, solved, farthest))
 
 
 def large(out):
@@ -1118,11 +1380,11 @@ def large(out):
     w = Workspace(40000, 1, [m0, 3], [0, 1], True, True, [i % 11 % 3 for i in range(128, 128 + m0)])
     w.fill([bits(loaded(i)) for i in range(133348)] + [0] * 133351)
 
-    def total():
+    def total(doubles):
         s = 0
         for x in w.heading():
             s = s % 2 ** 58 * 31 + x
-        for x in w.doubles():
+        for x in doubles:
             s = s % 2 ** 58 * 31 + (x >> 32)
             s = s % 2 ** 58 * 31 + x % 2 ** 32
         return s
@@ -1131,7 +1393,13 @@ def large(out):
 
     def line(kind, answer, numbers=(), lists=()):
         out.call(kind, numbers, lists, (0, 0), answer)
-        out.lines.append(" %016x\n" % total())
+        out.lines.append(" %016x\n" % total(w.doubles()))
+
+    def solution(reml, more=0):
+        length = w.result_length()
+        answer, result = w.call_solve(reml, length + more)
+        out.solve((reml,), (length + more,), (len(w.heading()), len(w.doubles())), answer)
+        out.lines.append(" %016x\n" % total(result or [0] * length))
 
     line(BEGIN, w.call_begin(theta), (), [theta])
     for s in (solving(1, 0), cholesky(0), solving(2, 0), subtraction(2, 2, 0), solving(1, 0), subtraction(2, 1, 0), subtraction(2, 1, 0), subtraction(1, 1, 0),
@@ -1139,12 +1407,16 @@ def large(out):
         line(s[0], w.call_step(s), s[1:])
     for reml in (0, 1):
         line(DEVIANCE, w.call_deviance(reml), (reml,))
+        solution(reml)
+    solution(0, -1)
     line(PROFILE, w.call_profile(theta, 0), (0,), [theta])
     wide = [bits(1e200), bits(0.5)]
     line(PROFILE, w.call_profile(wide, 1), (1,), [wide])
+    solution(1)
     response = [[bits(fraction(i) - 8.0) for i in range(q)], [bits(5.0)], [bits(1.0)]]
     line(RESPONSE, w.call_response(response), (), response)
     line(PROFILE, w.call_profile(theta, 1), (1,), [theta])
+    solution(1)
 
 
 if __name__ == "__main__":

@@ -1,12 +1,15 @@
-// Memory, numbered through: the 1,024 numbers of a heading, then 8,192 doubles.
+// Memory, numbered through: the 1,024 numbers of a heading, then 8,192 doubles, then the 4,096 of a result list.
 ghost use Prim.Native.Nat.{_<_};
 use libc::STDOUT_FILENO;
 
 // The words of a call's head. Its body stands behind it.
 pub const HEAD: usize = 12;
 
-// Where m has each number and double as it was before a call, behind the room of a body.
-const BEFORE: usize = 56320;
+// Where m has each number and double as it was before a call, behind the room of a body. A result list stands there alone.
+const BEFORE: usize = 52224;
+
+// Where it has the result list.
+const RESULTS: usize = 61440;
 
 // What stands in numbers and doubles that no call has written.
 fn pattern(i: usize) -> u64 {
@@ -44,7 +47,7 @@ fn put(h: &mut [u32; 1024], w: &mut [f64; 8192], i: usize, x: u64) {
 // Memory that no call has written.
 pub fn reset(m: &mut [u64; 65536], h: &mut [u32; 1024], w: &mut [f64; 8192]) {
     let mut i: usize = 0;
-    while i < 9216 {
+    while i < 13312 {
         let x = pattern(i);
         put(h, w, i, x);
         m[BEFORE + i] = x;
@@ -62,23 +65,47 @@ pub fn alter(m: &[u64; 65536], h: &mut [u32; 1024], w: &mut [f64; 8192]) {
     }
 }
 
-// A line for each number and double that is other than before: its place and its word.
+// A line for number or double i where it is other than before: its place and its word.
+fn print_change(m: &mut [u64; 65536], i: usize, x: u64)
+    requires { ⌜ i < 13312 ⌝ }
+{
+    if m[BEFORE + i] != x {
+        io::print_decimal(STDOUT_FILENO, i as u64);
+        word_list::print_word(x);
+    }
+    m[BEFORE + i] = x;
+}
+
+// The lines of numbers and doubles.
 pub fn print_changes(m: &mut [u64; 65536], h: &[u32; 1024], w: &[f64; 8192]) {
     let mut i: usize = 0;
     while i < 9216 {
-        let x = word_at(h, w, i);
-        if m[BEFORE + i] != x {
-            io::print_decimal(STDOUT_FILENO, i as u64);
-            word_list::print_word(x);
-        }
-        m[BEFORE + i] = x;
+        print_change(m, i, word_at(h, w, i));
+        i += 1;
+    }
+}
+
+// The result list as it was.
+pub fn fill_results(v: &mut [f64], m: &[u64; 65536]) {
+    let mut i: usize = 0;
+    while i < 4096 && i < v.len() {
+        v[i] = words::double(m[RESULTS + i]);
+        i += 1;
+    }
+}
+
+// The lines of the result list.
+pub fn print_results(m: &mut [u64; 65536], v: &[f64; 4096]) {
+    let mut i: usize = 0;
+    while i < 4096 {
+        print_change(m, 9216 + i, words::word_of(v[i]));
         i += 1;
     }
 }
 
 // Word i of the body.
 fn body(m: &[u64; 65536], i: usize) -> u64 {
-    if i < 56308 {
+    if i < 52212 {
         return m[HEAD + i];
     }
     0

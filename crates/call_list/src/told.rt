@@ -1,10 +1,11 @@
 // What a call answers, as the program prints it.
 use libc::STDOUT_FILENO;
 use profile::Deviance;
+use profile::Solve;
 use refusal::Answer;
 use refusal::Refusal;
 
-// How the answer stands: 0 accepted, 1 refused, 2 a value, 3 a refused pivot, which stands as number 26, 4 no scale.
+// How the answer stands: 0 accepted, 1 refused, 2 a value, 3 a refused pivot, which stands as number 26, 4 no scale, 5 a solution.
 pub struct Told {
     pub how: u64,
     pub refusal: Refusal,
@@ -69,8 +70,8 @@ pub fn of_deviance(d: Deviance) -> Told {
 // A refusal's first place, and 0 where it is one of the lines that the body has from word 10 of the head to before word 11: number 9 may
 // name any of them.
 fn placed(m: &[u64; 65536], first: u64) -> u64 {
-    let end = word_list::size(m[11], 56320);
-    let mut i = word_list::size(m[10], 56320);
+    let end = word_list::size(m[11], 52224);
+    let mut i = word_list::size(m[10], 52224);
     while i < end {
         if m[i] == first {
             return 0;
@@ -90,4 +91,20 @@ pub fn print(m: &[u64; 65536], t: Told) {
     word_list::print_number(first);
     word_list::print_number(r.second);
     word_list::print_word(words::word_of(t.value));
+}
+
+// What a solve answers: a line with the deviance, and one with sigma2 behind it.
+pub fn print_solve(m: &[u64; 65536], s: Solve) {
+    match s {
+        Solve::Solved(x) => {
+            let t = Told {
+                how: 5,
+                refusal: none(),
+                value: x.deviance,
+            };
+            print(m, t);
+            word_list::print_word(words::word_of(x.sigma2));
+        }
+        Solve::Refused(r) => print(m, of_answer(Answer::Refused(r))),
+    }
 }

@@ -1,5 +1,5 @@
-// Replays a list of calls: load, begin, steps, replace_response, profile_deviance and deviance_from_factor, each given what the last left. Of
-// each it prints the answer, and every number and double that it leaves other than it was; behind them, calls on a workspace that is too
+// Replays a list of calls: load, begin, steps, replace_response, profile_deviance, deviance_from_factor and solve_profile_blocked, each given what
+// the last left. Of each it prints the answer, and every number and double that it leaves other than it was; behind them, calls on a workspace that is too
 // large for a list (crate large_list), with a sum over every number and double. The file stdout has what must be printed (tools/call_list.py).
 use call_list::memory;
 use call_list::told;
@@ -67,6 +67,23 @@ fn lent(m: &[u64; 65536], h: &mut [u32], w: &mut [f64]) -> Told {
     called(m, &mut h[..n], &mut w[..d])
 }
 
+// solve_profile_blocked on the first numbers and doubles and the first of a result list, and the lines of its answer.
+fn solved(m: &[u64; 65536], h: &[u32], w: &[f64], v: &mut [f64]) {
+    let n = size(m[7], h.len());
+    let d = size(m[8], w.len());
+    let r = size(m[4], v.len());
+    let s = solve_profile::solve_profile_blocked(&h[..n], &w[..d], m[1] == 1, &mut v[..r]);
+    told::print_solve(m, s);
+}
+
+// The same with the lines of the result list, which stands in m.
+fn result_lines(m: &mut [u64; 65536], h: &[u32; 1024], w: &[f64; 8192]) {
+    let mut v = [0f64; 4096];
+    memory::fill_results(&mut v, m);
+    solved(m, h, w, &mut v);
+    memory::print_results(m, &v);
+}
+
 // A call, or an alteration, and its lines. load begins anew on memory that no call has written.
 fn line(m: &mut [u64; 65536], h: &mut [u32; 1024], w: &mut [f64; 8192]) {
     if m[0] == 8 {
@@ -74,16 +91,18 @@ fn line(m: &mut [u64; 65536], h: &mut [u32; 1024], w: &mut [f64; 8192]) {
     }
     if m[0] == 0 {
         memory::alter(m, h, w);
+    } else if m[0] == 9 {
+        result_lines(m, h, w);
     } else {
         told::print(m, lent(m, h, w));
     }
     memory::print_changes(m, h, w);
 }
 
-// Reads a call into m. Whether there is one more; a kind above 8 ends a part of the list.
+// Reads a call into m. Whether there is one more; a kind above 9 ends a part of the list.
 fn read_call(m: &mut [u64; 65536]) -> bool {
     let first = word_list::read_word();
-    if !first.more | (first.word > 8) {
+    if !first.more | (first.word > 9) {
         return false;
     }
     m[0] = first.word;
@@ -104,12 +123,28 @@ fn replay(m: &mut [u64; 65536]) {
     }
 }
 
+// solve_profile_blocked on the large workspace: its answer, and a sum over the heading and the result list.
+fn large_solved(m: &[u64; 65536], h: &[u32], w: &[f64]) {
+    let mut v = [0f64; 133350];
+    solved(m, h, w, &mut v);
+    word_list::print_word(large_list::sum_words(h, &v));
+}
+
+// A call on the large workspace, and a sum over every number and double.
+fn large_line(m: &[u64; 65536], h: &mut [u32], w: &mut [f64]) {
+    if m[0] == 9 {
+        large_solved(m, h, w);
+        return;
+    }
+    told::print(m, called(m, h, w));
+    word_list::print_word(large_list::sum_words(h, w));
+}
+
 // The list's second part, on the large workspace.
 fn large_lines(m: &mut [u64; 65536], h: &mut [u32], w: &mut [f64]) {
     let mut n: u64 = 0;
     while n < 1000000 && read_call(m) {
-        told::print(m, called(m, h, w));
-        word_list::print_word(large_list::sum_words(h, w));
+        large_line(m, h, w);
         n += 1;
     }
 }

@@ -8,8 +8,10 @@ use Rattle.refusal.specs.Numbers.{refusalOf}
 use Rattle.workspace.specs.Memory.{Workspace}
 use Rattle.workspace.specs.Answers.{Outcome}
 use Rattle.profile.specs.declared.Deviance.{Deviance}
+use Rattle.profile.specs.declared.Solve.{Solve}
 use Rattle.profile.specs.Deviance.{Profiled}
-use Rattle.calls_c.specs.Answers.{numberOf, valued}
+use Rattle.profile.specs.Finish.{refusalOf as solveRefusal}
+use Rattle.calls_c.specs.Answers.{numberOf, valued, scaled}
 
 -- a call's outcome from its answer's number and what it left
 pub outcome-told : {n : ℕ} → {a : Answer} → {s : Workspace} → {o : Outcome} → n ≡ refusalOf a .number → record { answer = a; left = s } ≡ o
@@ -27,4 +29,13 @@ profile-told v e f = (
   e .0 ∙ ap (λ (o : Profiled). numberOf (o .answer)) f,
   sym (ap (λ (o : Profiled). o .left) f),
   e .1 ∙ ap (λ (o : Profiled). valued (o .answer) v) f,
+)
+
+-- and of a solve, whose two scalars stand in a list
+pub solve-told : {n : ℕ} → {a a′ : Solve} → (v : List Float) → {v′ : List Float} → {r r′ : List Float} → (n ≡ solveRefusal a .number) × (v′ ≡ scaled a v)
+    → (a ≡ a′) × (r ≡ r′) → (n ≡ solveRefusal a′ .number) × (r ≡ r′) × (v′ ≡ scaled a′ v)
+solve-told v e f = (
+  e .0 ∙ ap (λ (a : Solve). solveRefusal a .number) (f .0),
+  f .1,
+  e .1 ∙ ap (λ (a : Solve). scaled a v) (f .0),
 )

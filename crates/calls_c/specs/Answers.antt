@@ -8,6 +8,8 @@ use lib.ListN.{set}
 use lib.Ieee.{Float}
 use Rattle.order.specs.Steps.{Step, S, C, T}
 use Rattle.profile.specs.declared.Deviance.{Deviance}
+use Rattle.profile.specs.declared.Solve.{Solve}
+use Rattle.profile.specs.declared.Solve.the-variants.{Solved, Refused}
 use Rattle.profile.specs.Deviance.{refusalOf, rustValue}
 
 -- the step of a kind: 0 is S, 1 is C, any other T
@@ -25,3 +27,8 @@ putFirst (some x) l = set l 0 x
 
 abbrev pub valued : Deviance → List Float → List Float
 valued d l = putFirst (rustValue d) l
+
+-- the list with the two scalars of a solution in its first places
+abbrev pub scaled : Solve → List Float → List Float
+scaled (Solved s) l = set (set l 0 (s .deviance)) 1 (s .sigma2)
+scaled (Refused r) l = l

@@ -9,8 +9,10 @@ ghost use Rattle.workspace.specs.Load.{Loads};
 ghost use Rattle.update.specs.Calls.{beginOf, stepOf};
 ghost use Rattle.update.specs.Names.{stepOfName};
 ghost use Rattle.profile.specs.Deviance.{devianceFromFactor, profileOf};
-ghost use Rattle.calls_c.specs.Answers.{stepNamed, numberOf, valued};
+ghost use Rattle.profile.specs.Finish.{solveOf, refusalOf as solveRefusal};
+ghost use Rattle.calls_c.specs.Answers.{stepNamed, numberOf, valued, scaled};
 use profile::Deviance;
+use profile::Solve;
 use refusal::Answer;
 use update::Name;
 
@@ -43,6 +45,21 @@ fn tell(d: Deviance, value: &mut [f64]) -> u64
             0
         }
         Deviance::Refused(r) => r.number,
+    }
+}
+
+// The number of a solve's answer, and in the first places of a list the two scalars of a solution.
+fn tell_solve(s: Solve, scalars: &mut [f64]) -> u64
+    requires { ⌜ 2 ≤ length (now scalars) ⌝ }
+    ensures { λ r. ⌜ (r ≡ solveRefusal s .number) × (now (scalars .exit) ≡ scaled s (now (scalars .entry))) ⌝ }
+{
+    match s {
+        Solve::Solved(x) => {
+            scalars[0] = x.deviance;
+            scalars[1] = x.sigma2;
+            0
+        }
+        Solve::Refused(r) => r.number,
     }
 }
 
@@ -116,4 +133,22 @@ pub extern "C" fn husk_deviance_from_factor(
     ensures { λ r. ⌜ (r ≡ numberOf (devianceFromFactor (now (h .entry)) (now (w .entry)) (eqb reml 1))) × (now (value .exit) ≡ valued (devianceFromFactor (now (h .entry)) (now (w .entry)) (eqb reml 1)) (now (value .entry))) ⌝ }
 {
     tell(deviance::deviance_from_factor(h, w, reml == 1), value)
+}
+
+// solve_profile::solve_profile_blocked, REML where reml is 1.
+#[no_mangle]
+pub extern "C" fn husk_solve_profile_blocked(
+    h: &[u32],
+    w: &[f64],
+    reml: u64,
+    out: &mut [f64],
+    scalars: &mut [f64],
+) -> u64
+    requires { ⌜ 2 ≤ length (now scalars) ⌝ }
+    ensures { λ r. ⌜ (r ≡ solveRefusal (solveOf (now (h .entry)) (now (w .entry)) (eqb reml 1) (now (out .entry)) .answer) .number) × (now (out .exit) ≡ solveOf (now (h .entry)) (now (w .entry)) (eqb reml 1) (now (out .entry)) .result) × (now (scalars .exit) ≡ scaled (solveOf (now (h .entry)) (now (w .entry)) (eqb reml 1) (now (out .entry)) .answer) (now (scalars .entry))) ⌝ }
+{
+    tell_solve(
+        solve_profile::solve_profile_blocked(h, w, reml == 1, out),
+        scalars,
+    )
 }

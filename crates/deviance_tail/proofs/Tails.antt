@@ -1,6 +1,6 @@
 -- The deviance of a workspace by its layout, and where the pivots and the sum of a lawful layout lie.
 use Prim.Native.Nat.{ℕ, zero, suc, _+_, _≤_, _<_}
-use mathlib.Core.Path.{_≡_, refl, sym, ap, ap₂, _∙_}
+use mathlib.Core.Path.{_≡_, refl, sym, ap, _∙_}
 use mathlib.Core.Bool.{Bool, true, false, _||_}
 use mathlib.Core.List.{List}
 use native.Mathlib.Omega.{arith}
@@ -13,10 +13,9 @@ use Rattle.storage.specs.Part.{part}
 use Rattle.storage.proofs.Starts.{start-below}
 use Rattle.storage.proofs.Blocks.{cell-part}
 use Rattle.rules.specs.Arithmetic.{ieee}
-use Rattle.rules.specs.Sums.{logsFrom}
 use Rattle.rules.specs.Finish.{devianceOf}
-use Rattle.blocks.specs.Blocks.{block}
 use Rattle.blocks.proofs.Laws.{read-block, has-packed}
+use Rattle.re_factor.specs.Factor.{pivotAt}
 use Rattle.layout.specs.declared.Layout.{Layout}
 use Rattle.layout.specs.Shapes.{pick, shape, sizes, workingAt, sumAt, doublesNeeded}
 use Rattle.heading_rules.specs.Heading.{layoutOf, progressOf, entryRow, lawful, headed}
@@ -50,12 +49,6 @@ last-pivot h w r =
     let y : Layout = layoutOf h in
     ap (λ (n : ℕ). cellOf (packed (y .p + 1)) (part (workingAt y (y .k) (y .k)) n w) r r) (ap sizeOf (sym (last-shape y (entryRow h))))
 
--- the logarithms' sum goes by the n numbers alone
-pub logs-same : (s : Float) (a b : ℕ → Float) (n : ℕ) → ((r : ℕ) → r < n → a r ≡ b r) → logsFrom ieee s a n ≡ logsFrom ieee s b n
-unfolding logsFrom
-logs-same s a b zero e = refl
-logs-same s a b (suc n) e = ap₂ (λ (x y : Float). ieee .plus x (ieee .log y)) (logs-same s a b n (λ r h. e r (omega arith))) (e n (omega arith))
-
 -- the deviance where block k is read as a list of n doubles
 abbrev outcome : Layout → ℕ → List Float → Float → Bool → Deviance
 outcome y n w logdet reml =
@@ -71,23 +64,12 @@ tail-value h w reml =
     let y : Layout = layoutOf h in
     ap (λ (n : ℕ). outcome y n w (logDeterminantOf y w) reml) (ap sizeOf (sym (last-shape y (entryRow h))))
 
--- the value: ML, and REML with the pivots of a triangle of one row fewer
-module _ (y : Layout) (w : List Float) (d s logdet : Float) (l : Float) (is-l : l ≡ ieee .log (ieee .times (ieee .tau) s)) where
-  abbrev ml : Float → Float
-  ml x = ieee .plus (ieee .plus (ieee .times d x) logdet) d
-
-  pub value-ml : (reml : Bool) → reml ≡ false → ml l ≡ devianceOf ieee reml d s logdet (pivotOf y w) (y .p)
-  value-ml reml e = rw (e, is-l) refl
-
-  pub value-reml : (reml : Bool) (at : ℕ) (v : Float) → reml ≡ true → at ≡ workingAt y (y .k) (y .k) → v ≡ logsFrom ieee (ieee .zero) (λ r. block at (packed (y .p)) w r r) (y .p)
-      → ieee .plus (ml l) (ieee .times (ieee .two) v) ≡ devianceOf ieee reml d s logdet (pivotOf y w) (y .p)
-  value-reml reml at v e q z =
-      let same : logsFrom ieee (ieee .zero) (λ r. block at (packed (y .p)) w r r) (y .p) ≡ logsFrom ieee (ieee .zero) (pivotOf y w) (y .p) =
-      logs-same (ieee .zero) (λ r. block at (packed (y .p)) w r r) (pivotOf y w) (y .p)
-      (λ r h. cell-part (ieee .zero) (packed (y .p)) at w r r (has-packed (y .p) r r h (omega arith))
-      ∙ ap (λ (x : ℕ). getD w (x + (start triangle r + r)) (ieee .zero)) q
-      ∙ sym (cell-part (ieee .zero) (packed (y .p + 1)) (workingAt y (y .k) (y .k)) w r r (has-packed (y .p + 1) r r (omega arith) (omega arith)))) in
-      rw (e, is-l) (ap (λ (x : Float). ieee .plus (ml (ieee .log (ieee .times (ieee .tau) s))) (ieee .times (ieee .two) x)) (z ∙ same))
+-- the value, from the pivots of a triangle of one row fewer
+pub first-pivots : (y : Layout) (w : List Float) (at r : ℕ) → at ≡ workingAt y (y .k) (y .k) → r < y .p → pivotAt at (packed (y .p)) w r ≡ pivotOf y w r
+first-pivots y w at r q h =
+    cell-part (ieee .zero) (packed (y .p)) at w r r (has-packed (y .p) r r h (omega arith))
+    ∙ ap (λ (x : ℕ). getD w (x + (start triangle r + r)) (ieee .zero)) q
+    ∙ sym (cell-part (ieee .zero) (packed (y .p + 1)) (workingAt y (y .k) (y .k)) w r r (has-packed (y .p + 1) r r (omega arith) (omega arith)))
 
 -- the tail's two ways out
 module _ (y : Layout) (w : List Float) (logdet : Float) (reml : Bool) (x d : Float) (is-x : x ≡ pivotOf y w (y .p)) (is-d : d ≡ freedom y reml) where

@@ -7,7 +7,6 @@ ghost use Rattle.rules.specs.Arithmetic.{ieee};
 ghost use Rattle.rules.specs.Finish.{devianceOf};
 ghost use Rattle.layout.specs.Shapes.{doublesNeeded};
 ghost use Rattle.heading_rules.specs.Heading.{lawful};
-ghost use Rattle.profile.specs.Deviance.{freedom};
 ghost use Rattle.deviance_tail.specs.Tail.{pivotOf, logDeterminantOf, devianceWith};
 use layout::Layout;
 use profile::Deviance;
@@ -18,17 +17,6 @@ pub fn log_determinant(y: Layout, w: &[f64]) -> f64
     ensures { λ r. ⌜ r ≡ logDeterminantOf y (now (w .entry)) ⌝ }
 {
     2.0 * w[places::sum_at(y)]
-}
-
-// n, or n - p: both are exact.
-fn freedom(y: Layout, reml: bool) -> f64
-    requires { ⌜ lawful y ≡ true ⌝ }
-    ensures { λ r. ⌜ r ≡ freedom y reml ⌝ }
-{
-    if reml {
-        return (y.n as f64) - (y.p as f64);
-    }
-    y.n as f64
 }
 
 // The last pivot of all.
@@ -45,12 +33,15 @@ fn value(y: Layout, w: &[f64], d: f64, s: f64, logdet: f64, reml: bool) -> f64
     requires { ⌜ (lawful y ≡ true) × (doublesNeeded y ≤ length (now w)) ⌝ }
     ensures { λ r. ⌜ r ≡ devianceOf ieee reml d s logdet (pivotOf y (now (w .entry))) (y .p) ⌝ }
 {
-    let ml = d * logarithm::ln(f64::from_bits(4618760256179416344) * s) + logdet + d;
-    if reml {
-        let at = places::working_at(y, y.k, y.k);
-        return ml + 2.0 * block_logs::log_pivots(w, at, y.p as usize, 0.0);
-    }
-    ml
+    deviance_value::value(
+        w,
+        places::working_at(y, y.k, y.k),
+        y.p as usize,
+        d,
+        s,
+        logdet,
+        reml,
+    )
 }
 
 // The deviance of the doubles, the log determinant being known: no scale where the square of the last pivot or d is at most 0.
@@ -60,7 +51,7 @@ pub fn tail(y: Layout, w: &[f64], logdet: f64, reml: bool) -> Deviance
 {
     let pivot = last_pivot(y, w);
     let r2 = pivot * pivot;
-    let d = freedom(y, reml);
+    let d = deviance_value::freedom(y, reml);
     if (r2 <= 0.0) | (d <= 0.0) {
         return Deviance::NoScale;
     }

@@ -1,2 +1,3 @@
 pub mod Blocked
 pub mod Instance
+pub mod Solved

@@ -1,1 +1,2 @@
 pub mod Blocked
+pub mod Solved

@@ -9,9 +9,9 @@ use lib.Ieee.{Float, nan}
 use Rattle.storage.specs.Runs.{start, dense}
 use Rattle.storage.specs.Shape.{columns, sizeOf}
 use Rattle.storage.specs.Part.{store}
-use Rattle.storage.proofs.Starts.{start-dense}
+use Rattle.storage.proofs.Starts.{start-dense, start-below}
 use Rattle.storage.proofs.Cells.{tab-ext}
-use Rattle.storage.proofs.Filling.{Filling, filling-else, filling-apart, filling-next, filling-run}
+use Rattle.storage.proofs.Filling.{Filling, filling-none, filling-done, filling-else, filling-apart, filling-next, filling-run}
 use Rattle.rules.specs.Arithmetic.{ieee}
 use Rattle.blocks.specs.Blocks.{block, entry}
 use Rattle.blocks.proofs.Laws.{read-block, has-dense}
@@ -48,23 +48,48 @@ pub sum-more : (w : List Float) (p : ℕ) (v : List Float) (z r : ℕ) (s : Floa
 unfolding along
 sum-more w p v z r s so = ap (λ (x : Float). ieee .plus x (ieee .times (at w (p + r)) (at v (z + r)))) so
 
--- one entry more, by the sum of its column
-pub column-less : {to n rows : ℕ} {v v₁ : List Float} {i : ℕ} (p z : ℕ) (w : List Float) → Filling (columnLess to p rows z w v) to n v v₁ i → i < n → (k q : ℕ) → k ≡ to + i
-    → q ≡ p + start (dense rows) i → (s : Float) (r : ℕ) → r ≡ rows → s ≡ columnSum w q v z r
-    → Filling (columnLess to p rows z w v) to n v (set v₁ k (ieee .minus (at v₁ k) s)) (i + 1)
-column-less {to} {n} {rows} {v} p z w h more k q e d s r f sum =
-    filling-next h (λ (x : Float). ieee .minus x s) nan e more (ap₂ (ieee .minus) (ap (at v) e) (sum ∙ ap₂ (λ (y x : ℕ). columnSum w y v z x) d f))
+-- one entry more less a number
+pub entry-less : {to n : ℕ} {v v₁ : List Float} {i : ℕ} (f : ℕ → Float) → Filling (λ x. ieee .minus (at v (to + x)) (f x)) to n v v₁ i → i < n → (k : ℕ) → k ≡ to + i
+    → (s : Float) → s ≡ f i → Filling (λ x. ieee .minus (at v (to + x)) (f x)) to n v (set v₁ k (ieee .minus (at v₁ k) s)) (i + 1)
+entry-less {to} {n} {v} f h more k e s is = filling-next h (λ (x : Float). ieee .minus x s) nan e more (ap₂ (ieee .minus) (ap (at v) e) is)
+
+-- one entry less the product of its column
+pub column-less : (to p rows z : ℕ) (w v : List Float) → to + 1 ≤ length v → (s : Float) → s ≡ columnSum w p v z rows
+    → set v to (ieee .minus (at v to) s) ≡ lessColumns to 1 p rows z w v
+column-less to p rows z w v fits s is =
+    filling-done
+    (entry-less (λ i. columnSum w (p + start (dense rows) i) v z rows) (filling-none _ to 1 v fits) (omega arith) to (omega arith) s
+    (is ∙ ap (λ (x : ℕ). columnSum w x v z rows) (omega (arith, start-dense rows 0))))
+    (omega arith)
+
+-- four entries less the products of four columns
+pub four-less : (to p rows z : ℕ) (w v v′ : List Float) (s s1 s2 s3 : Float) → s ≡ columnSum w p v z rows → s1 ≡ columnSum w (p + rows) v z rows
+    → s2 ≡ columnSum w (p + rows + rows) v z rows → s3 ≡ columnSum w (p + rows + rows + rows) v z rows
+    → ((f : ℕ → Float) → s ≡ f 0 → s1 ≡ f 1 → s2 ≡ f 2 → s3 ≡ f 3 → v′ ≡ run to 4 (λ i. ieee .minus (at v (to + i)) (f i)) v) → v′ ≡ lessColumns to 4 p rows z w v
+four-less to p rows z w v v′ s s1 s2 s3 is is1 is2 is3 so =
+    so (λ i. columnSum w (p + start (dense rows) i) v z rows)
+    (is ∙ place (omega (arith, start-dense rows 0)))
+    (is1 ∙ place (omega (arith, start-dense rows 1)))
+    (is2 ∙ place (omega (arith, start-dense rows 2)))
+    (is3 ∙ place (omega (arith, start-dense rows 3)))
+  where
+    place : {x y : ℕ} → x ≡ y → columnSum w x v z rows ≡ columnSum w y v z rows
+    place e = ap (λ (x : ℕ). columnSum w x v z rows) e
 
 module _ (off cols z rows a : ℕ) (w v₀ : List Float) (fits : off + cols ≤ length v₀) where
-  -- c columns and k more
-  pub columns-more : {c : ℕ} {v₁ v₂ : List Float} (k : ℕ) → Filling (columnLess off a rows z w v₀) off cols v₀ v₁ c → c + k ≤ cols
-      → (off + cols ≤ z) ⊎ (z + rows ≤ off) → (to p : ℕ) → to ≡ off + c → p ≡ a + start (dense rows) c → v₂ ≡ lessColumns to k p rows z w v₁
+  -- c columns and k more; the block may lie in the list that is written, if it stays as it was
+  pub columns-more : {c : ℕ} {v₁ v₂ : List Float} (w₁ : List Float) (k : ℕ) → Filling (columnLess off a rows z w v₀) off cols v₀ v₁ c → c + k ≤ cols
+      → (off + cols ≤ z) ⊎ (z + rows ≤ off) → ((i : ℕ) → i < sizeOf (columns rows cols) → at w₁ (a + i) ≡ at w (a + i))
+      → (to p : ℕ) → to ≡ off + c → p ≡ a + start (dense rows) c → v₂ ≡ lessColumns to k p rows z w₁ v₁
       → Filling (columnLess off a rows z w v₀) off cols v₀ v₂ (c + k)
-  columns-more {c} {v₁} {v₂} k h top apart to p e d then =
-      filling-run h k (columnLess to p rows z w v₁) to v₂ e top
+  columns-more {c} {v₁} {v₂} w₁ k h top apart same to p e d then =
+      filling-run h k (columnLess to p rows z w₁ v₁) to v₂ e top
       (λ i l.
       ap₂ (ieee .minus) (filling-else h nan (to + i) (inr (omega arith)) ∙ ap (at v₀) (omega arith))
-      (along-ext (ieee .plus) _ _ _ _ _ _ rows refl (λ r m. ap (at w) (omega (arith, start-add rows c i))) (filling-apart h nan z rows apart)))
+      (along-ext (ieee .plus) _ _ _ _ _ _ rows refl
+      (λ r m. ap (at w₁) (omega (arith, start-add rows c i)) ∙ same (start (dense rows) (c + i) + r) (omega (arith, start-below (dense rows) (c + i) cols (omega arith)))
+      ∙ ap (at w) (omega arith))
+      (filling-apart h nan z rows apart)))
       then
 
   -- each entry is the rule's

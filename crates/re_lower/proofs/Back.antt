@@ -62,6 +62,19 @@ unfolding backward
 length-backward A v L n zero = refl
 length-backward A v L n (suc d) = ap suc (length-backward A v L n d)
 
+-- back substitution looks at the right side's n rows and at the triangle's own cells alone
+pub backward-ext : (A : Arithmetic) (v v′ : ℕ → A .Num) (L L′ : ℕ → ℕ → A .Num) (n d : ℕ) → d ≤ n → ((x : ℕ) → x < n → v x ≡ v′ x)
+    → ((x y : ℕ) → x < n → y ≤ x → L x y ≡ L′ x y) → backward A v L n d ≡ backward A v′ L′ n d
+unfolding backward
+backward-ext A v v′ L L′ n zero l h k = refl
+backward-ext A v v′ L L′ n (suc d) l h k =
+    let e : backward A v L n d ≡ backward A v′ L′ n d = backward-ext A v v′ L L′ n d (omega arith) h k in
+    let i : ℕ = n - suc d in
+    ap₂ (λ (x : A .Num) (rest : List (A .Num)). x ∷ rest)
+    (ap₂ (A .over)
+    (chain-ext A _ _ _ _ _ _ d (h i (omega arith)) (λ y m. k (i + suc y) i (omega arith) (omega arith)) (λ y m. ap (λ (rest : List (A .Num)). at A rest y) e))
+    (k i i (omega arith) (omega arith))) e
+
 -- the last d cells, solved
 abbrev pub backTo : List Float → List Float → ℕ → ℕ → List Float
 backTo t₀ l n d = backward ieee (at ieee t₀) (lower l) n d

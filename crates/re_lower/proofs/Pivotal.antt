@@ -64,7 +64,7 @@ not-refused (fin false zero d) e = clash _ (at-most false (0 * up d * 1) (0 * 1 
 not-refused (fin false (suc m) d) e = inl (lt→ltb 0 (suc m) (zero-lt-suc m))
 
 -- what is above 0 by its sign and digits is so by the test
-positive-above : (y : Float) → T (positive y) → Ieee.lt nought y ≡ true
+pub positive-above : (y : Float) → T (positive y) → Ieee.lt nought y ≡ true
 unfolding Ieee.lt
 positive-above nan p = absurd p
 positive-above (inf s) p = absurd p

@@ -18,7 +18,7 @@ use Rattle.layout.proofs.Places.{loaded-inside}
 use Rattle.layout.proofs.Formula.{fixed-size, last-size, loaded-other, loaded-last}
 use Rattle.workspace.specs.Loaded.{rowStart}
 use Rattle.response_rows.specs.Strided.{strided, from, fixedRow, fixedRows, lastAt, lastRow}
-use Rattle.response_rows.proofs.Rows.{rows-within}
+use Rattle.block_map.proofs.AllRows.{rows-within}
 use Rattle.response_rows.proofs.Strided.{length-strided}
 
 module _ (y : Layout) where

@@ -1,4 +1,3 @@
 pub mod Strided
 pub mod Cells
-pub mod Rows
 pub mod Stored

@@ -30,7 +30,7 @@ use Rattle.workspace.specs.Response.{responseCell, respondedBlock, storeRespons
 use Rattle.response_rows.specs.Strided.{strided, from, fixedRow, fixedRows, lastAt, lastRow, responseRows}
 use Rattle.storage.proofs.Cells.{any-default}
 use Rattle.response_rows.proofs.Strided.{length-strided, strided-at, strided-else, strided-ext}
-use Rattle.response_rows.proofs.Rows.{rows-within}
+use Rattle.block_map.proofs.AllRows.{rows-within}
 
 -- ---- one row of a block whose cells lie `step` apart
 

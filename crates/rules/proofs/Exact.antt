@@ -17,7 +17,7 @@ use Rattle.rules.proofs.Rows.{chain-ext, length-forward, rows-stay, row
 
 module _ (A : Arithmetic) where
   -- ---- sums depend only on their terms
-  dot-ext : (f f′ g g′ : ℕ → A .Num) (n : ℕ) → ((x : ℕ) → x < n → f x ≡ f′ x) → ((x : ℕ) → x < n → g x ≡ g′ x) → dot A f g n ≡ dot A f′ g′ n
+  pub dot-ext : (f f′ g g′ : ℕ → A .Num) (n : ℕ) → ((x : ℕ) → x < n → f x ≡ f′ x) → ((x : ℕ) → x < n → g x ≡ g′ x) → dot A f g n ≡ dot A f′ g′ n
   unfolding sumFrom
   dot-ext f f′ g g′ zero p q = refl
   dot-ext f f′ g g′ (suc n) p q =
@@ -65,7 +65,7 @@ module _ (A : Arithmetic) where
 
   module _ (X : Exact A) where
     -- the sum of some products, and what is left of s without them, make s
-    dot-chain : (s : A .Num) (f g : ℕ → A .Num) (n : ℕ) → A .plus (dot A f g n) (chain A s f g n) ≡ s
+    pub dot-chain : (s : A .Num) (f g : ℕ → A .Num) (n : ℕ) → A .plus (dot A f g n) (chain A s f g n) ≡ s
     unfolding sumFrom lessFrom
     dot-chain s f g zero = X .zero-plus s
     dot-chain s f g (suc n) = X .plus-minus (dot A f g n) (chain A s f g n) (A .times (f n) (g n)) ∙ dot-chain s f g n

@@ -7,11 +7,8 @@ use Rattle.calls.proofs.large_lines.Statement.{statement}
 use Rattle.calls.proofs.large_lines.Tie as tie
 use Rattle.calls.proofs.large_lines.Reads as reads
 use Rattle.calls.proofs.large_lines.Lts as lts
-use Rattle.call_list.proofs.told.print.Reads as print-reads
-use Rattle.calls.proofs.called.Reads as called-reads
+use Rattle.calls.proofs.large_line.Reads as large-line-reads
 use Rattle.calls.proofs.read_call.Reads as read-call-reads
-use Rattle.large_list.proofs.sum_words.Reads as sum-words-reads
-use Rattle.word_list.proofs.print_word.Reads as print-word-reads
 
 abbrev Inv-loop : tie.InvT-loop
 Inv-loop m₀ h₀ w₀ n₀ m h w n = (n ≤ 1000000) × (length h ≡ length h₀) × (length w ≡ length w₀)
@@ -25,17 +22,8 @@ loop-holds c = search needs
 read-call-requires : tie.Need-read-call-requires Inv-loop μ-loop
 read-call-requires c κs = search needs
 
-called-requires : tie.Need-called-requires Inv-loop μ-loop
-called-requires c κs = search needs
-
-print-requires : tie.Need-print-requires Inv-loop μ-loop
-print-requires c κs = search needs
-
-sum-words-requires : tie.Need-sum-words-requires Inv-loop μ-loop
-sum-words-requires c κs = search needs
-
-print-word-requires : tie.Need-print-word-requires Inv-loop μ-loop
-print-word-requires c κs = search needs
+large-line-requires : tie.Need-large-line-requires Inv-loop μ-loop
+large-line-requires c κs = search needs
 
 add-n : tie.Need-add-n Inv-loop μ-loop
 add-n c = search needs
@@ -72,10 +60,7 @@ large-lines-spec =
     μ-loop
     loop-holds
     read-call-requires
-    called-requires
-    print-requires
-    sum-words-requires
-    print-word-requires
+    large-line-requires
     add-n
     loop-less
     loop-again

@@ -5,7 +5,7 @@ use Rattle.deviance_tail.proofs.tail.Statement.{statement}
 use Rattle.deviance_tail.proofs.tail.Tie as tie
 use Rattle.deviance_tail.proofs.tail.Reads as reads
 use Rattle.deviance_tail.proofs.tail.Lts as lts
-use Rattle.deviance_tail.proofs.freedom.Reads as freedom-reads
+use Rattle.deviance_value.proofs.freedom.Reads as freedom-reads
 use Rattle.deviance_tail.proofs.last_pivot.Reads as last-pivot-reads
 use Rattle.deviance_tail.proofs.value.Reads as value-reads
 

@@ -65,7 +65,7 @@ loop-again c =
     let l = c .before .before .before .before .before .loop in
     let k = c .before .before .less-some in (
       next-start (a .a) (a .rows) (l .c) (k .result) (a .cols) (l .p) (length (a .w .now)) (omega arith) (omega arith) (omega arith) .1,
-      columns-more (a .off) (a .cols) (a .z) (a .rows) (a .a) (a .w .now) (a .v .now) (omega arith) (k .result) (l .inv .1) (omega arith) (s .pre .1) (a .off + l .c) (l .p) refl (l .inv .0) (k .ensures .2),
+      columns-more (a .off) (a .cols) (a .z) (a .rows) (a .a) (a .w .now) (a .v .now) (omega arith) (a .w .now) (k .result) (l .inv .1) (omega arith) (s .pre .1) (λ i h. refl) (a .off + l .c) (l .p) refl (l .inv .0) (k .ensures .2),
     )
 
 same-length : tie.Need-same-length Inv-loop μ-loop

@@ -4,9 +4,8 @@ use Rattle.call_list.proofs.memory.print_changes.Statement.{statement}
 use Rattle.call_list.proofs.memory.print_changes.Tie as tie
 use Rattle.call_list.proofs.memory.print_changes.Reads as reads
 use Rattle.call_list.proofs.memory.print_changes.Lts as lts
+use Rattle.call_list.proofs.memory.print_change.Reads as print-change-reads
 use Rattle.call_list.proofs.memory.word_at.Reads as word-at-reads
-use Rattle.io.proofs.print_decimal.Reads as print-decimal-reads
-use Rattle.word_list.proofs.print_word.Reads as print-word-reads
 
 abbrev Inv-loop : tie.InvT-loop
 Inv-loop m₀ h w i₀ m i = Unit
@@ -20,29 +19,8 @@ loop-holds c = search needs
 word-at-requires : tie.Need-word-at-requires Inv-loop μ-loop
 word-at-requires c κs = search needs
 
-add-if1 : tie.Need-add-if1 Inv-loop μ-loop
-add-if1 c = search needs
-
-mul-if1 : tie.Need-mul-if1 Inv-loop μ-loop
-mul-if1 c = search needs
-
-element-copy-out-if1 : tie.Need-element-copy-out-if1 Inv-loop μ-loop
-element-copy-out-if1 c = search needs
-
-print-decimal-requires : tie.Need-print-decimal-requires Inv-loop μ-loop
-print-decimal-requires c κs = search needs
-
-print-word-requires : tie.Need-print-word-requires Inv-loop μ-loop
-print-word-requires c κs = search needs
-
-add-m : tie.Need-add-m Inv-loop μ-loop
-add-m c = search needs
-
-mul-m : tie.Need-mul-m Inv-loop μ-loop
-mul-m c = search needs
-
-element-write-m : tie.Need-element-write-m Inv-loop μ-loop
-element-write-m c = search needs
+print-change-requires : tie.Need-print-change-requires Inv-loop μ-loop
+print-change-requires c κs = search needs
 
 add-i : tie.Need-add-i Inv-loop μ-loop
 add-i c = search needs
@@ -64,14 +42,7 @@ print-changes-spec =
     μ-loop
     loop-holds
     word-at-requires
-    add-if1
-    mul-if1
-    element-copy-out-if1
-    print-decimal-requires
-    print-word-requires
-    add-m
-    mul-m
-    element-write-m
+    print-change-requires
     add-i
     loop-less
     loop-again

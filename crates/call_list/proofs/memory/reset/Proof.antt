@@ -11,7 +11,7 @@ abbrev Inv-loop : tie.InvT-loop
 Inv-loop m₀ h₀ w₀ i₀ m h w i = Unit
 
 abbrev μ-loop : tie.MeasureT-loop
-μ-loop m₀ h₀ w₀ i₀ m h w i = 9216 - i
+μ-loop m₀ h₀ w₀ i₀ m h w i = 13312 - i
 
 loop-holds : tie.Need-loop-holds Inv-loop μ-loop
 loop-holds c = search needs

@@ -8,7 +8,7 @@ use Rattle.call_list.proofs.told.placed.Lts as lts
 use Rattle.word_list.proofs.size.Reads as size-reads
 
 abbrev Inv-loop : tie.InvT-loop
-Inv-loop m first end i₀ i = end ≤ 56320
+Inv-loop m first end i₀ i = end ≤ 52224
 
 abbrev μ-loop : tie.MeasureT-loop
 μ-loop m first end i₀ i = end - i

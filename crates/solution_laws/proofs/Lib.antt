@@ -1,0 +1,4 @@
+pub mod Factor
+pub mod Beta
+pub mod Offsets
+pub mod Effects

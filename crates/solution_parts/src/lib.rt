@@ -1,0 +1,43 @@
+// The parts of a solution behind its factor (document 01, Record 7; the Rust's `solve_profile_finish`): beta, u and b in their places, and the two
+// scalars.
+ghost use mathlib.Core.Path.{_≡_};
+ghost use lib.ListN.{length};
+ghost use Rattle.storage.specs.Runs.{start, triangle};
+ghost use Rattle.storage.specs.Part.{part};
+ghost use Rattle.heading_rules.specs.Heading.{layoutOf};
+ghost use Rattle.heading_rules.specs.Fits.{Fits};
+ghost use Rattle.profile.specs.Finish.{joined, fixedFactor};
+ghost use Rattle.solution_places.specs.Places.{factorAt, wholeLength};
+ghost use Rattle.solution_laws.specs.Ready.{Ready};
+ghost use Rattle.solution_parts.specs.Finished.{Finished, scalarsWith};
+use layout::Layout;
+use profile::Solution;
+
+// beta, u, then b. The answer is beta times its right side.
+pub fn make_parts(y: Layout, h: &[u32], w: &[f64], v: &mut [f64]) -> f64
+    requires { ⌜ (y ≡ layoutOf (now h)) × Fits (now h) (length (now w)) × Ready (now h) (now w) y (now v) ⌝ }
+    ensures { λ r. ⌜ Finished (now (h .entry)) (now (w .entry)) y (now (v .exit)) r ⌝ }
+{
+    let p = y.p as usize;
+    let q = y.q as usize;
+    let factor = solution_places::factor_at(y);
+    let response = solution_places::solved_at(y, p);
+    let r = fixed_effects::solve_effects(v, factor, p);
+    offsets::less_columns(v, p + q, response, response + q, q, p);
+    effects::scale_offsets(y, h, w, v);
+    r
+}
+
+// sigma2 = r2 / d, which is not tested, and the deviance with it.
+pub fn scalars(y: Layout, h: &[u32], w: &[f64], v: &[f64], reml: bool, r2: f64) -> Solution
+    requires { ⌜ (y ≡ layoutOf (now h)) × Fits (now h) (length (now w)) × (length (now v) ≡ wholeLength y) ⌝ }
+    requires { ⌜ part (factorAt y) (start triangle (y .p)) (now v) ≡ joined (fixedFactor (now h) (now w)) ⌝ }
+    ensures { λ s. ⌜ s ≡ scalarsWith (now (h .entry)) (now (w .entry)) reml r2 ⌝ }
+{
+    let d = deviance_value::freedom(y, reml);
+    let sigma2 = r2 / d;
+    let logdet = deviance_tail::log_determinant(y, w);
+    let factor = solution_places::factor_at(y);
+    let deviance = deviance_value::value(v, factor, y.p as usize, d, sigma2, logdet, reml);
+    Solution { deviance, sigma2 }
+}

@@ -1,0 +1,29 @@
+-- `solve_finish::accept`: the parts, and the scalars with the residual.
+use native.Mathlib.Omega.{arith}
+use Rattle.solve_finish.proofs.Finish.{solution-is}
+use borrow.Author.Needs.{needs}
+use Rattle.solve_finish.proofs.accept.Statement.{statement}
+use Rattle.solve_finish.proofs.accept.Tie as tie
+use Rattle.solve_finish.proofs.accept.Reads as reads
+use Rattle.solve_finish.proofs.accept.Lts as lts
+use Rattle.solution_parts.proofs.make_parts.Reads as make-parts-reads
+use Rattle.solution_parts.proofs.scalars.Reads as scalars-reads
+
+make-parts-requires : tie.Need-make-parts-requires
+make-parts-requires c κs = search needs
+
+scalars-requires : tie.Need-scalars-requires
+scalars-requires c κs =
+    let s = c .before .before .before .before .before .before .before .before in
+    ((s .pre .0 .0, s .pre .0 .1, omega (arith, s .pre .0 .2 .long)), c .before .before .before .make-parts .ensures .factor)
+
+same-length : tie.Need-same-length
+same-length c = search needs
+
+returns : tie.Need-returns
+returns c =
+    let s = c .before .before .before .before .before .before .before .before .before in
+    (solution-is (s .args .h .now) (s .args .w .now) (s .args .y) (s .pre .0 .0) (s .args .reml) (s .args .rest) _ _ (s .pre .1) _ (c .before .before .before .before .make-parts .ensures) (c .scalars .ensures), c .before .before .before .before .make-parts .ensures .whole)
+
+pub accept-spec : {M : Type 1} → statement M
+accept-spec = tie.close (tie.spec make-parts-requires scalars-requires same-length returns)

@@ -1,0 +1,55 @@
+-- A vector of the q rows in sheet order, by its sorted blocks, and what one turn of a solve makes of it (document 01, Record 7).
+use Prim.Native.Nat.{ℕ, _+_, _<_}
+use mathlib.Core.Path.{_≡_}
+use mathlib.Core.List.{List}
+use lib.ListN.{length}
+use lib.Ieee.{Float}
+use Rattle.storage.specs.Runs.{tab}
+use Rattle.storage.specs.Part.{part, store}
+use Rattle.rules.specs.Arithmetic.{ieee}
+use Rattle.rules.specs.Cholesky.{at}
+use Rattle.layout.specs.declared.Layout.{Layout}
+use Rattle.layout.specs.Shapes.{levels}
+use Rattle.workspace.specs.Memory.{workingBlock}
+use Rattle.workspace.specs.Loaded.{rowStart}
+use Rattle.profile.specs.Solves.{blockIn, factorShapeOf, forwardIn, backwardIn, lessForward, lessBackward}
+use Rattle.profile.specs.Finish.{inSheetOrder}
+
+-- sorted block j of the vector that lies in v from `from` on
+abbrev pub blockAt : Layout → (from : ℕ) → List Float → ℕ → List Float
+blockAt y from v j = part (from + rowStart y j) (levels y j) v
+
+-- all its blocks
+unfoldable pub blocksAt : Layout → (from : ℕ) → List Float → List (List Float)
+blocksAt y from v = tab (y .k) (blockAt y from v)
+
+-- v with the vector of the sorted blocks l from `from` on
+abbrev pub withVector : Layout → (from : ℕ) → List (List Float) → List Float → List Float
+withVector y from l v = store from (inSheetOrder y l (y .k)) v
+
+-- v with b for block j of that vector
+abbrev pub withBlockAt : Layout → (from j : ℕ) → List Float → List Float → List Float
+withBlockAt y from j b v = store (from + rowStart y j) b v
+
+-- as many blocks as the layout has, each with its levels
+pub record Sized (y : Layout) (l : List (List Float)) : Type 0 where
+  pub count : length l ≡ y .k
+  pub each : (j : ℕ) → j < y .k → length (blockIn l j) ≡ levels y j
+
+module _ (h : List ℕ) (w : List Float) (y : Layout) (from : ℕ) where
+  -- going forward: block i less cross block (i, j) times block j
+  abbrev pub lessenedForward : ℕ → ℕ → List Float → List Float
+  lessenedForward i j v =
+      withBlockAt y from i (tab (levels y i) (lessForward h w i j (blockAt y from v j) (at ieee (blockAt y from v i)))) v
+
+  -- going backward: block i less the transpose of cross block (j, i) times block j
+  abbrev pub lessenedBackward : ℕ → ℕ → List Float → List Float
+  lessenedBackward j i v =
+      withBlockAt y from i (tab (levels y i) (lessBackward h w j i (blockAt y from v j) (at ieee (blockAt y from v i)))) v
+
+  -- block i solved with factor i
+  abbrev pub solvedForwardIn : ℕ → List Float → List Float
+  solvedForwardIn i v = withBlockAt y from i (forwardIn (factorShapeOf h w i) (workingBlock h w i i) (at ieee (blockAt y from v i))) v
+
+  abbrev pub solvedBackwardIn : ℕ → List Float → List Float
+  solvedBackwardIn i v = withBlockAt y from i (backwardIn (factorShapeOf h w i) (workingBlock h w i i) (at ieee (blockAt y from v i))) v
