@@ -19,16 +19,11 @@ use Rattle.re_lower.proofs.Back.{length-backward, backward-ext}
 use Rattle.blocks.specs.Blocks.{block, entry}
 use Rattle.axpy.specs.Axpy.{run}
 use Rattle.axpy.specs.Axpy as Axpy
-use Rattle.axpy.proofs.Sums.{sum-along, along-ext}
 use Rattle.matvec.specs.Products.{columnSum}
 use Rattle.matvec.proofs.Vectors.{read-entry}
+use Rattle.matvec.proofs.Dense.{column-sum}
 use Rattle.re_factor.specs.Factor.{solvedForward, solvedBackward}
 use Rattle.fixed_effects.specs.Beta.{betaOf, Effects}
-
--- a column times a vector is the rule's sum of what they hold
-column-sum : (w : List Float) (p : ℕ) (v : List Float) (z n : ℕ) (a b : ℕ → Float) → ((i : ℕ) → i < n → Axpy.at w (p + i) ≡ a i) → ((i : ℕ) → i < n → Axpy.at v (z + i) ≡ b i)
-    → columnSum w p v z n ≡ dot ieee a b n
-column-sum w p v z n a b f g = along-ext (ieee .plus) (ieee .zero) (ieee .zero) _ _ _ _ n refl f g ∙ sum-along (ieee .zero) a b n
 
 -- n doubles stored at the start of a list are its first n entries
 first-entries : (l w : List Float) (n : ℕ) → length l ≡ n → n ≤ length w → (i : ℕ) → entry 0 n (store 0 l w) i ≡ at ieee l i

@@ -13,6 +13,7 @@ use Rattle.storage.proofs.Starts.{start-dense, start-below}
 use Rattle.storage.proofs.Cells.{tab-ext}
 use Rattle.storage.proofs.Filling.{Filling, filling-none, filling-done, filling-else, filling-apart, filling-next, filling-run}
 use Rattle.rules.specs.Arithmetic.{ieee}
+use Rattle.rules.specs.Sums.{dot}
 use Rattle.blocks.specs.Blocks.{block, entry}
 use Rattle.blocks.proofs.Laws.{read-block, has-dense}
 use Rattle.axpy.specs.Axpy.{at, run, along, products}
@@ -40,6 +41,11 @@ module _ (off rows z cols a : ℕ) (w v v′ acc acc₁ acc₂ : List Float) (ro
       (summed (ieee .plus) rows w a rows v z 1 0 cols acc acc₁ acc₂ (λ x. ieee .zero) room first then i l
       ∙ along-ext (ieee .plus) _ _ _ _ _ _ cols refl (λ x m. refl) (one-row z cols v fits-z)
       ∙ sum-along (ieee .zero) (block a (columns rows cols) w i) (entry z cols v) cols)))
+
+-- a column times a vector is the rule's sum of what they hold
+pub column-sum : (w : List Float) (p : ℕ) (v : List Float) (z n : ℕ) (a b : ℕ → Float) → ((i : ℕ) → i < n → at w (p + i) ≡ a i) → ((i : ℕ) → i < n → at v (z + i) ≡ b i)
+    → columnSum w p v z n ≡ dot ieee a b n
+column-sum w p v z n a b f g = along-ext (ieee .plus) (ieee .zero) (ieee .zero) _ _ _ _ n refl f g ∙ sum-along (ieee .zero) a b n
 
 -- ---- going backward
 -- one product more in the sum of a column
@@ -99,7 +105,6 @@ module _ (off cols z rows a : ℕ) (w v₀ : List Float) (fits : off + cols ≤ 
       (tab-ext cols _ _
       (λ c l.
       ap₂ (ieee .minus) (read-entry off cols v₀ c l fits)
-      (along-ext (ieee .plus) _ _ _ _ _ _ rows refl
+      (column-sum w (a + start (dense rows) c) v₀ z rows (λ r. block a (columns rows cols) w r c) (entry z rows v₀)
       (λ r m. read-block (columns rows cols) a w r c (a + start (dense rows) c + r) (has-dense rows cols r c m l) room (omega arith))
-      (λ r m. read-entry z rows v₀ r m fits-z)
-      ∙ sum-along (ieee .zero) (λ r. block a (columns rows cols) w r c) (entry z rows v₀) rows)))
+      (λ r m. read-entry z rows v₀ r m fits-z))))

@@ -23,6 +23,7 @@ use Rattle.axpy.specs.Axpy.{at as double}
 use Rattle.axpy.proofs.Sums.{sum-along, along-ext, along-swap, read-run}
 use Rattle.matvec.specs.Products.{lessProductT, columnSum}
 use Rattle.matvec.proofs.Vectors.{read-entry, run-else}
+use Rattle.matvec.proofs.Dense.{column-sum}
 
 -- a sum of products is the same whichever factors come first
 pub dot-swap : (a b : ℕ → Float) (n : ℕ) → dot ieee a b n ≡ dot ieee b a n
@@ -32,10 +33,8 @@ dot-swap a b n = sym (sum-along (ieee .zero) a b n) ∙ along-swap (ieee .plus) 
 pub sum-lists : (v : List Float) (p z n : ℕ) (x u : List Float) → p + n ≤ length v → z + n ≤ length v → part p n v ≡ x → part z n v ≡ u
     → columnSum v p v z n ≡ dot ieee (at ieee x) (at ieee u) n
 sum-lists v p z n x u room room′ is is′ =
-    along-ext (ieee .plus) _ _ _ _ _ _ n refl
-    (λ i l. read-entry p n v i l room ∙ ap (λ (y : List Float). at ieee y i) is)
+    column-sum v p v z n (at ieee x) (at ieee u) (λ i l. read-entry p n v i l room ∙ ap (λ (y : List Float). at ieee y i) is)
     (λ i l. read-entry z n v i l room′ ∙ ap (λ (y : List Float). at ieee y i) is′)
-    ∙ sum-along (ieee .zero) (at ieee x) (at ieee u) n
 
 module _ (off cols z rows a : ℕ) (v v′ : List Float) (fits : off + cols ≤ length v) (so : v′ ≡ lessProductT off cols z rows a v v) where
   abbrev cells : ℕ → Float

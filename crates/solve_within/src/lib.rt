@@ -28,12 +28,12 @@ pub fn backward_in(y: Layout, h: &[u32], w: &[f64], v: &mut [f64], from: usize, 
     requires { ⌜ (y ≡ layoutOf (now h)) × Fits (now h) (length (now w)) × (i < y .k) × (from + y .q ≤ length (now v)) ⌝ }
     ensures { λ _. ⌜ now (v .exit) ≡ solvedBackwardIn (now (h .entry)) (now (w .entry)) y from i (now (v .entry)) ⌝ }
 {
-    let z = from + block_map::first_row(y, i as usize) as usize;
+    let first = from + block_map::first_row(y, i as usize) as usize;
     let off = places::working_at(y, i, i);
     let n = working_blocks::rows_of(y, i);
     if working_blocks::is_diagonal(y, i) {
-        block_divide::divide(v, z, w, off, n);
+        block_divide::divide(v, first, w, off, n);
         return;
     }
-    block_solve::backward(v, z, w, off, n);
+    block_solve::backward(v, first, w, off, n);
 }

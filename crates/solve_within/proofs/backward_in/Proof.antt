@@ -22,8 +22,8 @@ first-row-requires c κs =
     let a = s .args in
     (fits-lawful (a .h .now) (a .w .now) (a .y) (s .pre .0) (s .pre .1), omega arith)
 
-add-z : tie.Need-add-z
-add-z c =
+add-first : tie.Need-add-first
+add-first c =
     let s = c .before .before .before .before in
     let a = s .args in
     record { fits = omega (arith, c .first-row .ensures, rows-within (a .y) (fits-lawful (a .h .now) (a .w .now) (a .y) (s .pre .0) (s .pre .1)) (a .i) (omega arith)) }
@@ -78,7 +78,7 @@ backward-in-spec =
     tie.close
     (tie.spec
     first-row-requires
-    add-z
+    add-first
     working-at-requires
     rows-of-requires
     is-diagonal-requires
