@@ -1,9 +1,11 @@
 // C of the fixed effects' triangle (document 01, Record 7, refusal 27): as C elsewhere, but a pivot that is NaN is refused too.
 ghost use mathlib.Core.Path.{_≡_};
-ghost use Prim.Native.Nat.{_+_, _≤_};
+ghost use Prim.Native.Nat.{ℕ, _+_, _≤_, _<_};
+ghost use lib.Dec.{T};
+ghost use lib.Ieee.{binary64, fits};
 ghost use lib.ListN.{length};
 ghost use Rattle.storage.specs.Shape.{packed, sizeOf};
-ghost use Rattle.re_factor.proofs.Pivotal.{Doubles};
+ghost use Rattle.re_factor.specs.Factor.{pivotAt};
 ghost use Rattle.fixed_factor.specs.Factor.{notAbove, standing, orRow, FixedFactored};
 use re_lower::Pivots;
 
@@ -45,7 +47,7 @@ fn or_row(p: Pivots, r: usize) -> Pivots
 
 // C lets NaN pass; its root is NaN, so the pivots that stand tell the rows that C passed wrongly.
 pub fn chol_fixed(v: &mut [f64], off: usize, n: usize) -> Pivots
-    requires { ⌜ (n ≤ 316) × (off + sizeOf (packed n) ≤ length (now v)) × Doubles off n (packed n) (now v) ⌝ }
+    requires { ⌜ (n ≤ 316) × (off + sizeOf (packed n) ≤ length (now v)) × ((r : ℕ) → r < n → T (fits binary64 (pivotAt off (packed n) (now v) r))) ⌝ }
     ensures { λ p. ⌜ FixedFactored off n (now (v .entry)) (now (v .exit)) p ⌝ }
 {
     match re_factor::chol(v, off, n) {
