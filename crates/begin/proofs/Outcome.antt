@@ -14,22 +14,22 @@ use Rattle.storage.specs.Part.{store}
 use Rattle.rules.specs.Arithmetic.{ieee}
 use Rattle.layout.specs.declared.Layout.{Layout}
 use Rattle.layout.specs.Shapes.{sumAt, doublesNeeded}
-use Rattle.heading_rules.specs.Heading.{layoutOf, entryRow, lawful, underWay, headed}
+use Rattle.heading_format.specs.Heading.{layoutOf, entryRow, lawful, underWay, headed}
 use Rattle.workspace.specs.Memory.{headingWith}
 use Rattle.workspace.specs.Answers.{space, accept, firstInfinite}
-use Rattle.heading_rules.proofs.Fits.{fits}
-use Rattle.heading_writer.specs.Small.{SmallProgress}
-use Rattle.heading_writer.proofs.Idle.{idle-small}
-use Rattle.finite.specs.Found.{foundAt}
+use Rattle.heading_format.proofs.Fits.{fits}
+use Rattle.heading.specs.writer.Small.{SmallProgress}
+use Rattle.heading.proofs.writer.Idle.{idle-small}
+use Rattle.replace_response.specs.finite.Found.{foundAt}
 use Rattle.update.specs.Calls.{begun, beginOf}
-use Rattle.started.specs.Started.{sortedTheta}
-use Rattle.begin_writes.specs.Begun.{DoublesBegun}
-use Rattle.begin_writes.proofs.Stored.{blocks-stored}
+use Rattle.begin.specs.scaled_blocks.Started.{sortedTheta}
+use Rattle.begin.specs.write_begin.Begun.{DoublesBegun}
+use Rattle.begin.proofs.write_begin.Stored.{blocks-stored}
 
 -- ---- an update just begun fits the heading
 
 pub under-way-small : (k : ℕ) → k ≤ 8 → SmallProgress (underWay k)
-under-way-small k h = let i = idle-small k h in record { left = i .left; stages = i .stages }
+under-way-small k h = let i = idle-small k h in record { left = i.left; stages = i.stages }
 
 -- ---- the outcome
 
@@ -61,7 +61,7 @@ module _ (h : List ℕ) (w theta : List Float) where
       pub ready : (128 ≤ length h) × (lawful y ≡ true) × (length theta ≡ y .k) × (doublesNeeded y ≤ length w)
       ready =
           let k = fits h (length w) ok in
-          (k .long, rw is (k .layout), long, rw is (k .room))
+          (k.long, rw is k.layout, long, rw is k.room)
 
       -- begun
       pub accepted : length theta ≤ i → (h′ : List ℕ) (w′ : List Float) → (h′ ≡ headingWith h (underWay (y .k))) × DoublesBegun y theta w w′
@@ -69,9 +69,9 @@ module _ (h : List ℕ) (w theta : List Float) where
       unfolding beginOf
       accepted l h′ w′ p =
           let e : firstInfinite 0 theta ≡ none = rw (le-ltb i (length theta) l) at found in
-          let d : DoublesBegun (layoutOf h) theta w w′ = rw is at (p .1) in
+          let d : DoublesBegun (layoutOf h) theta w w′ = rw is at p.1 in
           let v : w′ ≡ begun h w theta .doubles =
           d (entryRow h)
-          ∙ ap (store (sumAt (layoutOf h)) (ieee .zero ∷ [])) (sym (blocks-stored h w (sortedTheta (layoutOf h) theta) theta (fits h (length w) ok .room) same-long)) in
-          ap₂ accept (rw is at (p .0)) v
+          ∙ ap (store (sumAt (layoutOf h)) (ieee.zero ∷ [])) (sym (blocks-stored h w (sortedTheta (layoutOf h) theta) theta (fits h (length w) ok .room) same-long)) in
+          ap₂ accept (rw is at p.0) v
           ∙ rw (ok, eq-eqb (length theta) (layoutOf h .k) same-long, e) refl

@@ -6,11 +6,11 @@ use mathlib.Core.List.{List, [], _∷_}
 use native.Mathlib.Decide.{ℕ-discrete}
 use lib.ListN.{replicate, take, drop}
 use lib.Ieee.{Float, inf}
-use Rattle.order.specs.Steps.{S, C, T}
+use Rattle.step_order.specs.Steps.{S, C, T}
 use Rattle.sheet.specs.Sheet.{Sheet}
 use Rattle.refusal.specs.Numbers.{refusal}
-use Rattle.heading_rules.specs.declared.State.the-variants.{Finished}
-use Rattle.heading_rules.specs.Heading.{progressOf}
+use Rattle.heading_format.specs.declared.State.the-variants.{Finished}
+use Rattle.heading_format.specs.Heading.{progressOf}
 use Rattle.workspace.specs.Memory.{Workspace}
 use Rattle.workspace.specs.Load.{loadSheet}
 use Rattle.workspace.specs.Response.{replaceOf}

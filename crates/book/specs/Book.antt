@@ -6,13 +6,13 @@ use mathlib.Core.Option.{Option, none, some}
 use lib.Dec.{eqb}
 use lib.ListN.{length, getD}
 use lib.Ieee.{Float}
-use Rattle.order.specs.Steps.{Step, S, C, T, named, after, rustOrder}
-use Rattle.order.specs.Progress.{all, join, stepsLeft}
+use Rattle.step_order.specs.Steps.{Step, S, C, T, named, after, rustOrder}
+use Rattle.step_order.specs.Progress.{all, join, stepsLeft}
 use Rattle.rules.specs.Arithmetic.{ieee}
 use Rattle.sheet.specs.Sheet.{Sheet}
 use Rattle.layout.specs.declared.Layout.{Layout}
-use Rattle.heading_rules.specs.declared.State.{State}
-use Rattle.heading_rules.specs.declared.State.the-variants.{Idle, UnderWay, Finished}
+use Rattle.heading_format.specs.declared.State.{State}
+use Rattle.heading_format.specs.declared.State.the-variants.{Idle, UnderWay, Finished}
 use Rattle.refusal.specs.declared.Answer.{Answer}
 use Rattle.refusal.specs.declared.Answer.the-variants.{Accepted, Refused}
 use Rattle.refusal.specs.Numbers.{noRefusal, refuse}

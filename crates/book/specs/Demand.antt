@@ -6,15 +6,15 @@ use mathlib.Core.List.{List}
 use mathlib.Core.Option.{some}
 use lib.ListN.{length, getD, take, drop}
 use lib.Ieee.{Float}
-use Rattle.order.specs.Steps.{Step, S, C, T, Named, row, col, after}
-use Rattle.order.specs.Progress.{all, done}
+use Rattle.step_order.specs.Steps.{Step, S, C, T, Named, row, col, after}
+use Rattle.step_order.specs.Progress.{all, done}
 use Rattle.rules.specs.Arithmetic.{ieee}
 use Rattle.sheet.specs.Sheet.{Sheet, accepted, sheetOf}
 use Rattle.sheet.specs.declared.Starts.{Starts}
-use Rattle.heading_rules.specs.declared.State.the-variants.{UnderWay, Finished}
+use Rattle.heading_format.specs.declared.State.the-variants.{UnderWay, Finished}
 use Rattle.refusal.specs.declared.Answer.the-variants.{Accepted}
 use Rattle.layout.specs.Shapes.{sizes, loadedLength, workingAt, sumAt, doublesNeeded, shape, thetaAt}
-use Rattle.heading_rules.specs.Heading.{layoutOf, progressOf, stageOf, entryRow}
+use Rattle.heading_format.specs.Heading.{layoutOf, progressOf, stageOf, entryRow}
 use Rattle.workspace.specs.Memory.{Workspace, workingBlock, cellOf}
 use Rattle.workspace.specs.Answers.{Outcome}
 use Rattle.workspace.specs.Load.{Loads, headingOf}

@@ -4,10 +4,10 @@ use mathlib.Core.List.{List}
 use mathlib.Core.Option.{Option}
 use lib.ListN.{getD}
 use lib.Ieee.{Float}
-use Rattle.order.specs.Elimination.{Rules, value, final, total, refusedAt}
+use Rattle.step_order.specs.Elimination.{Rules, value, final, total, refusedAt}
 use Rattle.rules.specs.Arithmetic.{ieee}
 use Rattle.sheet.specs.Sheet.{Sheet}
-use Rattle.heading_rules.specs.Heading.{layoutOf, entryRow}
+use Rattle.heading_format.specs.Heading.{layoutOf, entryRow}
 use Rattle.workspace.specs.Memory.{loadedBlock, loadedSome}
 use Rattle.update.specs.Working.{rulesOf, started}
 use Rattle.book.specs.Book.{fresh, last}

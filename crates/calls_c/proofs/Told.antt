@@ -16,26 +16,26 @@ use Rattle.calls_c.specs.Answers.{numberOf, valued, scaled}
 -- a call's outcome from its answer's number and what it left
 pub outcome-told : {n : ℕ} → {a : Answer} → {s : Workspace} → {o : Outcome} → n ≡ refusalOf a .number → record { answer = a; left = s } ≡ o
     → (n ≡ refusalOf (o .answer) .number) × (o .left ≡ s)
-outcome-told e f = (e ∙ ap (λ (o : Outcome). refusalOf (o .answer) .number) f, sym (ap (λ (o : Outcome). o .left) f))
+outcome-told e f = (e ∙ ap (λ (o : Outcome). refusalOf o.answer .number) f, sym (ap (λ (o : Outcome). o .left) f))
 
 -- the same of a deviance, whose value stands in a list
 pub deviance-told : {n : ℕ} → {d d′ : Deviance} → (v : List Float) → {v′ : List Float} → (n ≡ numberOf d) × (v′ ≡ valued d v) → d ≡ d′
     → (n ≡ numberOf d′) × (v′ ≡ valued d′ v)
-deviance-told v e f = (e .0 ∙ ap numberOf f, e .1 ∙ ap (λ (d : Deviance). valued d v) f)
+deviance-told v e f = (e.0 ∙ ap numberOf f, e.1 ∙ ap (λ (d : Deviance). valued d v) f)
 
 pub profile-told : {n : ℕ} → {d : Deviance} → {s : Workspace} → {o : Profiled} → (v : List Float) → {v′ : List Float} → (n ≡ numberOf d) × (v′ ≡ valued d v)
     → record { answer = d; left = s } ≡ o → (n ≡ numberOf (o .answer)) × (o .left ≡ s) × (v′ ≡ valued (o .answer) v)
 profile-told v e f = (
-  e .0 ∙ ap (λ (o : Profiled). numberOf (o .answer)) f,
+  e .0 ∙ ap (λ (o : Profiled). numberOf o.answer) f,
   sym (ap (λ (o : Profiled). o .left) f),
-  e .1 ∙ ap (λ (o : Profiled). valued (o .answer) v) f,
+  e .1 ∙ ap (λ (o : Profiled). valued o.answer v) f,
 )
 
 -- and of a solve, whose two scalars stand in a list
 pub solve-told : {n : ℕ} → {a a′ : Solve} → (v : List Float) → {v′ : List Float} → {r r′ : List Float} → (n ≡ solveRefusal a .number) × (v′ ≡ scaled a v)
     → (a ≡ a′) × (r ≡ r′) → (n ≡ solveRefusal a′ .number) × (r ≡ r′) × (v′ ≡ scaled a′ v)
 solve-told v e f = (
-  e .0 ∙ ap (λ (a : Solve). solveRefusal a .number) (f .0),
+  e .0 ∙ ap (λ (a : Solve). solveRefusal a .number) f.0,
   f .1,
-  e .1 ∙ ap (λ (a : Solve). scaled a v) (f .0),
+  e .1 ∙ ap (λ (a : Solve). scaled a v) f.0,
 )

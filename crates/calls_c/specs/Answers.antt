@@ -6,7 +6,7 @@ use mathlib.Core.Option.{Option, none, some}
 use lib.Dec.{eqb}
 use lib.ListN.{set}
 use lib.Ieee.{Float}
-use Rattle.order.specs.Steps.{Step, S, C, T}
+use Rattle.step_order.specs.Steps.{Step, S, C, T}
 use Rattle.profile.specs.declared.Deviance.{Deviance}
 use Rattle.profile.specs.declared.Solve.{Solve}
 use Rattle.profile.specs.declared.Solve.the-variants.{Solved, Refused}

@@ -20,10 +20,10 @@ use Rattle.storage.proofs.Parts.{length-part, length-store, getD-part, part-els
 use Rattle.storage.proofs.Blocks.{length-fill, cell-fill, is-fill, fill-cell, cell-stored}
 use Rattle.rules.specs.Arithmetic.{ieee}
 use Rattle.rules.specs.Sums.{lessFrom}
-use Rattle.blocks.specs.Blocks.{block, entry}
-use Rattle.blocks.proofs.Laws.{read-block, has-dense}
-use Rattle.axpy.specs.Axpy.{at, run}
-use Rattle.axpy.proofs.Sums.{read-run}
+use Rattle.block_runs.specs.blocks.Blocks.{block, entry}
+use Rattle.block_runs.proofs.blocks.Laws.{read-block, has-dense}
+use Rattle.block_runs.specs.axpy.Axpy.{at, run}
+use Rattle.block_runs.proofs.axpy.Sums.{read-run}
 use Rattle.cross_block.specs.Blocks.{lessSparseCell, lessColumn}
 
 -- a list stored inside what is stored
@@ -53,7 +53,7 @@ column-stored rows cols c f f′ g here new old =
     is-fill nan s f′ (store (start (dense rows) c) l L) (length-store (start (dense rows) c) l L fits ∙ p)
     (λ r x h.
     let k = and-eq-true-iff (ltb x cols) (ltb r rows) .0 h in
-    let m : r < rows = ltb-true r rows (k .1) in
+    let m : r < rows = ltb-true r rows k.1 in
     by-cases (decLt x c)
     (λ y. store-else (start (dense rows) c) l L fits nan (start (dense rows) x + r) (inl (omega (arith, start-below (dense rows) x c y)))
     ∙ cell-fill nan s f r x h ∙ old r x (λ e. absurd (omega arith)))
@@ -80,7 +80,7 @@ module _ (off rows cols a v inner : ℕ) (row : ℕ → ℕ) (w₀ : List Float)
   unfolding lessFrom
   sparse-none =
       sym
-      (ap (λ (l : List Float). store off l w₀) (fill-cell (ieee .zero) s (part off (sizeOf s) w₀) (length-part off (sizeOf s) w₀ fits))
+      (ap (λ (l : List Float). store off l w₀) (fill-cell ieee.zero s (part off (sizeOf s) w₀) (length-part off (sizeOf s) w₀ fits))
       ∙ store-part off (sizeOf s) w₀ fits)
 
   module _ (x : ℕ) (more : x < inner) (w : List Float) (so : w ≡ store off (fill s (rule x)) w₀) where
@@ -97,8 +97,8 @@ module _ (off rows cols a v inner : ℕ) (row : ℕ → ℕ) (w₀ : List Float)
 
     factor-read : getD w (v + x) nan ≡ entry v inner w₀ x
     factor-read =
-        any-default w (v + x) nan (ieee .zero) (omega (arith, sparse-length))
-        ∙ sym (getD-part v inner w x (ieee .zero) more) ∙ ap (λ (l : List Float). getD l x (ieee .zero)) (other v inner apart-v)
+        any-default w (v + x) nan ieee.zero (omega (arith, sparse-length))
+        ∙ sym (getD-part v inner w x ieee.zero more) ∙ ap (λ (l : List Float). getD l x ieee.zero) (other v inner apart-v)
 
     module _ (c : ℕ) (here : c < cols) (e : c ≡ row x) (to ax : ℕ) (p : to ≡ off + start (dense rows) c) (q : ax ≡ a + start (dense rows) x) where
       abbrev made : ℕ → Float
@@ -111,15 +111,15 @@ module _ (off rows cols a v inner : ℕ) (row : ℕ → ℕ) (w₀ : List Float)
           (ap₂ (λ (l : List Float) (i : ℕ). getD l i nan) so (omega arith) ∙ cell-stored nan s (rule x) off w₀ fits r c (has-dense rows cols r c h here))
           (ap₂ (mul binary64)
           (read-block (columns rows inner) a w r x (ax + r) (has-dense rows inner r x h more) (omega (arith, sparse-length)) (omega arith)
-          ∙ ap (λ (l : List Float). cell (ieee .zero) (columns rows inner) l r x) (other a (sizeOf (columns rows inner)) apart))
+          ∙ ap (λ (l : List Float). cell ieee.zero (columns rows inner) l r x) (other a (sizeOf (columns rows inner)) apart))
           factor-read)
-          ∙ ap (λ (b : Bool). cond b (ieee .minus (rule x r c) (ieee .times (block a (columns rows inner) w₀ r x) (entry v inner w₀ x))) (rule x r c))
+          ∙ ap (λ (b : Bool). cond b (ieee.minus (rule x r c) (ieee.times (block a (columns rows inner) w₀ r x) (entry v inner w₀ x))) (rule x r c))
           (sym (eq-eqb (row x) c (sym e)))
 
       old : (r y : ℕ) → (y ≡ c → ⊥) → rule x r y ≡ rule (suc x) r y
       unfolding lessFrom
       old r y h =
-          ap (λ (b : Bool). cond b (ieee .minus (rule x r y) (ieee .times (block a (columns rows inner) w₀ r x) (entry v inner w₀ x))) (rule x r y))
+          ap (λ (b : Bool). cond b (ieee.minus (rule x r y) (ieee.times (block a (columns rows inner) w₀ r x) (entry v inner w₀ x))) (rule x r y))
           (sym (ne-eqb (row x) y (λ k. h (sym k ∙ sym e))))
 
       pub sparse-more : (w′ : List Float) → w′ ≡ store to (tab rows made) w → w′ ≡ store off (fill s (rule (suc x))) w₀
@@ -136,5 +136,5 @@ column-less w w′ acc acc₁ to rows ax f room first so =
     so
     ∙ ap (λ (l : List Float). store to l w)
     (tab-ext rows _ _
-    (λ i l. ap (λ (x : Float). ieee .minus (at w (to + i)) (ieee .times x f))
+    (λ i l. ap (λ (x : Float). ieee .minus (at w (to + i)) (ieee.times x f))
     (ap (λ (x : List Float). at x i) first ∙ read-run 0 rows (λ j. at w (ax + j)) acc (omega arith) i i l (omega arith))))

@@ -19,11 +19,11 @@ use Rattle.rules.specs.Steps.{divide}
 use Rattle.rules.specs.Cholesky.{forward}
 use Rattle.rules.specs.Cholesky.{at as solved}
 use Rattle.rules.proofs.Exact.{forward-cell}
-use Rattle.blocks.specs.Blocks.{block, EachShape}
-use Rattle.blocks.proofs.Laws.{read-block, has-dense, has-packed, has-diagonal, written}
-use Rattle.blocks.proofs.Runs.{Writing, writing-same, writing-cell, writing-more}
-use Rattle.axpy.specs.Axpy.{at, run, products}
-use Rattle.axpy.proofs.Sums.{along-ext, less-along, summed}
+use Rattle.block_runs.specs.blocks.Blocks.{block, EachShape}
+use Rattle.block_runs.proofs.blocks.Laws.{read-block, has-dense, has-packed, has-diagonal, written}
+use Rattle.block_runs.proofs.blocks.Runs.{Writing, writing-same, writing-cell, writing-more}
+use Rattle.block_runs.specs.axpy.Axpy.{at, run, products}
+use Rattle.block_runs.proofs.axpy.Sums.{along-ext, less-along, summed}
 use Rattle.cross_block.specs.Blocks.{dividedColumns, solvedColumn}
 
 -- ---- a run of n doubles, each made of one that is loaded
@@ -32,16 +32,16 @@ use Rattle.cross_block.specs.Blocks.{dividedColumns, solvedColumn}
 pub as-block : (n src : ℕ) (a : List Float) (h : Float → Float) (s : Shape) → sizeOf s ≡ n
     → tab n (λ i. h (getD a (src + i) (ieee .zero))) ≡ fill s (λ r c. h (block src s a r c))
 as-block n src a h s e =
-    let g : ℕ → Float = λ i. h (getD a (src + i) (ieee .zero)) in
-    is-fill (ieee .zero) s (λ r c. h (block src s a r c)) (tab n g) (omega (arith, length-tab n g))
-    (λ r c k. getD-tab n g (placeOf s r c) (ieee .zero) (omega (arith, place-below s r c k)) ∙ ap h (sym (cell-part (ieee .zero) s src a r c k)))
+    let g : ℕ → Float = λ i. h (getD a (src + i) ieee.zero) in
+    is-fill ieee.zero s (λ r c. h (block src s a r c)) (tab n g) (omega (arith, length-tab n g))
+    (λ r c k. getD-tab n g (placeOf s r c) ieee.zero (omega (arith, place-below s r c k)) ∙ ap h (sym (cell-part ieee.zero s src a r c k)))
 
 pub as-shape : (off n src : ℕ) (w₀ : List Float) (h : Float → Float) → src + n ≤ length w₀ → (w : List Float) → w ≡ run off n (λ i. h (at w₀ (src + i))) w₀
     → EachShape n (λ s. w ≡ store off (fill s (λ r c. h (block src s w₀ r c))) w₀)
 as-shape off n src w₀ h from w so s e =
     so
     ∙ ap (λ (l : List Float). store off l w₀)
-    (tab-ext n _ (λ i. h (getD w₀ (src + i) (ieee .zero))) (λ i l. ap h (any-default w₀ (src + i) nan (ieee .zero) (omega arith))) ∙ as-block n src w₀ h s e)
+    (tab-ext n _ (λ i. h (getD w₀ (src + i) ieee.zero)) (λ i l. ap h (any-default w₀ (src + i) nan ieee.zero (omega arith))) ∙ as-block n src w₀ h s e)
 
 -- ---- T by a diagonal: one column more
 -- cell r of column c, divided by its pivot
@@ -56,7 +56,7 @@ pub divide-turn : {off end rows cols : ℕ} {w₀ : List Float} {c to : ℕ} {w 
 divide-turn {off} {end} {rows} {cols} {w₀} {c} {to} {w} pivots e more fits′ apart next then =
     writing-more e more (off + to) rows _ refl refl next
     (λ i l.
-    ap₂ (ieee .over) (writing-cell (columns rows cols) e more i l)
+    ap₂ ieee.over (writing-cell (columns rows cols) e more i l)
     (read-block (diagonal cols) pivots w c c (pivots + c) (has-diagonal cols c more) (omega arith) (omega (arith, start-single c))
     ∙ ap (λ (x : ℕ → ℕ → Float). x c c) (writing-same e more pivots (diagonal cols) apart)))
     then
@@ -70,7 +70,7 @@ column-solved w w′ acc acc₁ acc₂ to off rows row c room first then so =
     ∙ ap (λ (l : List Float). store to l w)
     (tab-ext rows _ _
     (λ i l. ap (λ (x : Float). ieee .over x (at w (row + c)))
-    (summed (ieee .minus) rows w off rows w row 1 0 c acc acc₁ acc₂ (λ j. at w (to + j)) room first then i l)))
+    (summed ieee.minus rows w off rows w row 1 0 c acc acc₁ acc₂ (λ j. at w (to + j)) room first then i l)))
 
 -- cell r of column c, solved
 abbrev pub solvedCell : (off rows cols l : ℕ) → List Float → ℕ → ℕ → Float
@@ -85,12 +85,12 @@ solve-turn {off} {end} {rows} {cols} {w₀} {c} {to} {w} l row e more fits′ ap
     let same : block l (packed cols) w ≡ block l (packed cols) w₀ = writing-same e more l (packed cols) apart in
     writing-more e more (off + to) rows _ refl refl next
     (λ i h.
-    ap₂ (ieee .over)
+    ap₂ ieee.over
     (less-along (at w (off + to + i)) (block off (columns rows c) w i) (block row (columns 1 c) w 0) c
     ∙ chain-same (writing-cell (columns rows cols) e more i h)
     (λ y k.
     sym (read-block (columns rows c) off w i y (off + (start (dense rows) y + i)) (has-dense rows c i y h k) (omega (arith, start-le (dense rows) c cols (omega arith))) refl)
-    ∙ written off (dense rows) (solvedCell off rows cols l w₀) w₀ cols (omega arith) c (omega arith) w (e .so) y i (off + (start (dense rows) y + i)) k h refl)
+    ∙ written off (dense rows) (solvedCell off rows cols l w₀) w₀ cols (omega arith) c (omega arith) w e.so y i (off + (start (dense rows) y + i)) k h refl)
     (λ y k.
     sym (read-block (columns 1 c) row w 0 y (row + y) (has-dense 1 c 0 y (omega arith) k) (omega (arith, start-dense 1 c, start-below triangle c cols more)) (omega (arith, start-dense 1 y)))
     ∙ read-block (packed cols) l w c y (row + y) (has-packed cols c y more (omega arith)) (omega arith) (omega arith)
@@ -103,7 +103,7 @@ solve-turn {off} {end} {rows} {cols} {w₀} {c} {to} {w} l row e more fits′ ap
     chain-same : {s s′ : Float} {a a′ b b′ : ℕ → Float} → s ≡ s′ → ((y : ℕ) → y < c → a y ≡ a′ y) → ((y : ℕ) → y < c → b y ≡ b′ y)
         → chain ieee s a b c ≡ chain ieee s′ a′ b′ c
     chain-same {s} {s′} {a} {a′} {b} {b′} p q r =
-        sym (less-along s a b c) ∙ along-ext (ieee .minus) s s′ a a′ b b′ c p q r ∙ less-along s′ a′ b′ c
+        sym (less-along s a b c) ∙ along-ext ieee.minus s s′ a a′ b b′ c p q r ∙ less-along s′ a′ b′ c
 
 -- T of a sparse block by a diagonal: its entries are a dense block of one row
 pub divided-entries : (off cols pivots : ℕ) (row : ℕ → ℕ) (w : List Float)
@@ -115,4 +115,4 @@ divided-entries off cols pivots row w =
     (cells-ext single cols (λ j i. divide ieee (block off (columns 1 cols) w) (λ c. block pivots (diagonal cols) w c c) i j)
     (λ j i. divide ieee (block off (entries cols row) w) (λ c. block pivots (diagonal cols) w c c) (row j) j)
     (λ j i p q. let e : i ≡ 0 = omega arith in
-    ap (λ (k : ℕ). ieee .over (getD (part off (start single cols) w) (start single j + k) (ieee .zero)) (block pivots (diagonal cols) w j j)) e))
+    ap (λ (k : ℕ). ieee .over (getD (part off (start single cols) w) (start single j + k) ieee.zero) (block pivots (diagonal cols) w j j)) e))

@@ -9,9 +9,9 @@ use Rattle.rules.specs.Arithmetic.{ieee}
 use Rattle.rules.specs.Begin.{crossCell, fixedCell}
 use Rattle.rules.specs.Steps.{subtractSparse, divide}
 use Rattle.rules.specs.Cholesky.{at, forward}
-use Rattle.blocks.specs.Blocks.{block, entry}
-use Rattle.axpy.specs.Axpy.{run, along}
-use Rattle.axpy.specs.Axpy.{at as double}
+use Rattle.block_runs.specs.blocks.Blocks.{block, entry}
+use Rattle.block_runs.specs.axpy.Axpy.{run, along}
+use Rattle.block_runs.specs.axpy.Axpy.{at as double}
 
 -- begin, a cross block: the loaded block at src times theta of the column block, then of the row block
 abbrev pub scaledTwice : Shape → ℕ → ℕ → Float → Float → List Float → List Float

@@ -1,11 +1,17 @@
 // T by a packed factor (document 01, Record 4; the Rust's `trisolve_*`), on the whole list of doubles: the target's cells are the rule's, every other
 // double stays. Rows of cross blocks and fixed rows go through the same functions. specs/ has T by a diagonal too.
+pub mod divide_columns;
+pub mod scaling;
+
 ghost use mathlib.Core.Path.{_≡_};
 ghost use mathlib.Core.Logic.{_⊎_};
 ghost use Prim.Native.Nat.{_+_, _≤_, _<_};
 ghost use lib.ListN.{length};
 ghost use Rattle.storage.specs.Shape.{packed, columns, sizeOf};
 ghost use Rattle.cross_block.specs.Blocks.{solvedRows, solvedColumn};
+use block_runs::axpy_products;
+use block_runs::run_copies;
+use block_runs::run_quotients;
 
 // Column c of the block at off, from `to` on within it, solved with the columns before it and row c of the factor, which lies from `row` on.
 fn solve_column(

@@ -1,12 +1,15 @@
 // The deviance of a finished factor (document 01, Record 6), and its refusals 20 and 25. What it answers is defined in the crate profile,
 // specs/Deviance.antt; the tail by layout, doubles and log determinant in the crate deviance_tail, specs/Tail.antt.
+pub mod deviance_tail;
+pub mod deviance_value;
+
 ghost use mathlib.Core.Path.{_≡_};
 ghost use mathlib.Core.Bool.{true};
 ghost use lib.ListN.{length};
-ghost use Rattle.heading_rules.specs.Heading.{headed};
+ghost use Rattle.heading_format.specs.Heading.{headed};
 ghost use Rattle.refusal.specs.Numbers.{refusal};
 ghost use Rattle.profile.specs.Deviance.{isFinished, devianceFromFactor};
-use heading_rules::State;
+use heading_format::State;
 use profile::Deviance;
 use refusal::Refusal;
 
@@ -50,7 +53,7 @@ fn of_workspace(h: &[u32], w: &[f64], reml: bool) -> Deviance
 pub fn deviance_from_factor(h: &[u32], w: &[f64], reml: bool) -> Deviance
     ensures { λ r. ⌜ r ≡ devianceFromFactor (now (h .entry)) (now (w .entry)) reml ⌝ }
 {
-    if headed::is_headed(h, w.len()) {
+    if heading_check::is_headed(h, w.len()) {
         return of_workspace(h, w, reml);
     }
     Deviance::Refused(refused(20))

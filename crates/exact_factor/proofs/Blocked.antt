@@ -7,8 +7,8 @@ use mathlib.Core.Logic.{by-cases}
 use native.Mathlib.Decide.{decLt}
 use native.Mathlib.Omega.{arith}
 use borrow.Author.Tests.{lt-ltb, eq-eqb, ne-eqb}
-use Rattle.order.specs.Elimination.{Rules, orElse, inBlock, column, value, final, refusedBefore, refusedAt}
-use Rattle.order.proofs.Invariant.{finished}
+use Rattle.step_order.specs.Elimination.{Rules, orElse, inBlock, column, value, final, refusedBefore, refusedAt}
+use Rattle.step_order.proofs.Invariant.{finished}
 use Rattle.rules.specs.Arithmetic.{Arithmetic}
 use Rattle.rules.specs.Sums.{sumFrom, dot}
 use Rattle.rules.specs.Cholesky.{factor, radicand, pivots}
@@ -20,7 +20,7 @@ use Rattle.exact_factor.specs.Blocked.{blockRules, products, FactorsBloc
 pub none-in : (R : Rules) (start : ℕ → ℕ → R .Block) (n : ℕ) → refusedBefore R start n ≡ none → (j : ℕ) → j < n → R .pivots j (value R start j j j) ≡ none
 unfolding refusedBefore
 none-in R start zero e j h = absurd (omega (arith, h))
-none-in R start (suc n) e j h = by-cases (decLt j n) (λ l. none-in R start n (both .0) j l) (λ l. subst (λ (x : ℕ). R .pivots x (value R start x x x) ≡ none) (omega arith) (both .1))
+none-in R start (suc n) e j h = by-cases (decLt j n) (λ l. none-in R start n both.0 j l) (λ l. subst (λ (x : ℕ). R .pivots x (value R start x x x) ≡ none) (omega arith) both.1)
   where
     parts : (a : Option (ℕ × ℕ)) (b : Option ℕ) → orElse a (inBlock n b) ≡ none → (a ≡ none) × (b ≡ none)
     parts none none e = (refl, refl)
@@ -28,7 +28,7 @@ none-in R start (suc n) e j h = by-cases (decLt j n) (λ l. none-in R start n (b
     parts (some p) b e = absurd (Option·some-ne-none p e)
 
     both : (refusedBefore R start n ≡ none) × (R .pivots n (value R start n n n) ≡ none)
-    both = parts (refusedBefore R start n) (R .pivots n (value R start n n n)) e
+    both = parts (refusedBefore R start n) (R.pivots n (value R start n n n)) e
 
 module _ (R : Rules) (start : ℕ → ℕ → R .Block) where
   final-is : (i h : ℕ) → final R start i h ≡ column R h (value R start h) i
@@ -37,24 +37,24 @@ module _ (R : Rules) (start : ℕ → ℕ → R .Block) where
   -- round h, right of column h
   value-next : (h i j : ℕ) → h < j → value R start (suc h) i j ≡ R .subtract i j h (value R start h i j) (final R start i h) (final R start j h)
   unfolding value
-  value-next h i j l = rw (lt-ltb h j l) (ap₂ (R .subtract i j h (value R start h i j)) (sym (final-is i h)) (sym (final-is j h)))
+  value-next h i j l = rw (lt-ltb h j l) (ap₂ (R.subtract i j h (value R start h i j)) (sym (final-is i h)) (sym (final-is j h)))
 
   final-factor : (j : ℕ) → final R start j j ≡ R .factor j (value R start j j j)
   final-factor j = final-is j j ∙ rw (eq-eqb j j refl)
 
   final-solve : (i j : ℕ) → j < i → final R start i j ≡ R .solve i j (value R start j i j) (final R start j j)
-  final-solve i j l = final-is i j ∙ rw (ne-eqb i j (λ e. omega (arith, e))) (ap (R .solve i j (value R start j i j)) (sym (final-factor j)))
+  final-solve i j l = final-is i j ∙ rw (ne-eqb i j (λ e. omega (arith, e))) (ap (R.solve i j (value R start j i j)) (sym (final-factor j)))
 
 module _ (A : Arithmetic) (X : Exact A) (m : ℕ → ℕ) (start : ℕ → ℕ → ℕ → ℕ → A .Num) where
   -- what n rounds took away, and what they left, make what begin wrote
   left-after : (i j r c n : ℕ) → n ≤ j → A .plus (products A m (final (blockRules A m) start) n i j r c) (value (blockRules A m) start n i j r c) ≡ start i j r c
   unfolding products value
-  left-after i j r c zero h = X .zero-plus (start i j r c)
+  left-after i j r c zero h = X.zero-plus (start i j r c)
   left-after i j r c (suc n) h =
       let L : ℕ → ℕ → ℕ → ℕ → A .Num = final (blockRules A m) start in
       let d : A .Num = dot A (L i n r) (L j n c) (m n) in
-      ap (λ (b : ℕ → ℕ → A .Num). A .plus (A .plus (products A m L n i j r c) d) (b r c)) (value-next (blockRules A m) start n i j (omega arith))
-      ∙ X .plus-minus (products A m L n i j r c) (value (blockRules A m) start n i j r c) d
+      ap (λ (b : ℕ → ℕ → A .Num). A .plus (A.plus (products A m L n i j r c) d) (b r c)) (value-next (blockRules A m) start n i j (omega arith))
+      ∙ X.plus-minus (products A m L n i j r c) (value (blockRules A m) start n i j r c) d
       ∙ left-after i j r c n (omega arith)
 
   module _ (k : ℕ) (accepted : refusedAt (blockRules A m) k start ≡ none) where

@@ -2,7 +2,7 @@
 -- the bordered matrix of Bates et al. 2015: ΛZ'ZΛ + I, with the rows of X and y below.
 use Prim.Native.Nat.{ℕ, zero, suc, _≤_, _<_}
 use mathlib.Core.Path.{_≡_}
-use Rattle.order.specs.Elimination.{Rules}
+use Rattle.step_order.specs.Elimination.{Rules}
 use Rattle.rules.specs.Arithmetic.{Arithmetic}
 use Rattle.rules.specs.Sums.{dot}
 use Rattle.rules.specs.Steps.{subtractDense}

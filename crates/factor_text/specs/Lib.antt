@@ -1,1 +1,3 @@
 pub mod Written
+pub mod pivot_lines
+pub mod refusal_text

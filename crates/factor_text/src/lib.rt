@@ -1,13 +1,19 @@
 // What the program `factor` does (document 01, "Worked sheets"): a sheet and its theta part to the pivots of its factor, or to a refusal, which is
 // then the only line. What it prints is defined in the crate worked, specs/Program.antt.
+mod pivot_lines;
+mod refusal_text;
+mod steps_text;
+mod theta_part;
+mod theta_text;
+
 ghost use mathlib.Core.Path.{_≡_};
 ghost use Prim.Native.Nat.{_≤_, _<_, _+_};
 ghost use lib.ListN.{length};
 ghost use Rattle.sheet.specs.Sheet.{Sheet, accepted, readSheet};
 ghost use Rattle.sheet.specs.Fault.{refusalOf};
 ghost use Rattle.workspace.specs.Answers.{space};
-ghost use Rattle.worked.specs.Program.{afterLoad, afterSheet};
-ghost use Rattle.refusal_text.specs.Text.{Text};
+ghost use Rattle.factor_output.specs.Program.{afterLoad, afterSheet};
+ghost use Rattle.factor_text.specs.refusal_text.Text.{Text};
 ghost use Rattle.factor_text.specs.Written.{Written};
 use refusal::Answer;
 use sheet::Reading;
@@ -45,7 +51,7 @@ pub fn factor(input: &[u8], out: &mut [u8]) -> usize
     if 32768 < input.len() {
         return refusal_text::put_refusal(out, 12, 0, 0);
     }
-    let r = faults::first_answer(input);
+    let r = sheet_checks::first_answer(input);
     match r {
         Reading::Sheet(z) => put_sheet(input, z, out),
         Reading::Refused { number, line } => refusal_text::put_refusal(out, number, line, 0),

@@ -11,11 +11,11 @@ use Rattle.storage.specs.Part.{store}
 use Rattle.storage.proofs.Cells.{take-tab}
 use Rattle.storage.proofs.Parts.{store-nil, store-one, store-more}
 use Rattle.layout.specs.declared.Layout.{Layout}
-use Rattle.heading_rules.specs.declared.Progress.{Progress}
-use Rattle.heading_rules.specs.declared.State.{State}
-use Rattle.heading_rules.specs.declared.State.the-variants.{Finished}
+use Rattle.heading_format.specs.declared.Progress.{Progress}
+use Rattle.heading_format.specs.declared.State.{State}
+use Rattle.heading_format.specs.declared.State.the-variants.{Finished}
 use Rattle.layout.specs.Blocks.{padded}
-use Rattle.heading_rules.specs.Heading.{bit, stateNumber, stateOf, layoutOf, progressOf, layoutNumbers, progressNumbers, written}
+use Rattle.heading_format.specs.Heading.{bit, stateNumber, stateOf, layoutOf, progressOf, layoutNumbers, progressNumbers, written}
 use Rattle.storage.proofs.Filling.{Filling, filling-done, array-done}
 use Rattle.layout.proofs.Sums.{padded-at, length-padded}
 
@@ -96,16 +96,16 @@ module _ (w : List ℕ) {w₁ w₂ w₃ w₄ : List ℕ} where
       ∙ then w 0 20 (counts ++ m ++ order) flags refl (omega arith))
     where
       counts : List ℕ
-      counts = y .n ∷ y .p ∷ y .q ∷ y .k ∷ []
+      counts = y.n ∷ y .p ∷ y .q ∷ y .k ∷ []
 
       m : List ℕ
-      m = padded 8 (y .m)
+      m = padded 8 y.m
 
       order : List ℕ
-      order = padded 8 (y .order)
+      order = padded 8 y.order
 
       flags : List ℕ
-      flags = bit (y .sparse) ∷ bit (y .diagonal) ∷ []
+      flags = bit y.sparse ∷ bit y.diagonal ∷ []
 
 -- the flags
 pub flags-stored : (w : List ℕ) {w₁ w₂ : List ℕ} {a b : ℕ} (s d : ℕ) → w₂ ≡ store 21 (b ∷ []) w₁ → w₁ ≡ store 20 (a ∷ []) w → a ≡ s → b ≡ d → 22 ≤ length w → w₂ ≡ store 20 (s ∷ d ∷ []) w
@@ -117,8 +117,8 @@ module _ (w : List ℕ) {w₁ w₂ w₃ : List ℕ} where
       → 128 ≤ length w → w₃ ≡ store 22 (progressNumbers g) w
   unfolding progressNumbers
   progress-stored g e₃ e₂ e₁ a h =
-      rw (e₃, e₂, e₁, a, then w 22 23 (stateNumber (g .state) ∷ []) (g .left ∷ []) refl (omega arith))
-      (then w 22 24 (stateNumber (g .state) ∷ g .left ∷ []) (padded 45 (g .stages)) refl (omega arith))
+      rw (e₃, e₂, e₁, a, then w 22 23 (stateNumber g.state ∷ []) (g.left ∷ []) refl (omega arith))
+      (then w 22 24 (stateNumber g.state ∷ g .left ∷ []) (padded 45 g.stages) refl (omega arith))
 
   -- the whole heading: layout, progress, noughts
   pub all-stored : (y : Layout) (g : Progress) → w₃ ≡ store 69 (padded 59 (replicate 59 0)) w₂ → w₂ ≡ store 22 (progressNumbers g) w₁ → w₁ ≡ store 0 (layoutNumbers y) w → 128 ≤ length w

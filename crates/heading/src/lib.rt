@@ -1,11 +1,14 @@
 // The heading of a workspace (document 01, Records 2 and 5): 128 numbers, read as a layout and a progress. What each number is, is defined in the
 // crate heading_rules, specs/Heading.antt.
+pub mod idle_progress;
+pub mod writer;
+
 ghost use mathlib.Core.Path.{_≡_};
 ghost use Prim.Native.Nat.{_+_, _<_, _≤_};
 ghost use lib.ListN.{length, getD, take, drop};
-ghost use Rattle.heading_rules.specs.Heading.{stateOf, layoutOf, progressOf};
-use heading_rules::Progress;
-use heading_rules::State;
+ghost use Rattle.heading_format.specs.Heading.{stateOf, layoutOf, progressOf};
+use heading_format::Progress;
+use heading_format::State;
 use layout::Layout;
 
 // A number of the heading as a count.

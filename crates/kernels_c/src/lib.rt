@@ -5,15 +5,31 @@ ghost use Prim.Native.Nat.{_+_, _≤_};
 ghost use lib.ListN.{length};
 ghost use Rattle.storage.specs.Runs.{start, triangle};
 ghost use Rattle.storage.specs.Shape.{packed, diagonal, columns, entries, sizeOf};
-ghost use Rattle.blocks.specs.Blocks.{EachShape, rowFrom, RowsBelow};
+ghost use Rattle.block_runs.specs.blocks.Blocks.{EachShape, rowFrom, RowsBelow};
 ghost use Rattle.schur.specs.Schur.{subtractedDense, subtractedRank, subtractedLast};
 ghost use Rattle.cross_block.specs.Blocks.{scaledTwice, dividedColumns, solvedRows, subtractedSparse};
-ghost use Rattle.rank_diagonal.specs.Diagonal.{subtractedDiagonal};
-ghost use Rattle.matvec.specs.Products.{lessProduct, lessProductT, lessSparseProductT, lessSparseProduct};
+ghost use Rattle.schur.specs.rank_diagonal.Diagonal.{subtractedDiagonal};
+ghost use Rattle.cross_matvec.specs.Products.{lessProduct, lessProductT, lessSparseProductT, lessSparseProduct};
 ghost use Rattle.re_lower.specs.Lower.{logsOfTriangle, logsOfDiagonal, rowSolved, backSolved};
 ghost use Rattle.kernels_c.specs.Answers.{numberOf, TriangleAnswered, DiagonalAnswered};
+use cross_block::divide_columns;
+use cross_block::scaling;
+use cross_matvec::matvec_t;
+use cross_matvec::sparse_matvec;
+use cross_matvec::sparse_matvec_t;
+use re_lower::back_substitution;
+use re_lower::cholesky;
+use re_lower::diagonal_chol;
+use re_lower::pivot_logs;
+use re_lower::substitution;
+use schur::dense_triangle;
+use schur::last_triangle;
+use schur::rank_diagonal;
+use schur::rank_diagonal_sparse;
+use schur::schur_dense;
+use schur::sparse_schur;
 
-// schur_dense::subtract_dense.
+// schur::schur_dense::subtract_dense.
 #[no_mangle]
 pub extern "C" fn husk_subtract_dense(
     w: &mut [f64],
@@ -32,27 +48,27 @@ pub extern "C" fn husk_subtract_dense(
     schur_dense::subtract_dense(w, off, rows, cols, a, b, inner);
 }
 
-// rank_dense::rank_sub.
+// schur::dense_triangle::rank_sub.
 #[no_mangle]
 pub extern "C" fn husk_rank_sub(w: &mut [f64], off: usize, rows: usize, a: usize, inner: usize)
     requires { ⌜ (rows ≤ 316) × (off + sizeOf (packed rows) ≤ length (now w)) × (a + sizeOf (columns rows inner) ≤ length (now w)) ⌝ }
     requires { ⌜ (off + sizeOf (packed rows) ≤ a) ⊎ (a + sizeOf (columns rows inner) ≤ off) ⌝ }
     ensures { λ _. ⌜ now (w .exit) ≡ subtractedRank off rows a inner (now (w .entry)) ⌝ }
 {
-    rank_dense::rank_sub(w, off, rows, a, inner);
+    dense_triangle::rank_sub(w, off, rows, a, inner);
 }
 
-// schur_last::subtract_last.
+// schur::last_triangle::subtract_last.
 #[no_mangle]
 pub extern "C" fn husk_subtract_last(w: &mut [f64], off: usize, rows: usize, a: usize, inner: usize)
     requires { ⌜ (rows ≤ 316) × (off + sizeOf (packed rows) ≤ length (now w)) × (a + sizeOf (columns rows inner) ≤ length (now w)) ⌝ }
     requires { ⌜ (off + sizeOf (packed rows) ≤ a) ⊎ (a + sizeOf (columns rows inner) ≤ off) ⌝ }
     ensures { λ _. ⌜ now (w .exit) ≡ subtractedLast off rows a inner (now (w .entry)) ⌝ }
 {
-    schur_last::subtract_last(w, off, rows, a, inner);
+    last_triangle::subtract_last(w, off, rows, a, inner);
 }
 
-// sparse_schur::subtract_sparse.
+// schur::sparse_schur::subtract_sparse.
 #[no_mangle]
 pub extern "C" fn husk_subtract_sparse(
     w: &mut [f64],
@@ -74,7 +90,7 @@ pub extern "C" fn husk_subtract_sparse(
     sparse_schur::subtract_sparse(w, off, rows, cols, a, v, inner, h, first);
 }
 
-// divide_columns::divide_columns.
+// cross_block::divide_columns::divide_columns.
 #[no_mangle]
 pub extern "C" fn husk_divide_columns(
     w: &mut [f64],
@@ -100,7 +116,7 @@ pub extern "C" fn husk_solve_rows(w: &mut [f64], off: usize, rows: usize, cols: 
     cross_block::solve_rows(w, off, rows, cols, l);
 }
 
-// scaling::scale_twice.
+// cross_block::scaling::scale_twice.
 #[no_mangle]
 pub extern "C" fn husk_scale_twice(
     w: &mut [f64],
@@ -117,7 +133,7 @@ pub extern "C" fn husk_scale_twice(
     scaling::scale_twice(w, off, src, n, column, row);
 }
 
-// rank_diagonal::rank_sub_diagonal.
+// schur::rank_diagonal::rank_sub_diagonal.
 #[no_mangle]
 pub extern "C" fn husk_rank_sub_diagonal(
     w: &mut [f64],
@@ -135,7 +151,7 @@ pub extern "C" fn husk_rank_sub_diagonal(
     rank_diagonal::rank_sub_diagonal(w, off, n, a, inner, src);
 }
 
-// rank_diagonal_sparse::rank_sub_diagonal_sparse.
+// schur::rank_diagonal_sparse::rank_sub_diagonal_sparse.
 #[no_mangle]
 pub extern "C" fn husk_rank_sub_diagonal_sparse(
     w: &mut [f64],
@@ -155,7 +171,7 @@ pub extern "C" fn husk_rank_sub_diagonal_sparse(
     rank_diagonal_sparse::rank_sub_diagonal_sparse(w, off, n, a, inner, src, h, first);
 }
 
-// matvec::less_product.
+// cross_matvec::less_product.
 #[no_mangle]
 pub extern "C" fn husk_less_product(
     v: &mut [f64],
@@ -170,10 +186,10 @@ pub extern "C" fn husk_less_product(
     requires { ⌜ (off + rows ≤ z) ⊎ (z + cols ≤ off) ⌝ }
     ensures { λ _. ⌜ now (v .exit) ≡ lessProduct off rows z cols a (now (w .entry)) (now (v .entry)) ⌝ }
 {
-    matvec::less_product(v, off, rows, z, cols, w, a);
+    cross_matvec::less_product(v, off, rows, z, cols, w, a);
 }
 
-// matvec_t::less_product_t.
+// cross_matvec::matvec_t::less_product_t.
 #[no_mangle]
 pub extern "C" fn husk_less_product_t(
     v: &mut [f64],
@@ -191,7 +207,7 @@ pub extern "C" fn husk_less_product_t(
     matvec_t::less_product_t(v, off, cols, z, rows, w, a);
 }
 
-// sparse_matvec::less_sparse.
+// cross_matvec::sparse_matvec::less_sparse.
 #[no_mangle]
 pub extern "C" fn husk_less_sparse(
     v: &mut [f64],
@@ -212,7 +228,7 @@ pub extern "C" fn husk_less_sparse(
     sparse_matvec::less_sparse(v, off, rows, z, cols, w, x, h, first);
 }
 
-// sparse_matvec_t::less_sparse_t.
+// cross_matvec::sparse_matvec_t::less_sparse_t.
 #[no_mangle]
 pub extern "C" fn husk_less_sparse_t(
     v: &mut [f64],
@@ -243,7 +259,7 @@ fn number(p: re_lower::Pivots, n: usize) -> usize
     }
 }
 
-// cholesky::chol, its answer as a number.
+// re_lower::cholesky::chol, its answer as a number.
 #[no_mangle]
 pub extern "C" fn husk_chol(t: &mut [f64], n: usize) -> usize
     requires { ⌜ (start triangle n ≤ length (now t)) × (n ≤ 316) ⌝ }
@@ -253,7 +269,7 @@ pub extern "C" fn husk_chol(t: &mut [f64], n: usize) -> usize
     number(p, n)
 }
 
-// diagonal_chol::chol_diagonal, answered likewise.
+// re_lower::diagonal_chol::chol_diagonal, answered likewise.
 #[no_mangle]
 pub extern "C" fn husk_chol_diagonal(t: &mut [f64], n: usize) -> usize
     requires { ⌜ n ≤ length (now t) ⌝ }
@@ -263,7 +279,7 @@ pub extern "C" fn husk_chol_diagonal(t: &mut [f64], n: usize) -> usize
     number(p, n)
 }
 
-// pivot_logs::log_pivots.
+// re_lower::pivot_logs::log_pivots.
 #[no_mangle]
 pub extern "C" fn husk_log_pivots(t: &[f64], n: usize, s: f64) -> f64
     requires { ⌜ start triangle n ≤ length (now t) ⌝ }
@@ -272,7 +288,7 @@ pub extern "C" fn husk_log_pivots(t: &[f64], n: usize, s: f64) -> f64
     pivot_logs::log_pivots(t, n, s)
 }
 
-// pivot_logs::log_diagonal.
+// re_lower::pivot_logs::log_diagonal.
 #[no_mangle]
 pub extern "C" fn husk_log_diagonal(t: &[f64], n: usize, s: f64) -> f64
     requires { ⌜ n ≤ length (now t) ⌝ }
@@ -281,7 +297,7 @@ pub extern "C" fn husk_log_diagonal(t: &[f64], n: usize, s: f64) -> f64
     pivot_logs::log_diagonal(t, n, s)
 }
 
-// substitution::solve_row.
+// re_lower::substitution::solve_row.
 #[no_mangle]
 pub extern "C" fn husk_solve_row(t: &mut [f64], l: &[f64], n: usize)
     requires { ⌜ (n ≤ length (now t)) × (start triangle n ≤ length (now l)) ⌝ }
@@ -290,7 +306,7 @@ pub extern "C" fn husk_solve_row(t: &mut [f64], l: &[f64], n: usize)
     substitution::solve_row(t, l, n);
 }
 
-// back_substitution::backward.
+// re_lower::back_substitution::backward.
 #[no_mangle]
 pub extern "C" fn husk_backward(t: &mut [f64], l: &[f64], n: usize)
     requires { ⌜ (n ≤ length (now t)) × (start triangle n ≤ length (now l)) ⌝ }

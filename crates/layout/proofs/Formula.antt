@@ -50,45 +50,45 @@ module _ (y : Layout) where
   -- the first factor is a diagonal
   pub first-factor : 0 < y .k → sizes y 0 0 ≡ levels y 0
   unfolding shape
-  first-factor h = rw (ne-eqb 0 (y .k) (λ e. omega arith)) (size-diagonal (levels y 0))
+  first-factor h = rw (ne-eqb 0 y.k (λ e. omega arith)) (size-diagonal (levels y 0))
 
   -- so is the second where each column of the pair has one entry
   pub diagonal-factor : 1 < y .k → y .diagonal ≡ true → sizes y 1 1 ≡ levels y 1
   unfolding shape
-  diagonal-factor h d = rw (ne-eqb 1 (y .k) (λ e. omega arith), d) (size-diagonal (levels y 1))
+  diagonal-factor h d = rw (ne-eqb 1 y.k (λ e. omega arith), d) (size-diagonal (levels y 1))
 
   -- any other is a triangle
   pub later-factor : (j : ℕ) → 0 < j → j < y .k → (y .diagonal && eqb j 1) ≡ false → 2 * sizes y j j ≡ levels y j * (levels y j + 1)
   unfolding shape
   later-factor j g h d =
-      rw (ne-eqb j (y .k) (λ e. omega arith), eq-eqb j j refl, ne-eqb j 0 (λ e. omega arith), d) (size-packed (levels y j))
+      rw (ne-eqb j y.k (λ e. omega arith), eq-eqb j j refl, ne-eqb j 0 (λ e. omega arith), d) (size-packed (levels y j))
 
   -- a dense pair has rows times columns cells
   pub cross-dense : (i j : ℕ) → j < i → i < y .k → y .sparse ≡ false → sizes y i j ≡ levels y i * levels y j
   unfolding shape
   cross-dense i j h g d =
-      rw (ne-eqb i (y .k) (λ e. omega arith), ne-eqb i j (λ e. omega arith), d) (size-columns (levels y i) (levels y j))
+      rw (ne-eqb i y.k (λ e. omega arith), ne-eqb i j (λ e. omega arith), d) (size-columns (levels y i) (levels y j))
 
   -- a sparse one has a cell for each column
   pub cross-sparse : (i j : ℕ) → j < i → i < y .k → y .sparse ≡ true → sizes y i j ≡ levels y 0
   unfolding shape
   cross-sparse i j h g d =
-      rw (ne-eqb i (y .k) (λ e. omega arith), ne-eqb i j (λ e. omega arith), d) (size-entries (levels y 0) (λ x. 0))
+      rw (ne-eqb i y.k (λ e. omega arith), ne-eqb i j (λ e. omega arith), d) (size-entries (levels y 0) (λ x. 0))
 
   -- the fixed rows of factor j
   pub fixed-size : (j : ℕ) → j < y .k → sizes y (y .k) j ≡ (y .p + 1) * levels y j
   unfolding shape
-  fixed-size j h = rw (eq-eqb (y .k) (y .k) refl, ne-eqb j (y .k) (λ e. omega arith)) (size-columns (y .p + 1) (levels y j))
+  fixed-size j h = rw (eq-eqb y.k y.k refl, ne-eqb j y.k (λ e. omega arith)) (size-columns (y.p + 1) (levels y j))
 
   -- the last triangle
   pub last-size : sizes y (y .k) (y .k) ≡ (y .p + 1) * (y .p + 2) / 2
   unfolding shape
-  last-size = rw (eq-eqb (y .k) (y .k) refl) (let e = size-packed (y .p + 1) in omega arith)
+  last-size = rw (eq-eqb y.k y.k refl) (let e = size-packed (y.p + 1) in omega arith)
 
   -- a loaded factor is a diagonal
   pub loaded-factor : (j : ℕ) → j < y .k → loadedSizes y j j ≡ levels y j
   unfolding loadedShape
-  loaded-factor j h = rw (eq-eqb j j refl, lt-ltb j (y .k) h) (size-diagonal (levels y j))
+  loaded-factor j h = rw (eq-eqb j j refl, lt-ltb j y.k h) (size-diagonal (levels y j))
 
   -- every other block is loaded as it works
   pub loaded-other : (i j : ℕ) → j < i → loadedSizes y i j ≡ sizes y i j
@@ -97,7 +97,7 @@ module _ (y : Layout) where
 
   pub loaded-last : loadedSizes y (y .k) (y .k) ≡ sizes y (y .k) (y .k)
   unfolding loadedShape
-  loaded-last = rw (eq-eqb (y .k) (y .k) refl, le-ltb (y .k) (y .k) (omega arith))
+  loaded-last = rw (eq-eqb y.k y.k refl, le-ltb y.k y.k (omega arith))
 
   -- ---- each kind's cells
 
@@ -135,7 +135,7 @@ module _ (y : Layout) where
   unfolding across cellsOf sum
   fixed-rows zero h = omega arith
   fixed-rows (suc n) h =
-      omega (arith, cells-append (sizes y) (across (y .k) n) (target (y .k) n ∷ []), fixed-rows n (omega arith), fixed-size n (omega arith))
+      omega (arith, cells-append (sizes y) (across y.k n) (target y.k n ∷ []), fixed-rows n (omega arith), fixed-size n (omega arith))
 
   -- ---- the formula
 
@@ -147,13 +147,13 @@ module _ (y : Layout) where
   -- the cells of the fixed rows and the last triangle
   fixed-part : y .q ≡ sum (levels y) (y .k) → cellsOf (sizes y) (across (y .k) (y .k)) + sizes y (y .k) (y .k) ≡ fixedCells y
   fixed-part e =
-      omega (arith, last-size, fixed-rows (y .k) (omega arith), ap (λ (x : ℕ). x * (y .p + 1)) e)
+      omega (arith, last-size, fixed-rows y.k (omega arith), ap (λ (x : ℕ). x * (y.p + 1)) e)
 
   -- loaded are q diagonals, X and F
   pub loaded-split : y .q ≡ sum (levels y) (y .k) → loadedLength y ≡ y .q + crossCells y + fixedCells y
   unfolding loadedLength crossCells
   loaded-split e =
-      let k : ℕ = y .k in
+      let k : ℕ = y.k in
       omega (
         arith,
         cells-targets (loadedSizes y) k,
@@ -166,4 +166,4 @@ module _ (y : Layout) where
 
   pub doubles-formula : y .q ≡ sum (levels y) (y .k) → doublesNeeded y ≡ doublesFormula y
   unfolding sumAt crossCells factorCells
-  doubles-formula e = omega (arith, loaded-split e, cells-targets (sizes y) (y .k), fixed-part e)
+  doubles-formula e = omega (arith, loaded-split e, cells-targets (sizes y) y.k, fixed-part e)

@@ -38,8 +38,8 @@ module _ (size : ℕ → ℕ → ℕ) where
   pub before-here : (t : Target) (l : List Target) (i j : ℕ) → (eqb (t .row) i && eqb (t .col) j) ≡ true → (before size (t ∷ l) i j ≡ 0) × (size (t .row) (t .col) ≡ size i j)
   unfolding before
   before-here t l i j e =
-      let k = and-eq-true-iff (eqb (t .row) i) (eqb (t .col) j) .0 e in
-      (rw e, ap₂ size (eqb-true (t .row) i (k .0)) (eqb-true (t .col) j (k .1)))
+      let k = and-eq-true-iff (eqb t.row i) (eqb t.col j) .0 e in
+      (rw e, ap₂ size (eqb-true t.row i k.0) (eqb-true t.col j k.1))
 
   -- any other starts behind the first
   pub before-later : (t : Target) (l : List Target) (i j : ℕ) → (eqb (t .row) i && eqb (t .col) j) ≡ false
@@ -53,8 +53,8 @@ module _ (size : ℕ → ℕ → ℕ) where
     where
       differ : target i j ≡ t → ⊥
       differ q =
-          let a : (eqb (t .row) i && eqb (t .col) j) ≡ true =
-          rw (eq-eqb (t .row) i (sym (ap (λ (u : Target). u .row) q)), eq-eqb (t .col) j (sym (ap (λ (u : Target). u .col) q))) in
+          let a : (eqb t.row i && eqb t.col j) ≡ true =
+          rw (eq-eqb t.row i (sym (ap (λ (u : Target). u .row) q)), eq-eqb t.col j (sym (ap (λ (u : Target). u .col) q))) in
           let b : _≡_ {A = ℕ} (cond true 1 0) (cond false 1 0) = ap (λ (x : Bool). cond x 1 0) (sym a ∙ e) in
           omega arith
 
@@ -62,7 +62,7 @@ module _ (size : ℕ → ℕ → ℕ) where
   pub block-inside : (l : List Target) (i j : ℕ) → List·Memᴰ (target i j) l → before size l i j + size i j ≤ cellsOf size l
   unfolding cellsOf
   block-inside [] i j m = absurd (List·Memᴰ·not-nil m)
-  block-inside (t ∷ l) i j m = step (block-inside l i j) (eqb (t .row) i && eqb (t .col) j) refl
+  block-inside (t ∷ l) i j m = step (block-inside l i j) (eqb t.row i && eqb t.col j) refl
     where
       step : (List·Memᴰ (target i j) l → before size l i j + size i j ≤ cellsOf size l) → (b : Bool) → (eqb (t .row) i && eqb (t .col) j) ≡ b
           → before size (t ∷ l) i j + size i j ≤ size (t .row) (t .col) + cellsOf size l
@@ -74,16 +74,16 @@ module _ (size : ℕ → ℕ → ℕ) where
       → (before size l i j + size i j ≤ before size l i′ j′) ⊎ (before size l i′ j′ + size i′ j′ ≤ before size l i j)
   blocks-apart [] i j i′ j′ m m′ other = absurd (List·Memᴰ·not-nil m)
   blocks-apart (t ∷ l) i j i′ j′ m m′ other =
-      step (λ a a′. blocks-apart l i j i′ j′ a a′ other) (eqb (t .row) i && eqb (t .col) j) refl (eqb (t .row) i′ && eqb (t .col) j′) refl
+      step (λ a a′. blocks-apart l i j i′ j′ a a′ other) (eqb t.row i && eqb t.col j) refl (eqb t.row i′ && eqb t.col j′) refl
     where
       step : (List·Memᴰ (target i j) l → List·Memᴰ (target i′ j′) l → (before size l i j + size i j ≤ before size l i′ j′) ⊎ (before size l i′ j′ + size i′ j′ ≤ before size l i j))
           → (b : Bool) → (eqb (t .row) i && eqb (t .col) j) ≡ b → (b′ : Bool) → (eqb (t .row) i′ && eqb (t .col) j′) ≡ b′
           → (before size (t ∷ l) i j + size i j ≤ before size (t ∷ l) i′ j′) ⊎ (before size (t ∷ l) i′ j′ + size i′ j′ ≤ before size (t ∷ l) i j)
       step rest true e true e′ =
-          let k = and-eq-true-iff (eqb (t .row) i) (eqb (t .col) j) .0 e in
-          let k′ = and-eq-true-iff (eqb (t .row) i′) (eqb (t .col) j′) .0 e′ in
+          let k = and-eq-true-iff (eqb t.row i) (eqb t.col j) .0 e in
+          let k′ = and-eq-true-iff (eqb t.row i′) (eqb t.col j′) .0 e′ in
           absurd
-          (other (sym (eqb-true (t .row) i (k .0)) ∙ eqb-true (t .row) i′ (k′ .0)) (sym (eqb-true (t .col) j (k .1)) ∙ eqb-true (t .col) j′ (k′ .1)))
+          (other (sym (eqb-true t.row i k.0) ∙ eqb-true t.row i′ k′.0) (sym (eqb-true t.col j k.1) ∙ eqb-true t.col j′ k′.1))
       step rest true e false e′ = let k = before-here t l i j e in inl (omega (arith, before-later t l i′ j′ e′))
       step rest false e true e′ = let k = before-here t l i′ j′ e′ in inr (omega (arith, before-later t l i j e))
       step rest false e false e′ =
@@ -137,11 +137,11 @@ module _ (y : Layout) where
   pub size-working : (row : ℕ → ℕ) (i j : ℕ) → sizeOf (shape y row i j) ≡ sizes y i j
   unfolding shape
   size-working row i j =
-      size-pick (eqb i (y .k)) _ _ _ _ refl (size-pick (eqb i j) _ _ _ _ refl (size-pick (y .sparse) _ _ _ _ refl refl))
+      size-pick (eqb i y.k) _ _ _ _ refl (size-pick (eqb i j) _ _ _ _ refl (size-pick y.sparse _ _ _ _ refl refl))
 
   pub size-loaded : (row : ℕ → ℕ) (i j : ℕ) → sizeOf (loadedShape y row i j) ≡ loadedSizes y i j
   unfolding loadedShape
-  size-loaded row i j = size-pick (eqb i j && ltb j (y .k)) _ _ _ _ refl (size-working row i j)
+  size-loaded row i j = size-pick (eqb i j && ltb j y.k) _ _ _ _ refl (size-working row i j)
 
   -- ---- the blocks of a workspace
 
@@ -149,7 +149,7 @@ module _ (y : Layout) where
     -- a loaded block lies inside the loaded doubles
     pub loaded-inside : loadedAt y i j + loadedSizes y i j ≤ loadedLength y
     unfolding loadedAt loadedLength
-    loaded-inside = block-inside (loadedSizes y) (targets (y .k)) i j (in-targets (y .k) i j h g)
+    loaded-inside = block-inside (loadedSizes y) (targets y.k) i j (in-targets y.k i j h g)
 
     -- a working block lies behind theta
     pub working-behind : thetaAt y + y .k ≤ workingAt y i j
@@ -159,20 +159,20 @@ module _ (y : Layout) where
     -- and before the logarithms' sum
     pub working-inside : workingAt y i j + sizes y i j ≤ sumAt y
     unfolding workingAt sumAt
-    working-inside = omega (arith, block-inside (sizes y) (targets (y .k)) i j (in-targets (y .k) i j h g))
+    working-inside = omega (arith, block-inside (sizes y) (targets y.k) i j (in-targets y.k i j h g))
 
     module _ (i′ j′ : ℕ) (h′ : j′ ≤ i′) (g′ : i′ ≤ y .k) (other : i ≡ i′ → j ≡ j′ → ⊥) where
       -- two loaded blocks share no place
       pub loaded-apart : (loadedAt y i j + loadedSizes y i j ≤ loadedAt y i′ j′) ⊎ (loadedAt y i′ j′ + loadedSizes y i′ j′ ≤ loadedAt y i j)
       unfolding loadedAt
-      loaded-apart = blocks-apart (loadedSizes y) (targets (y .k)) i j i′ j′ (in-targets (y .k) i j h g) (in-targets (y .k) i′ j′ h′ g′) other
+      loaded-apart = blocks-apart (loadedSizes y) (targets y.k) i j i′ j′ (in-targets y.k i j h g) (in-targets y.k i′ j′ h′ g′) other
 
       -- two working blocks neither
       pub working-apart : (workingAt y i j + sizes y i j ≤ workingAt y i′ j′) ⊎ (workingAt y i′ j′ + sizes y i′ j′ ≤ workingAt y i j)
       unfolding workingAt
       working-apart =
           ⊎-elim (λ a. inl (omega arith)) (λ a. inr (omega arith))
-          (blocks-apart (sizes y) (targets (y .k)) i j i′ j′ (in-targets (y .k) i j h g) (in-targets (y .k) i′ j′ h′ g′) other)
+          (blocks-apart (sizes y) (targets y.k) i j i′ j′ (in-targets y.k i j h g) (in-targets y.k i′ j′ h′ g′) other)
 
 -- theta lies before the logarithms' sum
 pub theta-inside : (y : Layout) → thetaAt y + y .k ≤ sumAt y

@@ -1,22 +1,22 @@
 -- The chosen numbers serve the bound of document 01, so `lnOf` is within 2^-50 + 2^-52 * |r| of the exact logarithm.
 use mathlib.Core.Path.{_≡_, ap, sym, _∙_, subst}
-use Prim.Native.Nat.{ℕ, _+_, _-_, _*_, _^_, _≤_, _<_}
+use Prim.Native.Nat.{ℕ, _+_, _*_, _^_, _≤_, _<_}
 use native.Mathlib.Omega.{arith}
 use mathlib.Core.Bool.{Bool, true, false, cond}
 use lib.Dec.{T, ltb, lit<}
 use lib.Ieee.{Float, binary64, fits}
 use lib.Ieee.Positive.{positive}
-use Rattle.double.specs.declared.Kind.{Kind}
-use Rattle.double.specs.Parts.{significand, exponent}
-use Rattle.double.specs.Kind.{kindOf}
-use Rattle.double.proofs.Value.{significand-low, significand-high, exponent-le}
-use Rattle.double.proofs.Tests.{at-positive}
-use Rattle.exact_log.specs.Log.{apart, centre, rise, exactLn}
-use Rattle.exact_log.proofs.Ends.{near-one}
-use Rattle.log_units.specs.Units.{chosen, lnSum, lnParts}
-use Rattle.log_units.specs.Near.{IsLn}
-use Rattle.log_units.proofs.Law.{sum-finite, sum-near}
-use Rattle.log_units.proofs.Serves.{serves}
+use Rattle.float_bits.specs.declared.double.Kind.{Kind}
+use Rattle.float_bits.specs.double.Parts.{significand, exponent}
+use Rattle.float_bits.specs.double.Kind.{kindOf}
+use Rattle.float_bits.proofs.double.Value.{significand-low, significand-high, exponent-le}
+use Rattle.float_bits.proofs.double.Tests.{at-positive}
+use Rattle.logarithm.specs.exact_log.Log.{apart, centre, rise, exactLn}
+use Rattle.logarithm.proofs.exact_log.Ends.{near-one}
+use Rattle.logarithm.specs.fixed_point.Units.{chosen, lnSum, lnParts}
+use Rattle.logarithm.specs.fixed_point.Near.{IsLn}
+use Rattle.logarithm.proofs.fixed_point.Law.{sum-finite, sum-near}
+use Rattle.logarithm.proofs.fixed_point.Serves.{serves}
 use Rattle.logarithm.specs.Ln.{lnAt, lnOf}
 
 pub few : (m t : ℕ) → t ≤ 2098 → apart (rise m t) 1074 ≤ 1074

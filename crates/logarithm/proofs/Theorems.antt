@@ -11,30 +11,30 @@ use lib.Ieee.{Float, nan, inf, fin, binary64, up, down, fits}
 use lib.Ieee.Fits.{round-fits, nan-fits, inf-fits, down-pos}
 use lib.Ieee.Scale.{finite}
 use lib.Ieee.Positive.{positive, num, den, value→cross}
-use Rattle.double.specs.declared.Kind.{Kind}
-use Rattle.double.specs.declared.Kind.the-variants.{Positive, Zero, Negative, PlusInfinity, NotANumber}
-use Rattle.double.specs.Parts.{significand, exponent}
-use Rattle.double.specs.Kind.{kindOf}
-use Rattle.double.proofs.Bits.{same}
-use Rattle.double.proofs.Value.{significand-low, significand-high}
-use Rattle.exact_log.specs.Log.{apart, centre, rise}
-use Rattle.exact_log.proofs.Ends.{exact-parts}
-use Rattle.log_units.specs.Units.{Precision, chosen, wholePart, seriesPart, gain, loss, lnSum, lnParts}
-use Rattle.log_units.proofs.Rounding.{IsRounded}
-use Rattle.log_units.proofs.Law.{sum-rounded, series-small, size-le}
-use Rattle.log_units.proofs.Serves.{serves}
-use Rattle.log_split.proofs.Together.{units-some}
+use Rattle.float_bits.specs.declared.double.Kind.{Kind}
+use Rattle.float_bits.specs.declared.double.Kind.the-variants.{Positive, Zero, Negative, PlusInfinity, NotANumber}
+use Rattle.float_bits.specs.double.Parts.{significand, exponent}
+use Rattle.float_bits.specs.double.Kind.{kindOf}
+use Rattle.float_bits.proofs.double.Bits.{same}
+use Rattle.float_bits.proofs.double.Value.{significand-low, significand-high}
+use Rattle.logarithm.specs.exact_log.Log.{apart, centre, rise}
+use Rattle.logarithm.proofs.exact_log.Ends.{exact-parts}
+use Rattle.logarithm.specs.fixed_point.Units.{Precision, chosen, wholePart, seriesPart, gain, loss, lnSum, lnParts}
+use Rattle.logarithm.proofs.fixed_point.Rounding.{IsRounded}
+use Rattle.logarithm.proofs.fixed_point.Law.{sum-rounded, series-small, size-le}
+use Rattle.logarithm.proofs.fixed_point.Serves.{serves}
+use Rattle.logarithm.proofs.split.Together.{units-some}
 use Rattle.logarithm.specs.Ln.{lnAt, lnOf}
 use Rattle.logarithm.proofs.Near.{at-parts, centre-pos, near-centre, steps, steps-few, ln-near}
 
 -- the logarithm of every double is a double
 sum-fits : (P : Precision) (m c u d : ℕ) → T (fits binary64 (lnSum P m c u d))
 unfolding lnSum
-sum-fits P m c u d = round-fits binary64 (ltb (gain P m c u d) (loss P m c u d)) (apart (gain P m c u d) (loss P m c u d)) (P .guard * P .unit)
+sum-fits P m c u d = round-fits binary64 (ltb (gain P m c u d) (loss P m c u d)) (apart (gain P m c u d) (loss P m c u d)) (P.guard * P .unit)
 
 kind-fits : (k : Kind) (x : Float) → T (fits binary64 x) → T (fits binary64 (lnAt chosen k x))
 unfolding lnAt lnParts
-kind-fits (Positive p) x f = sum-fits chosen (p .significand) (centre (p .significand)) (rise (p .significand) (p .exponent)) 1074
+kind-fits (Positive p) x f = sum-fits chosen p.significand (centre p.significand) (rise p.significand p.exponent) 1074
 kind-fits Zero x f = inf-fits binary64 true
 kind-fits Negative x f = nan-fits binary64
 kind-fits PlusInfinity x f = f
@@ -55,11 +55,11 @@ bounded-by K U W R Q k P w h =
 rounded-bounded : (r : Float) (s : Bool) (W U : ℕ) → 0 < U → 8 * W ≤ 5959 * U → IsRounded r s W U → num r ≤ 745 * den r
 rounded-bounded nan s W U P w h = absurd h
 rounded-bounded (inf t) s W U P w h = absurd h
-rounded-bounded (fin t m e) s W U P w h = bounded-by (2 ^ 53 - 1) U W (m * up e) (down e) (lit≤ tt) (mul-pos (lit< tt) P) w (h .1 .down)
+rounded-bounded (fin t m e) s W U P w h = bounded-by (2 ^ 53 - 1) U W (m * up e) (down e) (lit≤ tt) (mul-pos (lit< tt) P) w h.1.down
 
 -- a rounded number that is 0 was 0
 rounded-zero : (t s : Bool) (e : ℤ) (W U : ℕ) → IsRounded (fin t 0 e) s W U → W ≡ 0
-rounded-zero t s e W U h = none (W * down e) W (down e) (down-pos e) refl (small (2 ^ 53) (W * down e) (up e) U (lit< tt) (h .1 .up))
+rounded-zero t s e W U h = none (W * down e) W (down e) (down-pos e) refl (small (2 ^ 53) (W * down e) (up e) U (lit< tt) h.1.up)
   where
     small : (H w a U : ℕ) → 0 < H → H * w ≤ H * (0 * a * U) + 0 * a * U → w ≤ 0
     small H w a U P l = le-of-mul-le-mul-right {k = H} (omega arith) P
@@ -121,8 +121,8 @@ module _ (x : Float) (f : T (fits binary64 x)) (p : T (positive x)) where
   unfolding fits
   is-one t e q =
       let z = none t e q in
-      let c : m ≡ centre m = at-centre (z .1) in
-      let w : u ≡ 1074 = omega (arith, z .0) in
+      let c : m ≡ centre m = at-centre z.1 in
+      let w : u ≡ 1074 = omega (arith, z.0) in
       let v : num x * (centre m * 2 ^ 1074) ≡ m * 2 ^ u * den x = value→cross x (m * 2 ^ u) (centre m * 2 ^ 1074) (exact-parts x f p) in
       let a : num x * (centre m * 2 ^ 1074) ≡ den x * (centre m * 2 ^ 1074) = v ∙ ap (λ (n : ℕ). n * 2 ^ u * den x) c ∙ ap (λ (n : ℕ). centre m * 2 ^ n * den x) w ∙ mul-comm (centre m * 2 ^ 1074) (den x) in
       let b : num x ≡ den x = eq-of-mul-eq-mul-right (centre m * 2 ^ 1074) (mul-pos (centre-pos m) (pow-pos 1074)) (num x) (den x) a in

@@ -1,10 +1,10 @@
 -- The natural logarithm of a double, to the bit (document 01, Record 4, "Logarithm"): a sum in whole units, rounded once to a double.
 use mathlib.Core.Bool.{true}
 use lib.Ieee.{Float, nan, inf}
-use Rattle.double.specs.declared.Kind.{Kind}
-use Rattle.double.specs.declared.Kind.the-variants.{Positive, Zero, Negative, PlusInfinity, NotANumber}
-use Rattle.double.specs.Kind.{kindOf}
-use Rattle.log_units.specs.Units.{Precision, chosen, lnParts}
+use Rattle.float_bits.specs.declared.double.Kind.{Kind}
+use Rattle.float_bits.specs.declared.double.Kind.the-variants.{Positive, Zero, Negative, PlusInfinity, NotANumber}
+use Rattle.float_bits.specs.double.Kind.{kindOf}
+use Rattle.logarithm.specs.fixed_point.Units.{Precision, chosen, lnParts}
 
 -- ln of a zero is -infinity, of a negative NaN, and +infinity and NaN pass
 unfoldable pub lnAt : Precision → Kind → Float → Float

@@ -1,13 +1,21 @@
 // The natural logarithm of a double.
+mod division;
+mod exact_log;
+mod fixed_point;
+mod series;
+mod sign;
+mod split;
 
 ghost use mathlib.Core.Path.{_≡_};
 ghost use Prim.Native.Nat.{_+_, _*_, _^_};
-ghost use Rattle.double.specs.Parts.{InPlace};
-ghost use Rattle.exact_log.specs.Log.{apart, centre};
-ghost use Rattle.log_units.specs.Units.{chosen, ratio, seriesPart, lnParts};
+ghost use Rattle.float_bits.specs.double.Parts.{InPlace};
+ghost use Rattle.logarithm.specs.exact_log.Log.{apart, centre};
+ghost use Rattle.logarithm.specs.fixed_point.Units.{chosen, ratio, seriesPart, lnParts};
 ghost use Rattle.logarithm.specs.Ln.{lnOf};
-use double::Kind;
-use double::Parts;
+use float_bits::double;
+use float_bits::double::Kind;
+use float_bits::double::Parts;
+use float_bits::wide_product;
 
 // |m - c| * 2^62 / (m + c), where m is the significand and c its centre.
 fn ratio_of(p: Parts) -> u64
@@ -15,7 +23,10 @@ fn ratio_of(p: Parts) -> u64
     ensures { λ r. ⌜ r ≡ ratio (2 ^ 62) (apart (p .significand) (centre (p .significand))) (p .significand + centre (p .significand)) ⌝ }
 {
     let m = p.significand;
-    log_split::quotient(m, 4503599627370496 * (1 + wide::above(m, 6755399441055743)))
+    split::quotient(
+        m,
+        4503599627370496 * (1 + wide_product::above(m, 6755399441055743)),
+    )
 }
 
 // The logarithm of the double above 0 with these parts, given the sum s of its series.
@@ -25,8 +36,8 @@ fn from_series(p: Parts, s: u64) -> f64
 {
     let m = p.significand;
     let t = p.exponent;
-    let k = wide::above(m, 6755399441055743);
-    log_split::joined(m, 4503599627370496 * (1 + k), t + k, 2 * s)
+    let k = wide_product::above(m, 6755399441055743);
+    split::joined(m, 4503599627370496 * (1 + k), t + k, 2 * s)
 }
 
 // The logarithm of the double above 0 with these parts.
@@ -34,7 +45,7 @@ fn of_parts(p: Parts) -> f64
     requires { ⌜ InPlace p ⌝ }
     ensures { λ r. ⌜ r ≡ lnParts chosen p ⌝ }
 {
-    from_series(p, log_series::summed(ratio_of(p)))
+    from_series(p, series::summed(ratio_of(p)))
 }
 
 // The natural logarithm, to the bit as specs/Ln.antt has it.

@@ -8,9 +8,9 @@ use lib.Ieee as Ieee
 use lib.Ieee.{Float, nan, binary64}
 use Rattle.refusal.specs.Numbers.{refusal}
 use Rattle.layout.specs.declared.Layout.{Layout}
-use Rattle.heading_rules.specs.declared.Progress.{Progress}
-use Rattle.heading_rules.specs.declared.State.the-variants.{UnderWay, Finished}
-use Rattle.heading_rules.specs.Heading.{written}
+use Rattle.heading_format.specs.declared.Progress.{Progress}
+use Rattle.heading_format.specs.declared.State.the-variants.{UnderWay, Finished}
+use Rattle.heading_format.specs.Heading.{written}
 use Rattle.workspace.specs.Compute.{word, words}
 use Rattle.update.specs.Compute.{steps}
 use Rattle.profile.specs.declared.Deviance.{Deviance}
@@ -101,7 +101,7 @@ solution = refl
 -- its deviance comes from its own r2, (9 - 4) - 4, which here is the last pivot's square
 unfoldable solutionBits : Solve → ℕ
 unfolding Ieee.toBits
-solutionBits (Solved s) = Ieee.toBits binary64 (s .deviance)
+solutionBits (Solved s) = Ieee.toBits binary64 s.deviance
 solutionBits (Denied r) = 0
 
 unfoldable solvingBy : Bool → ℕ

@@ -6,17 +6,17 @@ use lib.ListN.{length}
 use lib.Ieee as Ieee
 use lib.Ieee.{Float, binary64}
 use Rattle.storage.specs.Shape.{packed}
-use Rattle.order.specs.Steps.{rustOrder}
+use Rattle.step_order.specs.Steps.{rustOrder}
 use Rattle.rules.specs.Arithmetic.{ieee}
 use Rattle.rules.specs.Finish.{devianceOf}
 use Rattle.layout.specs.declared.Layout.{Layout}
-use Rattle.heading_rules.specs.declared.State.{State}
-use Rattle.heading_rules.specs.declared.State.the-variants.{Idle, UnderWay, Finished}
+use Rattle.heading_format.specs.declared.State.{State}
+use Rattle.heading_format.specs.declared.State.the-variants.{Idle, UnderWay, Finished}
 use Rattle.refusal.specs.declared.Refusal.{Refusal}
 use Rattle.refusal.specs.declared.Answer.{Answer}
 use Rattle.refusal.specs.declared.Answer.the-variants.{Accepted, Refused as Denied}
 use Rattle.layout.specs.Shapes.{pick}
-use Rattle.heading_rules.specs.Heading.{layoutOf, progressOf, headed}
+use Rattle.heading_format.specs.Heading.{layoutOf, progressOf, headed}
 use Rattle.workspace.specs.Memory.{Workspace, cellOf, workingBlock, logSum}
 use Rattle.refusal.specs.Numbers.{refusal, noRefusal}
 use Rattle.workspace.specs.Answers.{Outcome}

@@ -17,7 +17,7 @@ use Rattle.layout.specs.declared.Layout.{Layout}
 use Rattle.refusal.specs.declared.Refusal.{Refusal}
 use Rattle.refusal.specs.Numbers.{refusal, noRefusal}
 use Rattle.layout.specs.Shapes.{pick, levels}
-use Rattle.heading_rules.specs.Heading.{layoutOf, progressOf, headed}
+use Rattle.heading_format.specs.Heading.{layoutOf, progressOf, headed}
 use Rattle.workspace.specs.Memory.{cellOf, loadedBlock, thetaOf}
 use Rattle.profile.specs.declared.Solution.{Solution}
 use Rattle.profile.specs.declared.Solve.{Solve}

@@ -11,7 +11,7 @@ use Rattle.rules.specs.Begin.{fixedCell}
 use Rattle.rules.specs.Cholesky.{at, forward}
 use Rattle.rules.specs.Solves.{lessDense, lessSparse, lessDenseT, lessSparseT, backward}
 use Rattle.layout.specs.Shapes.{pick, levels, shape, loadedShape}
-use Rattle.heading_rules.specs.Heading.{layoutOf, entryRow}
+use Rattle.heading_format.specs.Heading.{layoutOf, entryRow}
 use Rattle.workspace.specs.Memory.{cellOf, loadedBlock, workingBlock, thetaOf}
 
 -- block j of a list of blocks

@@ -1,11 +1,16 @@
 // The profiled deviance (document 01, Record 6): begin, the Rust's order of steps, and the deviance of the factor. What it answers and leaves is
 // defined in the crate profile, specs/Deviance.antt; what the update in it comes to, in the crate update_in_order, specs/Updating.antt.
+pub mod full_update;
+pub mod ready_step;
+pub mod rust_order;
+
 ghost use mathlib.Core.Path.{_≡_};
 ghost use Rattle.workspace.specs.Answers.{space};
 ghost use Rattle.profile.specs.Deviance.{profileOf};
-ghost use Rattle.update_in_order.specs.Updating.{withoutValue};
+ghost use Rattle.profile_deviance.specs.full_update.Updating.{withoutValue};
+use deviance::deviance_tail;
+use full_update::Updated;
 use profile::Deviance;
-use update_in_order::Updated;
 
 // The answer of an update that has no log determinant.
 fn without_value(u: Updated) -> Deviance
@@ -23,7 +28,7 @@ fn without_value(u: Updated) -> Deviance
 pub fn profile_deviance(h: &mut [u32], w: &mut [f64], theta: &[f64], reml: bool) -> Deviance
     ensures { λ r. ⌜ record { answer = r; left = space (now (h .exit)) (now (w .exit)) } ≡ profileOf (now (h .entry)) (now (w .entry)) (now (theta .entry)) reml ⌝ }
 {
-    let u = update_in_order::update(h, w, theta);
+    let u = full_update::update(h, w, theta);
     let Updated::Value(logdet) = u else {
         return without_value(u);
     };

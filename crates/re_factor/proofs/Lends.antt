@@ -16,7 +16,7 @@ use Rattle.rules.specs.Sums.{logsFrom}
 use Rattle.rules.specs.Cholesky.{at}
 use Rattle.re_lower.specs.Lower.{answerOf}
 use Rattle.re_lower.specs.declared.Pivots.{Pivots}
-use Rattle.blocks.specs.Blocks.{block, entry}
+use Rattle.block_runs.specs.blocks.Blocks.{block, entry}
 use Rattle.re_factor.specs.Factor.{Factored, logsFirst}
 
 -- the lent cells, as a lend counts them
@@ -57,12 +57,12 @@ pub lent-solve : (rule : (ℕ → Float) → (ℕ → ℕ → Float) → List Fl
     → (y : List Float) → y ≡ store 0 (rule (at ieee (between z n v)) (cell (ieee .zero) (packed n) (between off k w))) (between z n v)
     → putMid z (z + n - z) v y ≡ store z (rule (entry z n v) (block off (packed n) w)) v
 lent-solve rule n many v z fits w off k e y q =
-    let f : ℕ → ℕ → Float = cell (ieee .zero) (packed n) (between off k w) in
+    let f : ℕ → ℕ → Float = cell ieee.zero (packed n) (between off k w) in
     lent v z n n refl fits y (λ x. rule (at ieee x) f) (omega (arith, many (at ieee (part z n v)) f)) q
-    ∙ ap (λ (x : List Float). store z (rule (entry z n v) (cell (ieee .zero) (packed n) x)) v) (is-part w off k (sizeOf (packed n)) e)
+    ∙ ap (λ (x : List Float). store z (rule (entry z n v) (cell ieee.zero (packed n) x)) v) (is-part w off k (sizeOf (packed n)) e)
 
 -- the logarithms of a block that is lent
 pub lent-logs : (s : Shape) (w : List Float) (off k n : ℕ) (x v : Float) → k ≡ sizeOf s
     → v ≡ logsFrom ieee x (λ r. cell (ieee .zero) s (between off k w) r r) n → v ≡ logsFirst s off n x w
 lent-logs s w off k n x v e q =
-    subst (λ (l : List Float). v ≡ logsFrom ieee x (λ r. cell (ieee .zero) s l r r) n) (is-part w off k (sizeOf s) e) q
+    subst (λ (l : List Float). v ≡ logsFrom ieee x (λ r. cell ieee.zero s l r r) n) (is-part w off k (sizeOf s) e) q

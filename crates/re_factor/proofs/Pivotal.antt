@@ -18,7 +18,7 @@ use Rattle.rules.specs.Cholesky.{factor}
 use Rattle.re_lower.specs.declared.Pivots.the-variants.{Accepted}
 use Rattle.re_lower.proofs.Blocks.{store-whole}
 use Rattle.re_lower.proofs.Pivotal.{triangle-never-null, diagonal-never-null}
-use Rattle.blocks.specs.Blocks.{block}
+use Rattle.block_runs.specs.blocks.Blocks.{block}
 use Rattle.re_factor.specs.Factor.{pivotAt, TriangleFactored, DiagonalFactored}
 
 -- each of the n pivots of the block of shape s at off is a double
@@ -42,7 +42,7 @@ pub triangle-factor : (off n : ℕ) (w w′ : List Float) → off + sizeOf (pack
     → TriangleFactored off n w w′ Accepted → NoneNull off n (packed n) w′
 triangle-factor off n w w′ h doubles c =
     triangle-never-null (part off (sizeOf (packed n)) w) (part off (sizeOf (packed n)) w′) n (omega (arith, length-part off (sizeOf (packed n)) w h)) doubles
-    record { answer = c .answer; left = stored-block off (packed n) (factor ieee (block off (packed n) w) n) w w′ h (c .exit) }
+    record { answer = c.answer; left = stored-block off (packed n) (factor ieee (block off (packed n) w) n) w w′ h c.exit }
 
 -- a diagonal
 pub diagonal-factor : (off n : ℕ) (w w′ : List Float) → off + n ≤ length w → Doubles off n (diagonal n) w
@@ -50,4 +50,4 @@ pub diagonal-factor : (off n : ℕ) (w w′ : List Float) → off + n ≤ length
 diagonal-factor off n w w′ h doubles c =
     let k : start single n ≡ n = start-single n in
     diagonal-never-null (part off (sizeOf (diagonal n)) w) (part off (sizeOf (diagonal n)) w′) n (omega (arith, length-part off (sizeOf (diagonal n)) w (omega arith))) doubles
-    record { answer = c .answer; left = stored-block off (diagonal n) (λ r x. ieee .root (pivotAt off (diagonal n) w r)) w w′ (omega arith) (c .exit) }
+    record { answer = c.answer; left = stored-block off (diagonal n) (λ r x. ieee .root (pivotAt off (diagonal n) w r)) w w′ (omega arith) c.exit }

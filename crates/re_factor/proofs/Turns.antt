@@ -18,9 +18,9 @@ use Rattle.storage.proofs.Parts.{getD-part, store-more}
 use Rattle.storage.proofs.Filling.{Filling, filling-next}
 use Rattle.rules.specs.Arithmetic.{ieee}
 use Rattle.rules.specs.Begin.{diagonalCell}
-use Rattle.blocks.specs.Blocks.{block, entry}
-use Rattle.blocks.specs.Done.{Done}
-use Rattle.blocks.proofs.Laws.{read-block, has-diagonal, begun, ended, next-run, done-length, same-block, next}
+use Rattle.block_runs.specs.blocks.Blocks.{block, entry}
+use Rattle.block_runs.specs.blocks.Done.{Done}
+use Rattle.block_runs.proofs.blocks.Laws.{read-block, has-diagonal, begun, ended, next-run, done-length, same-block, next}
 use Rattle.re_factor.specs.Factor.{pivotAt, startedCell, started}
 
 -- a pivot that is read at its place
@@ -71,15 +71,15 @@ module _ (s : Shape) (off n src : ℕ) (t : Float) (w₀ : List Float) (fits : o
       let j : ℕ = runOf s r r in
       let i : ℕ = inRun s r r in
       let here : i ≤ len j = omega arith in
-      let p : length w ≡ length w₀ = done-length off len b w₀ (runs s) fits j (y .run) i here w so in
+      let p : length w ≡ length w₀ = done-length off len b w₀ (runs s) fits j y.run i here w so in
       let a : block src (diagonal n) w ≡ block src (diagonal n) w₀ =
-      same-block off len b w₀ (runs s) fits j (y .run) i here w so src (diagonal n)
+      same-block off len b w₀ (runs s) fits j y.run i here w so src (diagonal n)
       (⊎-elim (λ x. inl x) (λ x. inr (omega (arith, start-single n))) apart) in
       let v : Float = diagonalCell ieee t (getD w (src + r) nan) in
       let g : v ≡ startedCell n src t w₀ r r =
       ap (diagonalCell ieee t) (read-pivot src n w r h (omega arith) ∙ ap (λ (x : ℕ → ℕ → Float). x r r) a) ∙ rw (eq-eqb r r refl) in
-      next-run off len b w₀ (runs s) fits j (y .run) (set w k v)
-      (rw (← last) (next off len b w₀ (runs s) fits j (y .run) i here w so (y .within) k e v (g ∙ sym (ap₂ (startedCell n src t w₀) (y .row) (y .column)))))
+      next-run off len b w₀ (runs s) fits j y.run (set w k v)
+      (rw (← last) (next off len b w₀ (runs s) fits j y.run i here w so y.within k e v (g ∙ sym (ap₂ (startedCell n src t w₀) y.row y.column))))
 
 -- beside the pivot of row r all is 0
 pub beside-zero : (n src : ℕ) (t : Float) (w : List Float) (r : ℕ) → tab r (λ i. ieee .zero) ≡ tab r (startedCell n src t w r)
@@ -89,10 +89,10 @@ beside-zero n src t w r =
 -- ---- each entry over its pivot
 -- entry i over its pivot
 abbrev pub quotient : (z off n : ℕ) (w v : List Float) → ℕ → Float
-quotient z off n w v i = ieee .over (entry z n v i) (pivotAt off (diagonal n) w i)
+quotient z off n w v i = ieee.over (entry z n v i) (pivotAt off (diagonal n) w i)
 
 pub divide-turn : {z n : ℕ} {v₀ v : List Float} {i : ℕ} (off : ℕ) (w : List Float) → off + n ≤ length w → Filling (quotient z off n w v₀) z n v₀ v i → i < n
     → Filling (quotient z off n w v₀) z n v₀ (set v (z + i) (div binary64 (getD v (z + i) nan) (getD w (off + i) nan))) (i + 1)
 divide-turn {z} {n} {v₀} {v} {i} off w from so more =
     filling-next so (λ (x : Float). div binary64 x (getD w (off + i) nan)) nan refl more
-    (ap₂ (ieee .over) (any-default v₀ (z + i) nan (ieee .zero) (omega arith) ∙ sym (getD-part z n v₀ i (ieee .zero) more)) (read-pivot off n w i more from))
+    (ap₂ ieee.over (any-default v₀ (z + i) nan ieee.zero (omega arith) ∙ sym (getD-part z n v₀ i ieee.zero more)) (read-pivot off n w i more from))

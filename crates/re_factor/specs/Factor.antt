@@ -16,7 +16,7 @@ use Rattle.rules.specs.Cholesky.{forward, radicand, pivots, logsOfFirst, logsOf
 use Rattle.rules.specs.Solves.{backward}
 use Rattle.re_lower.specs.Lower.{answerOf, leftOfTriangle, leftOfDiagonal}
 use Rattle.re_lower.specs.declared.Pivots.{Pivots}
-use Rattle.blocks.specs.Blocks.{block, entry}
+use Rattle.block_runs.specs.blocks.Blocks.{block, entry}
 
 -- pivot r of the block with shape s that lies from `off` on
 abbrev pub pivotAt : ℕ → Shape → List Float → ℕ → Float

@@ -1,9 +1,18 @@
 // C on one diagonal block (document 01, Record 4; the Rust's `ReFactor::chol`), on the whole list of doubles in which the block lies from off on: the
 // target's cells are the rule's, every other double stays.
+pub mod block_divide;
+pub mod block_logs;
+pub mod block_solve;
+pub mod diagonal_init;
+pub mod triangle_init;
+
 ghost use Prim.Native.Nat.{_+_, _≤_};
 ghost use lib.ListN.{length};
 ghost use Rattle.storage.specs.Shape.{packed, sizeOf};
 ghost use Rattle.re_factor.specs.Factor.{TriangleFactored, DiagonalFactored};
+use re_lower::cholesky;
+use re_lower::diagonal_chol;
+use re_lower::triangle_cells;
 
 // C: the packed triangle of n rows at off becomes its factor, unless a pivot is refused.
 pub fn chol(w: &mut [f64], off: usize, n: usize) -> re_lower::Pivots

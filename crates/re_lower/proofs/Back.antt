@@ -54,8 +54,8 @@ pub column-turn : (s v : Float) (l t : List Float) (i q row x : ℕ) → q ≡ i
 unfolding lessFrom
 column-turn s v l t i q row x e f h k g =
     ap₂ (sub binary64) g
-    (ap₂ (mul binary64) (any-default l (row + i) nan (ieee .zero) h ∙ ap (λ (j : ℕ). at ieee l (j + i)) (f ∙ ap (start triangle) e))
-    (any-default t q nan (ieee .zero) k ∙ ap (at ieee t) e))
+    (ap₂ (mul binary64) (any-default l (row + i) nan ieee.zero h ∙ ap (λ (j : ℕ). at ieee l (j + i)) (f ∙ ap (start triangle) e))
+    (any-default t q nan ieee.zero k ∙ ap (at ieee t) e))
 
 pub length-backward : (A : Arithmetic) (v : ℕ → A .Num) (L : ℕ → ℕ → A .Num) (n d : ℕ) → length (backward A v L n d) ≡ d
 unfolding backward
@@ -70,9 +70,9 @@ backward-ext A v v′ L L′ n zero l h k = refl
 backward-ext A v v′ L L′ n (suc d) l h k =
     let e : backward A v L n d ≡ backward A v′ L′ n d = backward-ext A v v′ L L′ n d (omega arith) h k in
     let i : ℕ = n - suc d in
-    ap₂ (λ (x : A .Num) (rest : List (A .Num)). x ∷ rest)
-    (ap₂ (A .over)
-    (chain-ext A _ _ _ _ _ _ d (h i (omega arith)) (λ y m. k (i + suc y) i (omega arith) (omega arith)) (λ y m. ap (λ (rest : List (A .Num)). at A rest y) e))
+    ap₂ (λ (x : A .Num) (rest : List A.Num). x ∷ rest)
+    (ap₂ A.over
+    (chain-ext A _ _ _ _ _ _ d (h i (omega arith)) (λ y m. k (i + suc y) i (omega arith) (omega arith)) (λ y m. ap (λ (rest : List A.Num). at A rest y) e))
     (k i i (omega arith) (omega arith))) e
 
 -- the last d cells, solved
@@ -100,13 +100,13 @@ module _ (t₀ l : List Float) (n i d : ℕ) (c : d ≡ n - suc i) (h : i < n) (
   many = length-backward ieee (at ieee t₀) (lower l) n d
 
   own : getD t i nan ≡ at ieee t₀ i
-  own = any-default t i nan (ieee .zero) (omega arith) ∙ ap (λ (y : List Float). at ieee y i) q
-      ∙ store-before (suc i) rest t₀ (omega (arith, many)) (ieee .zero) i (omega arith)
+  own = any-default t i nan ieee.zero (omega arith) ∙ ap (λ (y : List Float). at ieee y i) q
+      ∙ store-before (suc i) rest t₀ (omega (arith, many)) ieee.zero i (omega arith)
 
   behind : (y : ℕ) → y < d → at ieee t (i + suc y) ≡ at ieee rest y
   behind y g =
       let k : i + suc y ≡ suc i + y = omega arith in
-      ap₂ (at ieee) q k ∙ store-in (suc i) rest t₀ (omega (arith, many)) (ieee .zero) y (omega (arith, many))
+      ap₂ (at ieee) q k ∙ store-in (suc i) rest t₀ (omega (arith, many)) ieee.zero y (omega (arith, many))
 
   abbrev cellAt : ℕ → Float
   cellAt k = div binary64 (chain ieee (at ieee t₀ k) (λ x. lower l (k + suc x) k) (at ieee rest) d) (lower l k k)
@@ -119,7 +119,7 @@ module _ (t₀ l : List Float) (n i d : ℕ) (c : d ≡ n - suc i) (h : i < n) (
       let a : s ≡ chain ieee (at ieee t₀ i) (λ x. lower l (i + suc x) i) (at ieee rest) d =
       g ∙ chain-ext ieee _ _ _ _ _ _ d own (λ y o. refl) behind in
       let b : getD l (from + i) nan ≡ lower l i i =
-      any-default l (from + i) nan (ieee .zero) m ∙ ap (λ (k : ℕ). at ieee l (k + i)) e in
+      any-default l (from + i) nan ieee.zero m ∙ ap (λ (k : ℕ). at ieee l (k + i)) e in
       ap (λ (y : List Float). set y i (div binary64 s (getD l (from + i) nan))) q
       ∙ ap (set (store (suc i) rest t₀) i) (ap₂ (div binary64) a b ∙ ap cellAt j)
       ∙ set-before i rest t₀ (cellAt (n - suc d)) (omega arith)

@@ -45,20 +45,20 @@ set-one {A} t i j v e h =
 module _ (x l : List Float) (i from c : ℕ) where
   pub lane-start : (z : ℕ) → z ≡ 4 * c + i → z < length x → getD x z nan ≡ laneChain (lane x i c) x i l from 0
   unfolding lessFrom
-  lane-start z p h = any-default x z nan (ieee .zero) h ∙ ap (at ieee x) p
+  lane-start z p h = any-default x z nan ieee.zero h ∙ ap (at ieee x) p
 
   pub lane-turn : (v : Float) (y y′ z q : ℕ) → suc y ≡ y′ → z ≡ 4 * y + i → q ≡ from + y → z < length x → q < length l → v ≡ laneChain (lane x i c) x i l from y
       → sub binary64 v (mul binary64 (getD x z nan) (getD l q nan)) ≡ laneChain (lane x i c) x i l from y′
   unfolding lessFrom
   lane-turn v y y′ z q g p f h k e =
       ap₂ (sub binary64) e
-      (ap₂ (mul binary64) (any-default x z nan (ieee .zero) h ∙ ap (at ieee x) p) (any-default l q nan (ieee .zero) k ∙ ap (at ieee l) f))
+      (ap₂ (mul binary64) (any-default x z nan ieee.zero h ∙ ap (at ieee x) p) (any-default l q nan ieee.zero k ∙ ap (at ieee l) f))
       ∙ ap (laneChain (lane x i c) x i l from) g
 
   pub lane-done : (y : ℕ) (v : Float) → y ≡ c → from + c < length l → v ≡ laneChain (lane x i c) x i l from y
       → div binary64 v (getD l (from + c) nan) ≡ nextCell x l from c i
   lane-done y v e h g =
-      ap₂ (div binary64) (g ∙ ap (laneChain (lane x i c) x i l from) e) (any-default l (from + c) nan (ieee .zero) h)
+      ap₂ (div binary64) (g ∙ ap (laneChain (lane x i c) x i l from) e) (any-default l (from + c) nan ieee.zero h)
 
 -- four cells that lie together, written one by one
 pub four-written : (x : List Float) (k : ℕ) (f : ℕ → Float) (a b d e : Float) → k + 4 ≤ length x → a ≡ f 0 → b ≡ f 1 → d ≡ f 2 → e ≡ f 3
@@ -90,19 +90,19 @@ module _ (x₀ l x : List Float) (from c : ℕ) (e : from ≡ start triangle c) 
 
   pub four-rest : (z : ℕ) → 4 * suc c ≤ z → at ieee (fourDone x l from c) z ≡ at ieee x₀ z
   four-rest z h =
-      store-behind (4 * c) (tab 4 (nextCell x l from c)) x (omega (arith, four)) (ieee .zero) z (omega (arith, four)) ∙ u z (omega arith)
+      store-behind (4 * c) (tab 4 (nextCell x l from c)) x (omega (arith, four)) ieee.zero z (omega (arith, four)) ∙ u z (omega arith)
 
   pub four-solved : FourSolved x₀ l (fourDone x l from c) (suc c)
   unfolding forward
   four-solved i y h k =
       by-cases (decLt y c)
-      (λ m. store-before (4 * c) (tab 4 (nextCell x l from c)) x (omega (arith, four)) (ieee .zero) (4 * y + i) (omega arith) ∙ d i y h m
-      ∙ sym (List·getD-append (row i) (cellOf i ∷ []) (ieee .zero) y (omega (arith, length-forward ieee (lane x₀ i) (lower l) c))))
+      (λ m. store-before (4 * c) (tab 4 (nextCell x l from c)) x (omega (arith, four)) ieee.zero (4 * y + i) (omega arith) ∙ d i y h m
+      ∙ sym (List·getD-append (row i) (cellOf i ∷ []) ieee.zero y (omega (arith, length-forward ieee (lane x₀ i) (lower l) c))))
       (λ m. let q : y ≡ c = omega arith in
       rw q
-      (store-in (4 * c) (tab 4 (nextCell x l from c)) x (omega (arith, four)) (ieee .zero) i (omega (arith, four))
-      ∙ getD-tab 4 (nextCell x l from c) i (ieee .zero) h ∙ new i h
-      ∙ sym (getD-at (row i) (cellOf i) [] (ieee .zero) c (length-forward ieee (lane x₀ i) (lower l) c))))
+      (store-in (4 * c) (tab 4 (nextCell x l from c)) x (omega (arith, four)) ieee.zero i (omega (arith, four))
+      ∙ getD-tab 4 (nextCell x l from c) i ieee.zero h ∙ new i h
+      ∙ sym (getD-at (row i) (cellOf i) [] ieee.zero c (length-forward ieee (lane x₀ i) (lower l) c))))
 
 -- ---- rows that go to a band
 pub gather-turn : (x₀ t x : List Float) (from i c z : ℕ) → Gathered x₀ t x from i c → z ≡ 4 * c + i → i < 4 → z < length x → from + c < length t
@@ -111,11 +111,11 @@ gather-turn x₀ t x from i c z g p b h k =
     let v : Float = getD t (from + c) nan in
     record {
       mine = λ y m. by-cases (decLt y c)
-          (λ o. getD-set-other x z (4 * y + i) v (ieee .zero) (λ e. omega arith) ∙ g .mine y o)
+          (λ o. getD-set-other x z (4 * y + i) v ieee.zero (λ e. omega arith) ∙ g.mine y o)
           (λ o. let e : 4 * y + i ≡ z = omega arith in
           let f : c ≡ y = omega arith in
-          ap (at ieee (set x z v)) e ∙ getD-set-same x z v (ieee .zero) h ∙ any-default t (from + c) nan (ieee .zero) k ∙ ap (λ (j : ℕ). at ieee t (from + j)) f);
-      others = λ j y m o. getD-set-other x z (4 * y + j) v (ieee .zero) (λ e. o (omega arith)) ∙ g .others j y m o;
+          ap (at ieee (set x z v)) e ∙ getD-set-same x z v ieee.zero h ∙ any-default t (from + c) nan ieee.zero k ∙ ap (λ (j : ℕ). at ieee t (from + j)) f);
+      others = λ j y m o. getD-set-other x z (4 * y + j) v ieee.zero (λ e. o (omega arith)) ∙ g.others j y m o;
     }
 
 pub band-turn : (t x x′ : List Float) (base from i : ℕ) → i < 4 → from ≡ start triangle (base + i) → BandGathered t x base i → Gathered x t x′ from i base
@@ -124,7 +124,7 @@ band-turn t x x′ base from i h e b g j c m o =
     by-cases (decLt j i)
     (λ l. g .others j c (omega arith) (λ f. omega arith) ∙ b j c l o)
     (λ l. let f : i ≡ j = omega arith in
-    ap (λ (y : ℕ). lane x′ y c) (sym f) ∙ g .mine c o ∙ ap (λ (y : ℕ). at ieee t (y + c)) (e ∙ ap (λ (y : ℕ). start triangle (base + y)) f))
+    ap (λ (y : ℕ). lane x′ y c) (sym f) ∙ g.mine c o ∙ ap (λ (y : ℕ). at ieee t (y + c)) (e ∙ ap (λ (y : ℕ). start triangle (base + y)) f))
 
 -- ---- a row that goes back
 pub put-turn : (t₀ x t : List Float) (from i c z : ℕ) → from + c < length t₀ → z ≡ 4 * c + i → z < length x → t ≡ store from (tab c (lane x i)) t₀
@@ -135,7 +135,7 @@ put-turn t₀ x t from i c z h p m q =
     let j : from + c ≡ from + length (tab c (lane x i)) = omega arith in
     ap₂ (λ (y : List Float) (n : ℕ). set y n (getD x z nan)) q j
     ∙ store-one from (tab c (lane x i)) t₀ (omega arith) (getD x z nan) (omega arith)
-    ∙ ap (λ (y : Float). store from (tab c (lane x i) ++ (y ∷ [])) t₀) (any-default x z nan (ieee .zero) m ∙ ap (at ieee x) p)
+    ∙ ap (λ (y : Float). store from (tab c (lane x i) ++ (y ∷ [])) t₀) (any-default x z nan ieee.zero m ∙ ap (at ieee x) p)
 
 -- the cells that the band has of row r are its first, solved
 pub row-back : (t x : List Float) (from base r : ℕ) → RowReady t x from base r → store from (tab base (lane x (r - base))) t ≡ store from (solvedTo t from base) t
@@ -144,7 +144,7 @@ row-back t x from base r g =
     ap (λ (y : List Float). store from y t)
     (sym
     (sym (take-all base (solvedTo t from base) (omega arith))
-    ∙ take-tab (ieee .zero) base (lane x (r - base)) (solvedTo t from base) (omega arith) (λ c h. sym (g c h))))
+    ∙ take-tab ieee.zero base (lane x (r - base)) (solvedTo t from base) (omega arith) (λ c h. sym (g c h))))
 
 -- ---- t has r rows of the factor of the triangle w, which has n, and below them still has those of w
 module _ (w : List Float) (n : ℕ) (fits : start triangle n ≤ length w) (t : List Float) (r : ℕ) (o : r < n)
@@ -163,10 +163,10 @@ module _ (w : List Float) (n : ℕ) (fits : start triangle n ≤ length w) (t : 
   rows-above base p h k =
       forward-ext ieee _ _ _ _ base
       (λ x l. ap (λ (y : List Float). at ieee y (start triangle p + x)) q
-      ∙ first-behind w made room (ieee .zero) (start triangle p + x) (omega (arith, tall, start-le triangle r p k)))
+      ∙ first-behind w made room ieee.zero (start triangle p + x) (omega (arith, tall, start-le triangle r p k)))
       (λ x y l m. ap (λ (v : List Float). at ieee v (start triangle x + y)) q
-      ∙ first-in w made room (ieee .zero) (start triangle x + y) (omega (arith, tall, start-below triangle x r (omega arith)))
-      ∙ getD-cells triangle r (factor ieee (lower w) r) x y (ieee .zero) (omega arith) (omega arith)
+      ∙ first-in w made room ieee.zero (start triangle x + y) (omega (arith, tall, start-below triangle x r (omega arith)))
+      ∙ getD-cells triangle r (factor ieee (lower w) r) x y ieee.zero (omega arith) (omega arith)
       ∙ ap (λ (v : List Float). at ieee v y) (rows-stay ieee (lower w) x base r l h))
 
   -- the next band, gathered and solved

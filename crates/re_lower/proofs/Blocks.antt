@@ -44,7 +44,7 @@ one-more A none false r q e h = absurd (let z : _≡_ {A = ℕ} 0 1 = cc in omeg
 pub row-below : (A : Arithmetic) (g : ℕ → A .Num) (n q : ℕ) → pivots A g n ≡ some q → q < n
 unfolding firstBad
 row-below A g zero q e = absurd (let z : _≡_ {A = ℕ} 0 1 = cc in omega arith)
-row-below A g (suc n) q e = one-more A (pivots A g n) (A .refused (g n)) n q e (row-below A g n q)
+row-below A g (suc n) q e = one-more A (pivots A g n) (A.refused (g n)) n q e (row-below A g n q)
 
 -- ---- what is left has room where the block was
 pub triangle-room : (b : ℕ → ℕ → Float) (n : ℕ) (p : Pivots) → p ≡ answerOf (pivots ieee (radicand ieee b) n) → length (leftOfTriangle b n p) ≤ start triangle n
@@ -66,17 +66,17 @@ pub triangle-lent : (w : List Float) (off n : ℕ) → off + start triangle n �
     → TriangleDone (part off (start triangle n) w) y n p
     → putMid off (start triangle n) w y ≡ store off (leftOfTriangle (cell (ieee .zero) (packed n) (part off (start triangle n) w)) n p) w
 triangle-lent w off n h y p c =
-    let b : ℕ → ℕ → Float = cell (ieee .zero) (packed n) (part off (start triangle n) w) in
-    ap (putMid off (start triangle n) w) (c .left)
-    ∙ store-lent w off (start triangle n) 0 (leftOfTriangle b n p) h (omega (arith, triangle-room b n p (c .answer)))
+    let b : ℕ → ℕ → Float = cell ieee.zero (packed n) (part off (start triangle n) w) in
+    ap (putMid off (start triangle n) w) c.left
+    ∙ store-lent w off (start triangle n) 0 (leftOfTriangle b n p) h (omega (arith, triangle-room b n p c.answer))
     ∙ ap (λ (i : ℕ). store i (leftOfTriangle b n p) w) (add-zero off)
 
 pub diagonal-lent : (w : List Float) (off n : ℕ) → off + n ≤ length w → (y : List Float) (p : Pivots) → DiagonalDone (part off n w) y n p
     → putMid off n w y ≡ store off (leftOfDiagonal (λ r. cell (ieee .zero) (diagonal n) (part off n w) r r) n p) w
 diagonal-lent w off n h y p c =
-    let d : ℕ → Float = λ r. cell (ieee .zero) (diagonal n) (part off n w) r r in
-    ap (putMid off n w) (c .left)
-    ∙ store-lent w off n 0 (leftOfDiagonal d n p) h (omega (arith, diagonal-room d n p (c .answer)))
+    let d : ℕ → Float = λ r. cell ieee.zero (diagonal n) (part off n w) r r in
+    ap (putMid off n w) c.left
+    ∙ store-lent w off n 0 (leftOfDiagonal d n p) h (omega (arith, diagonal-room d n p c.answer))
     ∙ ap (λ (i : ℕ). store i (leftOfDiagonal d n p) w) (add-zero off)
 
 -- ---- a list that is the block and nothing else
@@ -88,20 +88,20 @@ store-whole {A} l w e = ap (λ (x : List A). l ++ x) (drop-of-length-le w {i = 0
 pub triangle-whole : (b b′ : List Float) (n : ℕ) → length b ≡ start triangle n → TriangleDone b b′ n Accepted
     → b′ ≡ fill (packed n) (factor ieee (cell (ieee .zero) (packed n) b) n)
 triangle-whole b b′ n e c =
-    let f : ℕ → ℕ → Float = factor ieee (cell (ieee .zero) (packed n) b) n in
+    let f : ℕ → ℕ → Float = factor ieee (cell ieee.zero (packed n) b) n in
     c .left ∙ store-whole (fill (packed n) f) b (omega (arith, length-fill (packed n) f))
 
 pub diagonal-whole : (b b′ : List Float) (n : ℕ) → length b ≡ n → DiagonalDone b b′ n Accepted
     → b′ ≡ fill (diagonal n) (λ r c. ieee .root (cell (ieee .zero) (diagonal n) b r r))
 diagonal-whole b b′ n e c =
-    let f : ℕ → ℕ → Float = λ r x. ieee .root (cell (ieee .zero) (diagonal n) b r r) in
+    let f : ℕ → ℕ → Float = λ r x. ieee .root (cell ieee.zero (diagonal n) b r r) in
     c .left ∙ store-whole (fill (diagonal n) f) b (omega (arith, length-fill (diagonal n) f, start-single n))
 
 pub row-whole : (t l : List Float) (n : ℕ) → length t ≡ n → rowSolved t l n ≡ forward ieee (at ieee t) (cell (ieee .zero) (packed n) l) n
 row-whole t l n e =
-    store-whole (forward ieee (at ieee t) (cell (ieee .zero) (packed n) l) n) t (omega (arith, length-forward ieee (at ieee t) (cell (ieee .zero) (packed n) l) n))
+    store-whole (forward ieee (at ieee t) (cell ieee.zero (packed n) l) n) t (omega (arith, length-forward ieee (at ieee t) (cell ieee.zero (packed n) l) n))
 
 pub back-whole : (t l : List Float) (n : ℕ) → length t ≡ n → backSolved t l n ≡ backward ieee (at ieee t) (cell (ieee .zero) (packed n) l) n n
 back-whole t l n e =
-    store-whole (backward ieee (at ieee t) (cell (ieee .zero) (packed n) l) n n) t
-    (omega (arith, length-backward ieee (at ieee t) (cell (ieee .zero) (packed n) l) n n))
+    store-whole (backward ieee (at ieee t) (cell ieee.zero (packed n) l) n n) t
+    (omega (arith, length-backward ieee (at ieee t) (cell ieee.zero (packed n) l) n n))

@@ -23,9 +23,9 @@ module _ (A : Arithmetic) where
   forward-ext b b′ L L′ zero h k = refl
   forward-ext b b′ L L′ (suc n) h k =
       let e : forward A b L n ≡ forward A b′ L′ n = forward-ext b b′ L L′ n (λ x l. h x (omega arith)) (λ x y l m. k x y (omega arith) m) in
-      ap₂ (λ (l : List (A .Num)) (v : A .Num). l ++ (v ∷ [])) e
-      (ap₂ (A .over)
-      (chain-ext A (b n) (b′ n) (at A (forward A b L n)) (at A (forward A b′ L′ n)) (L n) (L′ n) n (h n (omega arith)) (λ y l. ap (λ (z : List (A .Num)). at A z y) e) (λ y l. k n y (omega arith) (omega arith)))
+      ap₂ (λ (l : List A.Num) (v : A .Num). l ++ (v ∷ [])) e
+      (ap₂ A.over
+      (chain-ext A (b n) (b′ n) (at A (forward A b L n)) (at A (forward A b′ L′ n)) (L n) (L′ n) n (h n (omega arith)) (λ y l. ap (λ (z : List A.Num). at A z y) e) (λ y l. k n y (omega arith) (omega arith)))
       (k n n (omega arith) (omega arith)))
 
   module _ (b : ℕ → ℕ → A .Num) where
@@ -36,12 +36,12 @@ module _ (A : Arithmetic) where
     pub rows-grow : (r : ℕ) → cells triangle (suc r) (factor A b (suc r)) ≡ cells triangle r (factor A b r) ++ rowOf A b (factor A b r) r
     unfolding cells
     rows-grow r =
-        let m : List (A .Num) = rowOf A b (factor A b r) r in
-        ap₂ (λ (x y : List (A .Num)). x ++ y)
-        (cells-ext triangle r (factor A b (suc r)) (factor A b r) (λ j i p q. ap (λ (z : List (A .Num)). at A z i) (row-stays A b j r p)))
-        (tab-ext (suc r) (factor A b (suc r) r) (at A m) (λ i l. ap (λ (z : List (A .Num)). at A z i) (row-made A b r))
-        ∙ ext-getD (A .zero) (tab (suc r) (at A m)) m (length-tab (suc r) (at A m) ∙ sym (length-row (factor A b r) r))
-        (λ i l. getD-tab (suc r) (at A m) i (A .zero) (omega (arith, length-tab (suc r) (at A m)))))
+        let m : List A.Num = rowOf A b (factor A b r) r in
+        ap₂ (λ (x y : List A.Num). x ++ y)
+        (cells-ext triangle r (factor A b (suc r)) (factor A b r) (λ j i p q. ap (λ (z : List A.Num). at A z i) (row-stays A b j r p)))
+        (tab-ext (suc r) (factor A b (suc r) r) (at A m) (λ i l. ap (λ (z : List A.Num). at A z i) (row-made A b r))
+        ∙ ext-getD A.zero (tab (suc r) (at A m)) m (length-tab (suc r) (at A m) ∙ sym (length-row (factor A b r) r))
+        (λ i l. getD-tab (suc r) (at A m) i A.zero (omega (arith, length-tab (suc r) (at A m)))))
 
   -- ---- which pivot is refused
   module _ (g : ℕ → A .Num) where
@@ -60,7 +60,7 @@ module _ (A : Arithmetic) where
     stays q m (suc n) l e =
         by-cases (decLt n m)
         (λ h. let k : m ≡ suc n = omega arith in rw k at e)
-        (λ h. ap (λ (p : Option ℕ). next A p (A .refused (g n)) n) (stays q m n (omega arith) e))
+        (λ h. ap (λ (p : Option ℕ). next A p (A.refused (g n)) n) (stays q m n (omega arith) e))
 
     -- the first refused radicand is the answer
     pub refused-at : (r n : ℕ) → r < n → pivots A g r ≡ none → A .refused (g r) ≡ true → pivots A g n ≡ some r

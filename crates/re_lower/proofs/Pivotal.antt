@@ -15,8 +15,8 @@ use lib.Ieee.{Float, nan, inf, fin, binary64, fits, up, down, below, level}
 use lib.Ieee.Fits.{sub-fits, up-pos}
 use lib.Ieee.Positive.{positive}
 use borrow.Author.Tests.{lt-ltb, le-ltb, ne-eqb}
-use Rattle.root.specs.Root.{sqrtOf}
-use Rattle.root.proofs.Theorems.{sqrt-positive}
+use Rattle.square_root.specs.Root.{sqrtOf}
+use Rattle.square_root.proofs.Theorems.{sqrt-positive}
 use Rattle.storage.specs.Runs.{start, triangle, single, tab, cells}
 use Rattle.storage.specs.Part.{store}
 use Rattle.storage.proofs.Starts.{start-below, start-single}
@@ -32,7 +32,7 @@ use Rattle.re_lower.proofs.Turns.{first-in}
 use Rattle.re_lower.proofs.Blocks.{accepted-none}
 
 abbrev pub AboveOrNaN : Float → Type 0
-AboveOrNaN y = (ieee .above y ≡ true) ⊎ (y ≡ nan)
+AboveOrNaN y = (ieee.above y ≡ true) ⊎ (y ≡ nan)
 
 -- the double 0, by its sign and digits
 abbrev pub nought : Float
@@ -99,7 +99,7 @@ never-null y h = ⊎-elim (λ e. rw nought-is (above-not-null y (rw nought-is at
 pub chain-fits : (s : Float) (a b : ℕ → Float) (n : ℕ) → T (fits binary64 s) → T (fits binary64 (chain ieee s a b n))
 unfolding lessFrom
 chain-fits s a b zero f = f
-chain-fits s a b (suc n) f = sub-fits binary64 (chain ieee s a b n) (ieee .times (a n) (b n))
+chain-fits s a b (suc n) f = sub-fits binary64 (chain ieee s a b n) (ieee.times (a n) (b n))
 
 -- Of a triangle whose pivots are doubles, every pivot that an accepted C leaves is above 0 or NaN.
 pub triangle-pivots :
@@ -109,14 +109,14 @@ triangle-pivots t t′ n fits′ doubles c r h =
     let l : List Float = cells triangle n (factor ieee (lower t) n) in
     let k : length l ≡ start triangle n = length-cells triangle n (factor ieee (lower t) n) in
     let e : lower t′ r r ≡ sqrtOf (radicand ieee (lower t) r) =
-    ap (λ (y : List Float). at ieee y (start triangle r + r)) (c .left ∙ ap (λ (y : List Float). store 0 y t) (fill-packed n (factor ieee (lower t) n)))
-    ∙ first-in t l (omega arith) (ieee .zero) (start triangle r + r) (omega (arith, start-below triangle r n h))
-    ∙ getD-cells triangle n (factor ieee (lower t) n) r r (ieee .zero) h (omega arith)
+    ap (λ (y : List Float). at ieee y (start triangle r + r)) (c.left ∙ ap (λ (y : List Float). store 0 y t) (fill-packed n (factor ieee (lower t) n)))
+    ∙ first-in t l (omega arith) ieee.zero (start triangle r + r) (omega (arith, start-below triangle r n h))
+    ∙ getD-cells triangle n (factor ieee (lower t) n) r r ieee.zero h (omega arith)
     ∙ pivot-root ieee (lower t) r n h in
     subst AboveOrNaN (sym e)
     (root-of-accepted (radicand ieee (lower t) r)
     (chain-fits (lower t r r) (at ieee (besidePivot ieee (lower t) (factor ieee (lower t) r) r)) (at ieee (besidePivot ieee (lower t) (factor ieee (lower t) r) r)) r (doubles r h))
-    (accepted-at ieee (radicand ieee (lower t)) r n h (accepted-none (pivots ieee (radicand ieee (lower t)) n) (c .answer))))
+    (accepted-at ieee (radicand ieee (lower t)) r n h (accepted-none (pivots ieee (radicand ieee (lower t)) n) c.answer)))
 
 -- So is every one of a diagonal.
 pub diagonal-pivots :
@@ -127,11 +127,11 @@ diagonal-pivots t t′ n fits′ doubles c r h =
     let k : length l ≡ n = length-tab n (λ q. sqrtOf (pivot t q)) in
     let j : start single r + 0 ≡ r = omega (arith, start-single r) in
     let e : pivot t′ r ≡ sqrtOf (pivot t r) =
-    ap₂ (at ieee) (c .left ∙ ap (λ (y : List Float). store 0 y t) (fill-diagonal n (λ q x. sqrtOf (pivot t q)))) j
-    ∙ first-in t l (omega arith) (ieee .zero) r (omega arith)
-    ∙ getD-tab n (λ q. sqrtOf (pivot t q)) r (ieee .zero) h in
+    ap₂ (at ieee) (c.left ∙ ap (λ (y : List Float). store 0 y t) (fill-diagonal n (λ q x. sqrtOf (pivot t q)))) j
+    ∙ first-in t l (omega arith) ieee.zero r (omega arith)
+    ∙ getD-tab n (λ q. sqrtOf (pivot t q)) r ieee.zero h in
     subst AboveOrNaN (sym e)
-    (root-of-accepted (pivot t r) (doubles r h) (accepted-at ieee (pivot t) r n h (accepted-none (pivots ieee (pivot t) n) (c .answer))))
+    (root-of-accepted (pivot t r) (doubles r h) (accepted-at ieee (pivot t) r n h (accepted-none (pivots ieee (pivot t) n) c.answer)))
 
 -- No pivot of an accepted triangle is 0, of either sign: a division by it is never one by 0.
 pub triangle-never-null :

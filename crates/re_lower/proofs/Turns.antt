@@ -7,7 +7,7 @@ use native.Mathlib.Omega.{arith}
 use lib.ListN.{length, getD, set, length-append}
 use lib.Seq.{getD-append-add}
 use lib.Ieee.{Float, nan, add, sub, mul, div, binary64}
-use Rattle.root.specs.Root.{sqrtOf}
+use Rattle.square_root.specs.Root.{sqrtOf}
 use Rattle.logarithm.specs.Ln.{lnOf}
 use Rattle.storage.specs.Runs.{start, triangle, single, tab, cells}
 use Rattle.storage.specs.Part.{store}
@@ -39,16 +39,16 @@ module _ (w₀ : List Float) (from r : ℕ) (e : from ≡ start triangle r) (fit
 
   module _ (c : ℕ) (h : c < r) (t : List Float) (k : length t ≡ length w₀) (q : t ≡ store from (solvedTo w₀ from c) w₀) (a : ℕ) (f : a ≡ start triangle c) where
     own : getD t (from + c) nan ≡ at ieee w₀ (from + c)
-    own = any-default t (from + c) nan (ieee .zero) (omega arith) ∙ ap (λ (l : List Float). at ieee l (from + c)) q
-        ∙ store-behind from (solvedTo w₀ from c) w₀ (omega (arith, many c)) (ieee .zero) (from + c) (omega (arith, many c))
+    own = any-default t (from + c) nan ieee.zero (omega arith) ∙ ap (λ (l : List Float). at ieee l (from + c)) q
+        ∙ store-behind from (solvedTo w₀ from c) w₀ (omega (arith, many c)) ieee.zero (from + c) (omega (arith, many c))
 
     before : (y : ℕ) → y < c → at ieee t (from + y) ≡ at ieee (solvedTo w₀ from c) y
     before y l = ap (λ (z : List Float). at ieee z (from + y)) q
-        ∙ store-in from (solvedTo w₀ from c) w₀ (omega (arith, many c)) (ieee .zero) y (omega (arith, many c))
+        ∙ store-in from (solvedTo w₀ from c) w₀ (omega (arith, many c)) ieee.zero y (omega (arith, many c))
 
     above : (y : ℕ) → y ≤ c → at ieee t (a + y) ≡ lower w₀ c y
     above y l = ap₂ (λ (z : List Float) (i : ℕ). at ieee z (i + y)) q f
-        ∙ store-before from (solvedTo w₀ from c) w₀ (omega (arith, many c)) (ieee .zero) (start triangle c + y) (omega (arith, start-below triangle c r h))
+        ∙ store-before from (solvedTo w₀ from c) w₀ (omega (arith, many c)) ieee.zero (start triangle c + y) (omega (arith, start-below triangle c r h))
 
     pub row-turn : (s : Float) → s ≡ chained (getD t (from + c) nan) t from t a c
         → set t (from + c) (div binary64 s (getD t (a + c) nan)) ≡ store from (solvedTo w₀ from (suc c)) w₀
@@ -58,7 +58,7 @@ module _ (w₀ : List Float) (from r : ℕ) (e : from ≡ start triangle r) (fit
         let x : s ≡ chain ieee (at ieee w₀ (from + c)) (at ieee (solvedTo w₀ from c)) (lower w₀ c) c =
         g ∙ chain-ext ieee _ _ _ _ _ _ c own before (λ y l. above y (omega arith)) in
         let y : getD t (a + c) nan ≡ lower w₀ c c =
-        any-default t (a + c) nan (ieee .zero) (omega (arith, start-below triangle c r h)) ∙ above c (omega arith) in
+        any-default t (a + c) nan ieee.zero (omega (arith, start-below triangle c r h)) ∙ above c (omega arith) in
         ap₂ (λ (z : List Float) (i : ℕ). set z i (div binary64 s (getD t (a + c) nan))) q j
         ∙ ap (set (store from (solvedTo w₀ from c) w₀) (from + length (solvedTo w₀ from c))) (ap₂ (div binary64) x y)
         ∙ store-one from (solvedTo w₀ from c) w₀ (omega (arith, many c)) _ (omega (arith, many c))
@@ -94,10 +94,10 @@ module _ (w₀ : List Float) (n : ℕ) (fits : start triangle n ≤ length w₀)
   new =
       forward-ext ieee _ _ _ _ r
       (λ x l. ap₂ (λ (y : List Float) (i : ℕ). at ieee y (i + x)) q e
-      ∙ first-behind w₀ made (omega (arith, tall, room)) (ieee .zero) (start triangle r + x) (omega (arith, tall)))
+      ∙ first-behind w₀ made (omega (arith, tall, room)) ieee.zero (start triangle r + x) (omega (arith, tall)))
       (λ x y l m. ap (λ (v : List Float). at ieee v (start triangle x + y)) q
-      ∙ first-in w₀ made (omega (arith, tall, room)) (ieee .zero) (start triangle x + y) (omega (arith, tall, start-below triangle x r l))
-      ∙ getD-cells triangle r (factor ieee (lower w₀) r) x y (ieee .zero) l (omega arith))
+      ∙ first-in w₀ made (omega (arith, tall, room)) ieee.zero (start triangle x + y) (omega (arith, tall, start-below triangle x r l))
+      ∙ getD-cells triangle r (factor ieee (lower w₀) r) x y ieee.zero l (omega arith))
 
   -- the row is solved behind those above it
   pub row-done : t′ ≡ store 0 (made ++ side) w₀
@@ -107,15 +107,15 @@ module _ (w₀ : List Float) (n : ℕ) (fits : start triangle n ≤ length w₀)
       ∙ store-more 0 made w₀ (omega (arith, tall, room)) side
 
   own-pivot : getD t′ (from + r) nan ≡ lower w₀ r r
-  own-pivot = any-default t′ (from + r) nan (ieee .zero) (omega (arith, room)) ∙ ap₂ (λ (y : List Float) (i : ℕ). at ieee y (i + r)) row-done e
-      ∙ first-behind w₀ (made ++ side) (omega (arith, long, room)) (ieee .zero) (start triangle r + r) (omega (arith, long))
+  own-pivot = any-default t′ (from + r) nan ieee.zero (omega (arith, room)) ∙ ap₂ (λ (y : List Float) (i : ℕ). at ieee y (i + r)) row-done e
+      ∙ first-behind w₀ (made ++ side) (omega (arith, long, room)) ieee.zero (start triangle r + r) (omega (arith, long))
 
   mine : (y : ℕ) → y < r → at ieee t′ (from + y) ≡ at ieee side y
   mine y l =
       let k : from ≡ length made = omega (arith, tall) in
       ap (λ (v : List Float). at ieee v (from + y)) row-done
-      ∙ first-in w₀ (made ++ side) (omega (arith, long, room)) (ieee .zero) (from + y) (omega (arith, long))
-      ∙ ap (λ (i : ℕ). at ieee (made ++ side) (i + y)) k ∙ getD-append-add made side y (ieee .zero)
+      ∙ first-in w₀ (made ++ side) (omega (arith, long, room)) ieee.zero (from + y) (omega (arith, long))
+      ∙ ap (λ (i : ℕ). at ieee (made ++ side) (i + y)) k ∙ getD-append-add made side y ieee.zero
 
   pub is-radicand : (s : Float) → s ≡ chained (getD t′ (from + r) nan) t′ from t′ from r → s ≡ radicand ieee (lower w₀) r
   is-radicand s g = g ∙ chain-ext ieee _ _ _ _ _ _ r own-pivot mine mine
@@ -139,8 +139,8 @@ module _ (w₀ : List Float) (r : ℕ) (h : r < length w₀) (t : List Float) (z
   root-own =
       let k : length (rootsTo w₀ r) ≡ r = length-tab r (λ x. sqrtOf (pivot w₀ x)) in
       let j : r ≡ start single r + 0 = omega (arith, start-single r) in
-      any-default t r nan (ieee .zero) (omega arith) ∙ ap (λ (y : List Float). at ieee y r) q
-      ∙ first-behind w₀ (rootsTo w₀ r) (omega arith) (ieee .zero) r (omega arith) ∙ ap (at ieee w₀) j
+      any-default t r nan ieee.zero (omega arith) ∙ ap (λ (y : List Float). at ieee y r) q
+      ∙ first-behind w₀ (rootsTo w₀ r) (omega arith) ieee.zero r (omega arith) ∙ ap (at ieee w₀) j
 
   pub root-turn : (v : Float) → v ≡ sqrtOf (getD t r nan) → set t r v ≡ store 0 (rootsTo w₀ (suc r)) w₀
   unfolding tab
@@ -165,15 +165,15 @@ module _ (t₀ l : List Float) (x : ℕ) (h : x < length t₀) (t : List Float) 
   solve-turn s g =
       let j : x ≡ 0 + length (rowTo t₀ l x) = omega (arith, count) in
       let own : getD t x nan ≡ at ieee t₀ x =
-      any-default t x nan (ieee .zero) (omega arith) ∙ ap (λ (y : List Float). at ieee y x) q
-      ∙ first-behind t₀ (rowTo t₀ l x) (omega (arith, count)) (ieee .zero) x (omega (arith, count)) in
+      any-default t x nan ieee.zero (omega arith) ∙ ap (λ (y : List Float). at ieee y x) q
+      ∙ first-behind t₀ (rowTo t₀ l x) (omega (arith, count)) ieee.zero x (omega (arith, count)) in
       let a : s ≡ chain ieee (at ieee t₀ x) (at ieee (rowTo t₀ l x)) (lower l x) x =
       g ∙ chain-ext ieee _ _ _ _ _ _ x own
       (λ y m. ap₂ (λ (v : List Float) (i : ℕ). at ieee v i) q (zero-add y)
-      ∙ first-in t₀ (rowTo t₀ l x) (omega (arith, count)) (ieee .zero) y (omega (arith, count)))
+      ∙ first-in t₀ (rowTo t₀ l x) (omega (arith, count)) ieee.zero y (omega (arith, count)))
       (λ y m. ap (λ (i : ℕ). at ieee l (i + y)) e) in
       let d : getD l (from + x) nan ≡ lower l x x =
-      any-default l (from + x) nan (ieee .zero) fits ∙ ap (λ (i : ℕ). at ieee l (i + x)) e in
+      any-default l (from + x) nan ieee.zero fits ∙ ap (λ (i : ℕ). at ieee l (i + x)) e in
       ap₂ (λ (y : List Float) (i : ℕ). set y i (div binary64 s (getD l (from + x) nan))) q j
       ∙ ap (set (store 0 (rowTo t₀ l x) t₀) (0 + length (rowTo t₀ l x))) (ap₂ (div binary64) a d)
       ∙ store-one 0 (rowTo t₀ l x) t₀ (omega (arith, count)) _ (omega (arith, count))
@@ -184,9 +184,9 @@ pub chain-turn : (s v : Float) (t l : List Float) (a b y i j : ℕ) → i ≡ a 
 unfolding lessFrom
 chain-turn s v t l a b y i j p q h k e =
     ap₂ (sub binary64) e
-    (ap₂ (mul binary64) (any-default t i nan (ieee .zero) h ∙ ap (at ieee t) p) (any-default l j nan (ieee .zero) k ∙ ap (at ieee l) q))
+    (ap₂ (mul binary64) (any-default t i nan ieee.zero h ∙ ap (at ieee t) p) (any-default l j nan ieee.zero k ∙ ap (at ieee l) q))
 
 pub log-turn : (s v x : Float) (t : List Float) (i r : ℕ) (g : ℕ → Float) → i < length t → at ieee t i ≡ g r → v ≡ logsFrom ieee s g r → x ≡ lnOf (getD t i nan)
     → add binary64 v x ≡ logsFrom ieee s g (suc r)
 unfolding logsFrom
-log-turn s v x t i r g h k e f = ap₂ (add binary64) e (f ∙ ap lnOf (any-default t i nan (ieee .zero) h ∙ k))
+log-turn s v x t i r g h k e f = ap₂ (add binary64) e (f ∙ ap lnOf (any-default t i nan ieee.zero h ∙ k))

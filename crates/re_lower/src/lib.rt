@@ -1,4 +1,13 @@
 // What a packed lower triangle and a diagonal hold (document 01, Record 4): definitions and laws; whether a pivot is refused, and a cell less products.
+pub mod back_substitution;
+mod band_row;
+pub mod cholesky;
+pub mod diagonal_chol;
+mod four_rows;
+pub mod pivot_logs;
+pub mod substitution;
+pub mod triangle_cells;
+
 ghost use mathlib.Core.Path.{_≡_};
 ghost use Prim.Native.Nat.{_+_, _*_, _≤_, _<_};
 ghost use lib.ListN.{length};

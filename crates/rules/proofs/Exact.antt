@@ -21,17 +21,17 @@ module _ (A : Arithmetic) where
   unfolding sumFrom
   dot-ext f f′ g g′ zero p q = refl
   dot-ext f f′ g g′ (suc n) p q =
-      ap₂ (A .plus) (dot-ext f f′ g g′ n (λ x h. p x (omega arith)) (λ x h. q x (omega arith))) (ap₂ (A .times) (p n (omega arith)) (q n (omega arith)))
+      ap₂ A.plus (dot-ext f f′ g g′ n (λ x h. p x (omega arith)) (λ x h. q x (omega arith))) (ap₂ A.times (p n (omega arith)) (q n (omega arith)))
 
   -- ---- forward substitution: each cell by the cells before it
   module _ (b : ℕ → A .Num) (L : ℕ → ℕ → A .Num) where
     forward-before : (n x : ℕ) → x < n → at A (forward A b L (suc n)) x ≡ at A (forward A b L n) x
     unfolding forward
-    forward-before n x h = List·getD-append (forward A b L n) _ (A .zero) x (omega (arith, length-forward A b L n))
+    forward-before n x h = List·getD-append (forward A b L n) _ A.zero x (omega (arith, length-forward A b L n))
 
     forward-last : (n : ℕ) → at A (forward A b L (suc n)) n ≡ A .over (chain A (b n) (at A (forward A b L n)) (L n) n) (L n n)
     unfolding forward
-    forward-last n = getD-at (forward A b L n) _ [] (A .zero) n (length-forward A b L n)
+    forward-last n = getD-at (forward A b L n) _ [] A.zero n (length-forward A b L n)
 
     pub forward-cell : (n c : ℕ) → c < n → at A (forward A b L n) c ≡ A .over (chain A (b c) (at A (forward A b L n)) (L c) c) (L c c)
     forward-cell zero c h = absurd (omega (arith, h))
@@ -56,24 +56,24 @@ module _ (A : Arithmetic) where
     -- row r, left of its pivot
     beside : (n r x : ℕ) → r < n → x < r → factor A b n r x ≡ at A (besidePivot A (b) (cellOf A (rows A b r)) r) x
     beside n r x h k =
-        ap (λ (l : List (A .Num)). at A l x) (row-is n r h)
-        ∙ List·getD-append (besidePivot A b (cellOf A (rows A b r)) r) _ (A .zero) x (omega (arith, length-forward A (b r) (cellOf A (rows A b r)) r))
+        ap (λ (l : List A.Num). at A l x) (row-is n r h)
+        ∙ List·getD-append (besidePivot A b (cellOf A (rows A b r)) r) _ A.zero x (omega (arith, length-forward A (b r) (cellOf A (rows A b r)) r))
 
     -- the rows before r are the same in every longer list
     same-cell : (n r c x : ℕ) → r < n → c < r → factor A b n c x ≡ cellOf A (rows A b r) c x
-    same-cell n r c x h k = ap (λ (l : List (A .Num)). at A l x) (row-is n c (omega arith) ∙ sym (row-is r c k))
+    same-cell n r c x h k = ap (λ (l : List A.Num). at A l x) (row-is n c (omega arith) ∙ sym (row-is r c k))
 
   module _ (X : Exact A) where
     -- the sum of some products, and what is left of s without them, make s
     pub dot-chain : (s : A .Num) (f g : ℕ → A .Num) (n : ℕ) → A .plus (dot A f g n) (chain A s f g n) ≡ s
     unfolding sumFrom lessFrom
-    dot-chain s f g zero = X .zero-plus s
-    dot-chain s f g (suc n) = X .plus-minus (dot A f g n) (chain A s f g n) (A .times (f n) (g n)) ∙ dot-chain s f g n
+    dot-chain s f g zero = X.zero-plus s
+    dot-chain s f g (suc n) = X.plus-minus (dot A f g n) (chain A s f g n) (A.times (f n) (g n)) ∙ dot-chain s f g n
 
     -- so taking products away one by one, or their sum once, is the same
     pub chain-is : (s : A .Num) (f g : ℕ → A .Num) (n : ℕ) → chain A s f g n ≡ A .minus s (dot A f g n)
     chain-is s f g n =
-        sym (X .minus-plus (dot A f g n) (chain A s f g n)) ∙ ap (λ (v : A .Num). A .minus v (dot A f g n)) (dot-chain s f g n)
+        sym (X.minus-plus (dot A f g n) (chain A s f g n)) ∙ ap (λ (v : A .Num). A .minus v (dot A f g n)) (dot-chain s f g n)
 
     -- T: forward substitution solves
     pub forward-solves :
@@ -81,17 +81,17 @@ module _ (A : Arithmetic) where
     unfolding sumFrom
     forward-solves b L n some-pivot c h =
         let x : ℕ → A .Num = at A (forward A b L n) in
-        ap (λ (v : A .Num). A .plus (dot A x (L c) c) v) (ap (λ (v : A .Num). A .times v (L c c)) (forward-cell b L n c h) ∙ X .over-times _ (L c c) (some-pivot c h))
+        ap (λ (v : A .Num). A .plus (dot A x (L c) c) v) (ap (λ (v : A .Num). A .times v (L c c)) (forward-cell b L n c h) ∙ X.over-times _ (L c c) (some-pivot c h))
         ∙ dot-chain (b c) x (L c) c
 
     -- C: where no pivot is refused, the factor times its transpose is the triangle
     module _ (b : ℕ → ℕ → A .Num) (n : ℕ) (accepted : pivots A (radicand A b) n ≡ none) where
       -- no pivot of the factor is 0, so no division by one is
       pub pivot-not-null : (r : ℕ) → r < n → A .null (factor A b n r r) ≡ false
-      pivot-not-null r h = ap (A .null) (pivot-root A b r n h) ∙ X .root-some (radicand A b r) (accepted-at A (radicand A b) r n h accepted)
+      pivot-not-null r h = ap A.null (pivot-root A b r n h) ∙ X.root-some (radicand A b r) (accepted-at A (radicand A b) r n h accepted)
 
       pivot-some : (r c : ℕ) → r < n → c < r → A .null (cellOf A (rows A b r) c c) ≡ false
-      pivot-some r c h k = ap (A .null) (sym (same-cell b n r c c h k)) ∙ pivot-not-null c (omega arith)
+      pivot-some r c h k = ap A.null (sym (same-cell b n r c c h k)) ∙ pivot-not-null c (omega arith)
 
       left-of-pivot : (r c : ℕ) → r < n → c < r → dot A (factor A b n r) (factor A b n c) (suc c) ≡ b r c
       left-of-pivot r c h k =
@@ -103,10 +103,10 @@ module _ (A : Arithmetic) where
       unfolding sumFrom
       at-pivot r h =
           let row : ℕ → A .Num = at A (besidePivot A b (cellOf A (rows A b r)) r) in
-          ap₂ (A .plus)
+          ap₂ A.plus
           (dot-ext (factor A b n r) row (factor A b n r) row r (λ x l. beside b n r x h l) (λ x l. beside b n r x h l))
           (ap (λ (v : A .Num). A .times v v) (pivot-root A b r n h)
-          ∙ X .root-square (radicand A b r) (accepted-at A (radicand A b) r n h accepted))
+          ∙ X.root-square (radicand A b r) (accepted-at A (radicand A b) r n h accepted))
           ∙ dot-chain (b r r) row row r
 
       pub factor-factors : Factors A b (factor A b n) n

@@ -20,8 +20,8 @@ module _ (A : Arithmetic) where
   unfolding lessFrom
   chain-ext s s′ a a′ b b′ zero e h k = e
   chain-ext s s′ a a′ b b′ (suc n) e h k =
-      ap₂ (A .minus) (chain-ext s s′ a a′ b b′ n e (λ y l. h y (omega arith)) (λ y l. k y (omega arith)))
-      (ap₂ (A .times) (h n (omega arith)) (k n (omega arith)))
+      ap₂ A.minus (chain-ext s s′ a a′ b b′ n e (λ y l. h y (omega arith)) (λ y l. k y (omega arith)))
+      (ap₂ A.times (h n (omega arith)) (k n (omega arith)))
 
   pub length-forward : (b : ℕ → A .Num) (L : ℕ → ℕ → A .Num) (n : ℕ) → length (forward A b L n) ≡ n
   unfolding forward
@@ -56,11 +56,11 @@ module _ (A : Arithmetic) where
     pivot-root r zero h = absurd (omega arith)
     pivot-root r (suc n) h =
         by-cases (decLt r n)
-        (λ l. ap (λ (z : List (A .Num)). at A z r) (row-stays r n l) ∙ pivot-root r n l)
+        (λ l. ap (λ (z : List A.Num). at A z r) (row-stays r n l) ∙ pivot-root r n l)
         (λ l. let e : r ≡ n = omega arith in
         rw e
-        (ap (λ (z : List (A .Num)). at A z n) (row-made n)
-        ∙ getD-at (besidePivot A b (factor A b n) n) _ [] (A .zero) n (length-forward (b n) (factor A b n) n)))
+        (ap (λ (z : List A.Num). at A z n) (row-made n)
+        ∙ getD-at (besidePivot A b (factor A b n) n) _ [] A.zero n (length-forward (b n) (factor A b n) n)))
 
   -- ---- no pivot is refused, so this one is not
   step-none : (o : Option ℕ) (bad : Bool) (n : ℕ) → next A o bad n ≡ none → (o ≡ none) × (bad ≡ false)
@@ -72,5 +72,5 @@ module _ (A : Arithmetic) where
   unfolding firstBad
   accepted-at g r zero l e = absurd (omega arith)
   accepted-at g r (suc n) l e =
-      let k = step-none (pivots A g n) (A .refused (g n)) n e in
-      by-cases (decLt r n) (λ h. accepted-at g r n h (k .0)) (λ h. let f : r ≡ n = omega arith in rw f (k .1))
+      let k = step-none (pivots A g n) (A.refused (g n)) n e in
+      by-cases (decLt r n) (λ h. accepted-at g r n h k.0) (λ h. let f : r ≡ n = omega arith in rw f k.1)

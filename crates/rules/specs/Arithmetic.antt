@@ -4,7 +4,7 @@ use mathlib.Core.Bool.{Bool}
 use lib.IntN.{pos}
 use lib.Ieee as Ieee
 use lib.Ieee.{Float, binary64}
-use Rattle.root.specs.Root.{sqrtOf}
+use Rattle.square_root.specs.Root.{sqrtOf}
 use Rattle.logarithm.specs.Ln.{lnOf}
 
 pub record Arithmetic : Type 1 where

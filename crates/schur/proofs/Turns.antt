@@ -13,21 +13,21 @@ use Rattle.storage.proofs.Starts.{start-dense, start-le}
 use Rattle.storage.proofs.Cells.{tab-ext}
 use Rattle.rules.specs.Arithmetic.{ieee}
 use Rattle.rules.specs.Sums.{dot, chain}
-use Rattle.blocks.specs.Blocks.{block}
-use Rattle.blocks.proofs.Runs.{Writing, writing-same, writing-more, writing-cell}
-use Rattle.axpy.specs.Axpy.{at, run, along, products}
-use Rattle.axpy.proofs.Sums.{sum-along, less-along, along-swap, summed}
+use Rattle.block_runs.specs.blocks.Blocks.{block}
+use Rattle.block_runs.proofs.blocks.Runs.{Writing, writing-same, writing-more, writing-cell}
+use Rattle.block_runs.specs.axpy.Axpy.{at, run, along, products}
+use Rattle.block_runs.proofs.axpy.Sums.{sum-along, less-along, along-swap, summed}
 use Rattle.schur.specs.Schur.{lessSums, lessProducts}
 
 -- a cell less its products: of two rows of one block the later comes first in the rule
 pub sums-dot : (n : ℕ) (z : Float) (x y : ℕ → Float) → ieee .minus z (along (ieee .plus) (ieee .zero) x y n) ≡ ieee .minus z (dot ieee x y n)
-sums-dot n z x y = ap (ieee .minus z) (sum-along (ieee .zero) x y n)
+sums-dot n z x y = ap (ieee.minus z) (sum-along ieee.zero x y n)
 
 pub sums-swapped : (n : ℕ) (z : Float) (x y : ℕ → Float) → ieee .minus z (along (ieee .plus) (ieee .zero) x y n) ≡ ieee .minus z (dot ieee y x n)
-sums-swapped n z x y = ap (ieee .minus z) (along-swap (ieee .plus) (ieee .zero) x y n) ∙ sums-dot n z y x
+sums-swapped n z x y = ap (ieee.minus z) (along-swap ieee.plus ieee.zero x y n) ∙ sums-dot n z y x
 
 pub products-swapped : (n : ℕ) (z : Float) (x y : ℕ → Float) → along (ieee .minus) z x y n ≡ chain ieee z y x n
-products-swapped n z x y = along-swap (ieee .minus) z x y n ∙ less-along z y x n
+products-swapped n z x y = along-swap ieee.minus z x y n ∙ less-along z y x n
 
 module _ (w w′ acc acc₁ acc₂ : List Float) (to n a rows b step r inner : ℕ) (room : n ≤ length acc) where
   pub sums-less : acc₁ ≡ run 0 n (λ i. ieee .zero) acc → acc₂ ≡ products (ieee .plus) acc₁ n w a rows w b step r inner
@@ -36,14 +36,14 @@ module _ (w w′ acc acc₁ acc₂ : List Float) (to n a rows b step r inner : �
       so
       ∙ ap (λ (l : List Float). store to l w)
       (tab-ext n _ _
-      (λ i l. ap (ieee .minus (at w (to + i))) (summed (ieee .plus) n w a rows w b step r inner acc acc₁ acc₂ (λ x. ieee .zero) room first then i l)))
+      (λ i l. ap (ieee.minus (at w (to + i))) (summed ieee.plus n w a rows w b step r inner acc acc₁ acc₂ (λ x. ieee .zero) room first then i l)))
 
   pub products-put : acc₁ ≡ run 0 n (λ i. at w (to + i)) acc → acc₂ ≡ products (ieee .minus) acc₁ n w a rows w b step r inner
       → w′ ≡ run to n (at acc₂) w → w′ ≡ lessProducts to n a rows b step r inner w
   products-put first then so =
       so
       ∙ ap (λ (l : List Float). store to l w)
-      (tab-ext n _ _ (summed (ieee .minus) n w a rows w b step r inner acc acc₁ acc₂ (λ i. at w (to + i)) room first then))
+      (tab-ext n _ _ (summed ieee.minus n w a rows w b step r inner acc acc₁ acc₂ (λ i. at w (to + i)) room first then))
 
 -- cell i of run j of the block at off: G of itself, row i of the block at a and row j of the block at b
 abbrev byRows : (Float → (ℕ → Float) → (ℕ → Float) → Float) → Shape → (off a rows b step inner : ℕ) → List Float → ℕ → ℕ → Float
@@ -70,4 +70,4 @@ turn {F} {G} {off} {end} {w₀} {j} {to} {w} same s a rows b step inner k e more
 pub room-for-two : {off end rows n : ℕ} {b : ℕ → ℕ → Float} {w₀ : List Float} {j to : ℕ} {w : List Float} → Writing off end (dense rows) n b w₀ j to w → j + 2 ≤ n
     → off + (to + rows + rows) ≤ end
 room-for-two {rows = rows} {n = n} {j = j} e more =
-    omega (arith, e .place, e .ends, start-dense rows j, start-dense rows (j + 2), start-le (dense rows) (j + 2) n more)
+    omega (arith, e.place, e.ends, start-dense rows j, start-dense rows (j + 2), start-le (dense rows) (j + 2) n more)

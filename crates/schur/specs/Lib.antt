@@ -1,1 +1,3 @@
 pub mod Schur
+pub mod few_rows
+pub mod rank_diagonal

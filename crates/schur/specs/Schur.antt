@@ -7,8 +7,8 @@ use Rattle.storage.specs.Shape.{packed, columns, fill}
 use Rattle.storage.specs.Part.{store}
 use Rattle.rules.specs.Arithmetic.{ieee}
 use Rattle.rules.specs.Steps.{subtractDense, subtractLast}
-use Rattle.blocks.specs.Blocks.{block}
-use Rattle.axpy.specs.Axpy.{at, run, along}
+use Rattle.block_runs.specs.blocks.Blocks.{block}
+use Rattle.block_runs.specs.axpy.Axpy.{at, run, along}
 
 -- S of a dense block: less block a times block b transposed
 abbrev pub subtractedDense : (off rows cols a b inner : ℕ) → List Float → List Float

@@ -1,10 +1,22 @@
 // One run of a step S that sums from 0.0 and subtracts once (document 01, Record 4), and the definitions of the dense steps S on the whole list of
 // doubles: the target's cells are the rule's, every other double stays. A dense block has at most 316 rows.
+mod column_pair;
+pub mod dense_triangle;
+mod few_rows;
+pub mod last_triangle;
+pub mod rank_diagonal;
+pub mod rank_diagonal_sparse;
+pub mod schur_dense;
+pub mod sparse_schur;
+
 ghost use mathlib.Core.Path.{_≡_};
 ghost use Prim.Native.Nat.{_+_, _≤_, _<_};
 ghost use lib.ListN.{length};
 ghost use Rattle.storage.specs.Shape.{columns, sizeOf};
 ghost use Rattle.schur.specs.Schur.{lessSums};
+use block_runs::axpy_products;
+use block_runs::run_copies;
+use block_runs::run_differences;
 
 // n doubles of the block at off, from `to` on within it: less the sums of the products of rows 0 to n - 1 of block a and row r of block b.
 pub fn subtract_run(
@@ -26,5 +38,5 @@ pub fn subtract_run(
 {
     run_copies::clear(acc, n);
     axpy_products::add_products(acc, n, w, a, rows, w, b, step, r, inner);
-    runs::less(w, off, end, to, n, acc);
+    run_differences::less(w, off, end, to, n, acc);
 }

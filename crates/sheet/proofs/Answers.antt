@@ -24,9 +24,9 @@ some-answer (accepted sheet starts) = go (refused-somewhere sheet)
 pub one-number : (o : Outcome) (r t : Reading) → Answers o r → Answers o t → answerOf r .number ≡ answerOf t .number
 one-number (refused number line) r t a b = ap (λ (x : Reading). answerOf x .number) (a ∙ sym b)
 one-number (accepted sheet starts) (Read x) (Read y) a b = refl
-one-number (accepted sheet starts) (Read x) (Refused number line) a b = omega (arith, a .0, b .first, b .applies)
-one-number (accepted sheet starts) (Refused number line) (Read y) a b = omega (arith, b .0, a .first, a .applies)
-one-number (accepted sheet starts) (Refused number line) (Refused other place) a b = omega (arith, a .first, b .first)
+one-number (accepted sheet starts) (Read x) (Refused number line) a b = omega (arith, a.0, b.first, b.applies)
+one-number (accepted sheet starts) (Refused number line) (Read y) a b = omega (arith, b.0, a.first, a.applies)
+one-number (accepted sheet starts) (Refused number line) (Refused other place) a b = omega (arith, a.first, b.first)
 
 -- of 5 to 9, only 9 names a line
 no-line : (sheet : Sheet) (number line : ℕ) → eqb number 9 ≡ false → Names sheet number line → line ≡ 0
@@ -35,17 +35,17 @@ no-line sheet number line e h = subst (λ (t : Bool). cond t (Faulty sheet line)
 -- THE CLAIM: two answers that are right for an outcome are the same, or both are 9.
 pub one-answer : (o : Outcome) (r t : Reading) → Answers o r → Answers o t → (r ≡ t) ⊎ ((answerOf r .number ≡ 9) × (answerOf t .number ≡ 9))
 one-answer (refused number line) r t a b = inl (a ∙ sym b)
-one-answer (accepted sheet starts) (Read x) (Read y) a b = inl (ap Read (a .1 ∙ sym (b .1)))
-one-answer (accepted sheet starts) (Read x) (Refused number line) a b = absurd (omega (arith, a .0, b .first, b .applies))
-one-answer (accepted sheet starts) (Refused number line) (Read y) a b = absurd (omega (arith, b .0, a .first, a .applies))
+one-answer (accepted sheet starts) (Read x) (Read y) a b = inl (ap Read (a.1 ∙ sym b.1))
+one-answer (accepted sheet starts) (Read x) (Refused number line) a b = absurd (omega (arith, a.0, b.first, b.applies))
+one-answer (accepted sheet starts) (Refused number line) (Read y) a b = absurd (omega (arith, b.0, a.first, a.applies))
 one-answer (accepted sheet starts) (Refused number line) (Refused other place) a b = go (eqb number 9) refl
   where
     same : number ≡ other
-    same = sym (a .first) ∙ b .first
+    same = sym a.first ∙ b.first
 
     go : (u : Bool) → eqb number 9 ≡ u → (Refused number line ≡ Refused other place) ⊎ ((number ≡ 9) × (other ≡ 9))
     go true e = let n = eqb-true number 9 e in inr (n, sym same ∙ n)
     go false e =
-        let l : line ≡ 0 = no-line sheet number line e (a .names) in
-        let p : place ≡ 0 = no-line sheet other place (ap (λ (n : ℕ). eqb n 9) (sym same) ∙ e) (b .names) in
+        let l : line ≡ 0 = no-line sheet number line e a.names in
+        let p : place ≡ 0 = no-line sheet other place (ap (λ (n : ℕ). eqb n 9) (sym same) ∙ e) b.names in
         inl (ap (λ (n : ℕ). Refused n line) same ∙ ap (λ (k : ℕ). Refused other k) (l ∙ sym p))

@@ -65,9 +65,9 @@ pair-beyond : (t s : List ℕ) (at : ℕ) → Beyond at (pairLine t s at .next)
 unfolding pairLine
 pair-beyond t s at =
     let o = tagTo t s at in
-    let a = numberTo tab s (o .next) in
-    let b = numberTo tab s (a .next) in
-    omega (arith, tag-stays t at (drop at s), number-beyond tab (o .next) (drop (o .next) s), number-beyond tab (a .next) (drop (a .next) s), word-beyond lf 16 0 (b .next) (drop (b .next) s))
+    let a = numberTo tab s o.next in
+    let b = numberTo tab s a.next in
+    omega (arith, tag-stays t at (drop at s), number-beyond tab o.next (drop o.next s), number-beyond tab a.next (drop a.next s), word-beyond lf 16 0 b.next (drop b.next s))
 
 -- ---- no line stands past the end
 no-line : (s : List ℕ) (at : ℕ) → length s ≤ at → inForm (tagTo zzTag s at .next) ≡ false
@@ -83,46 +83,46 @@ module _ (s : List ℕ) (q : ℕ) where
   pub refused-ends : (left col row : ℕ) (c : Cursor) → (c .number ≡ 0 → ⊥) → entriesFrom left s q col row c ≡ ended c
   unfolding entriesFrom
   refused-ends zero col row c h = refl
-  refused-ends (suc left) col row c h = simp (ne-eqb (c .number) 0 h)
+  refused-ends (suc left) col row c h = simp (ne-eqb c.number 0 h)
 
   past-ends : (left col row : ℕ) (c : Cursor) → length s ≤ c .at → entriesFrom left s q col row c ≡ ended c
   unfolding entriesFrom
   past-ends zero col row c h = refl
-  past-ends (suc left) col row c h = not-run (eqb (c .number) 0) (inForm (tagTo zzTag s (c .at) .next)) _ (ended c) (no-line s (c .at) h)
+  past-ends (suc left) col row c h = not-run (eqb c.number 0) (inForm (tagTo zzTag s c.at .next)) _ (ended c) (no-line s c.at h)
 
   -- the lines after one that begins before the end
   after : (f g col row : ℕ) (c d : Cursor) (number next : ℕ) → c .at < length s → length s < nowhere → Beyond (c .at) next → d ≡ passOf c number next
       → (length s ≤ d .at + f → length s ≤ d .at + g → entriesFrom f s q col row d ≡ entriesFrom g s q col row d)
       → length s ≤ c .at + suc f → length s ≤ c .at + suc g → entriesFrom f s q col row d ≡ entriesFrom g s q col row d
-  after f g col row c d number next h short b e more p r = go (eqb (d .number) 0) refl
+  after f g col row c d number next h short b e more p r = go (eqb d.number 0) refl
     where
       go : (t : Bool) → eqb (d .number) 0 ≡ t → entriesFrom f s q col row d ≡ entriesFrom g s q col row d
       go true u =
-          let z : passOf c number next .number ≡ 0 = ap (λ (x : Cursor). x .number) (sym e) ∙ eqb-true (d .number) 0 u in
+          let z : passOf c number next .number ≡ 0 = ap (λ (x : Cursor). x .number) (sym e) ∙ eqb-true d.number 0 u in
           let a : d .at ≡ next = ap (λ (x : Cursor). x .at) (e ∙ passed c number next z .after) in
           more (omega arith) (omega arith)
-      go false u = let z = eqb-false (d .number) 0 u in refused-ends f col row d z ∙ sym (refused-ends g col row d z)
+      go false u = let z = eqb-false d.number 0 u in refused-ends f col row d z ∙ sym (refused-ends g col row d z)
 
   same : (f g col row : ℕ) (c : Cursor) → length s < nowhere → length s ≤ c .at + f → length s ≤ c .at + g → entriesFrom f s q col row c ≡ entriesFrom g s q col row c
   unfolding entriesFrom
   same zero g col row c short p r = sym (past-ends g col row c (omega arith))
   same (suc f) zero col row c short p r = past-ends (suc f) col row c (omega arith)
   same (suc f) (suc g) col row c short p r =
-      let l = pairLine zzTag s (c .at) in
-      let d = passOf c (entryVerdict q col row l) (l .next) in
-      go (same f g (l .first) (l .second + 1) d short) (ltb (c .at) (length s)) refl
+      let l = pairLine zzTag s c.at in
+      let d = passOf c (entryVerdict q col row l) l.next in
+      go (same f g l.first (l.second + 1) d short) (ltb c.at (length s)) refl
     where
       go : let l = pairLine zzTag s (c .at) in
           let d = passOf c (entryVerdict q col row l) (l .next) in
           (length s ≤ d .at + f → length s ≤ d .at + g → entriesFrom f s q (l .first) (l .second + 1) d ≡ entriesFrom g s q (l .first) (l .second + 1) d)
           → (t : Bool) → ltb (c .at) (length s) ≡ t → entriesFrom (suc f) s q col row c ≡ entriesFrom (suc g) s q col row c
       go more true u =
-          let l = pairLine zzTag s (c .at) in
-          let d = passOf c (entryVerdict q col row l) (l .next) in
-          let e = after f g (l .first) (l .second + 1) c d (entryVerdict q col row l) (l .next) (ltb-true (c .at) (length s) u) short (pair-beyond zzTag s (c .at)) refl more p r in
-          ap (λ (run : Run Entry). cond (eqb (c .number) 0 && inForm (tagTo zzTag s (c .at) .next)) (before (entryIn (c .line) l) run) (ended c)) e
+          let l = pairLine zzTag s c.at in
+          let d = passOf c (entryVerdict q col row l) l.next in
+          let e = after f g l.first (l.second + 1) c d (entryVerdict q col row l) l.next (ltb-true c.at (length s) u) short (pair-beyond zzTag s c.at) refl more p r in
+          ap (λ (run : Run Entry). cond (eqb c.number 0 && inForm (tagTo zzTag s c.at .next)) (before (entryIn c.line l) run) (ended c)) e
       go more false u =
-          let h = ltb-false (c .at) (length s) u in
+          let h = ltb-false c.at (length s) u in
           past-ends (suc f) col row c h ∙ sym (past-ends (suc g) col row c h)
 
 -- THE CLAIM: the bound on the number of zz lines never shows.

@@ -187,7 +187,7 @@ counts-past-ends = (refl, refl, refl, refl, refl, refl, refl)
 
 -- the same as lines: what the verdict on a size line and on a block line is, alone in the bytes
 abbrev size-verdict : String → ℕ
-size-verdict l = let z = sizeLine (ended (l ∷ [])) 0 in verdictOf (inForm (z .next)) true (countsWithin (z .counts))
+size-verdict l = let z = sizeLine (ended (l ∷ [])) 0 in verdictOf (inForm z.next) true (countsWithin z.counts)
 
 abbrev block-verdict : String → ℕ
 block-verdict l = blockVerdict (0, 0) (blockLine (ended (l ∷ [])) 0)

@@ -21,7 +21,7 @@ any-found {A} test (x ∷ rest) e = go (any-found test rest) (test x) refl e
   where
     go : (anyOf test rest ≡ true → (y : A) × List·Memᴰ y rest × (test y ≡ true)) → (t : Bool) → test x ≡ t → t || anyOf test rest ≡ true → (y : A) × List·Memᴰ y (x ∷ rest) × (test y ≡ true)
     go more true u g = (x, List·Memᴰ·head refl, u)
-    go more false u g = let m = more g in (m .0, List·Memᴰ·tail (m .1), m .2)
+    go more false u g = let m = more g in (m.0, List·Memᴰ·tail m.1, m.2)
 
 or-left : (a b : Bool) → a ≡ true → a || b ≡ true
 or-left true b e = refl
@@ -42,44 +42,44 @@ found-any {A} test x (y ∷ rest) m e = go (λ n. found-any test x rest n e) (Li
 
 -- ---- a fault and its test
 true-mirror : (e m : Entry) → Mirror e m → isMirror e m ≡ true
-true-mirror e m h = simp (eq-eqb _ _ (h .col), eq-eqb _ _ (h .row), eq-eqb _ _ (h .word))
+true-mirror e m h = simp (eq-eqb _ _ h.col, eq-eqb _ _ h.row, eq-eqb _ _ h.word)
 
 mirror-true : (e m : Entry) → isMirror e m ≡ true → Mirror e m
 mirror-true e m h =
-    let w = both (eqb (m .col) (e .row) && eqb (m .row) (e .col)) (eqb (m .word) (e .word)) h in
-    let x = both (eqb (m .col) (e .row)) (eqb (m .row) (e .col)) (w .0) in
-    record { col = eqb-true _ _ (x .0); row = eqb-true _ _ (x .1); word = eqb-true _ _ (w .1) }
+    let w = both (eqb m.col e.row && eqb m.row e.col) (eqb m.word e.word) h in
+    let x = both (eqb m.col e.row) (eqb m.row e.col) w.0 in
+    record { col = eqb-true _ _ x.0; row = eqb-true _ _ x.1; word = eqb-true _ _ w.1 }
 
 module _ (sheet : Sheet) (e : Entry) where
   fault-true : isFault sheet e ≡ true → Fault sheet e
-  fault-true h = go (isZero (e .word)) (eqb (blockOf (sheet .blocks) (e .col)) (blockOf (sheet .blocks) (e .row))) (eqb (e .col) (e .row)) (anyOf (isMirror e) (sheet .zz)) refl refl refl refl h
+  fault-true h = go (isZero e.word) (eqb (blockOf sheet.blocks e.col) (blockOf sheet.blocks e.row)) (eqb e.col e.row) (anyOf (isMirror e) sheet.zz) refl refl refl refl h
     where
       go : (z b d m : Bool) → isZero (e .word) ≡ z → eqb (blockOf (sheet .blocks) (e .col)) (blockOf (sheet .blocks) (e .row)) ≡ b → eqb (e .col) (e .row) ≡ d
           → anyOf (isMirror e) (sheet .zz) ≡ m → (z || (b && not d) || not m) ≡ true → Fault sheet e
       go true b d m zz bb dd mm g = zero-word zz
       go false true false m zz bb dd mm g = inside-block (eqb-true _ _ bb) (eqb-false _ _ dd)
-      go false true true false zz bb dd mm g = no-mirror (λ x n r. false≢true (sym mm ∙ found-any (isMirror e) x (sheet .zz) n (true-mirror e x r)))
+      go false true true false zz bb dd mm g = no-mirror (λ x n r. false≢true (sym mm ∙ found-any (isMirror e) x sheet.zz n (true-mirror e x r)))
       go false true true true zz bb dd mm g = absurd (false≢true g)
-      go false false d false zz bb dd mm g = no-mirror (λ x n r. false≢true (sym mm ∙ found-any (isMirror e) x (sheet .zz) n (true-mirror e x r)))
+      go false false d false zz bb dd mm g = no-mirror (λ x n r. false≢true (sym mm ∙ found-any (isMirror e) x sheet.zz n (true-mirror e x r)))
       go false false d true zz bb dd mm g = absurd (false≢true g)
 
   true-fault : Fault sheet e → isFault sheet e ≡ true
   true-fault (zero-word z) = or-left _ _ (or-left _ _ z)
-  true-fault (inside-block b d) = or-left _ _ (or-right (isZero (e .word)) _ (simp (eq-eqb _ _ b, ne-eqb _ _ d)))
-  true-fault (no-mirror m) = or-right (isZero (e .word) || isInside sheet e) (not (anyOf (isMirror e) (sheet .zz))) (go (anyOf (isMirror e) (sheet .zz)) refl)
+  true-fault (inside-block b d) = or-left _ _ (or-right (isZero e.word) _ (simp (eq-eqb _ _ b, ne-eqb _ _ d)))
+  true-fault (no-mirror m) = or-right (isZero e.word || isInside sheet e) (not (anyOf (isMirror e) sheet.zz)) (go (anyOf (isMirror e) sheet.zz) refl)
     where
       go : (t : Bool) → anyOf (isMirror e) (sheet .zz) ≡ t → not t ≡ true
       go false u = refl
-      go true u = let f = any-found (isMirror e) (sheet .zz) u in absurd (m (f .0) (f .1) (mirror-true e (f .0) (f .2)))
+      go true u = let f = any-found (isMirror e) sheet.zz u in absurd (m f.0 f.1 (mirror-true e f.0 f.2))
 
 -- THE CLAIM, both ways: the test passes exactly where some line is faulty.
 pub faulty-line : (sheet : Sheet) → anyFaulty sheet ≡ true → (line : ℕ) × Faulty sheet line
 unfolding anyFaulty
-faulty-line sheet h = let f = any-found (isFault sheet) (sheet .zz) h in (f .0 .line, (f .0, f .1, refl, fault-true sheet (f .0) (f .2)))
+faulty-line sheet h = let f = any-found (isFault sheet) sheet.zz h in (f.0.line, (f.0, f.1, refl, fault-true sheet f.0 f.2))
 
 pub line-faulty : (sheet : Sheet) (line : ℕ) → Faulty sheet line → anyFaulty sheet ≡ true
 unfolding anyFaulty
-line-faulty sheet line f = found-any (isFault sheet) (f .0) (sheet .zz) (f .1) (true-fault sheet (f .0) (f .3))
+line-faulty sheet line f = found-any (isFault sheet) f.0 sheet.zz f.1 (true-fault sheet f.0 f.3)
 
 -- ---- the order of 5 to 9
 abbrev chain : Bool → Bool → Bool → Bool → Bool → ℕ
@@ -110,14 +110,14 @@ module _ (sheet : Sheet) where
   -- where 5 to 8 do not apply, 9 comes exactly where some line is faulty; and it is refused with each faulty line, and no other
   pub nine-faulty : refusalOf sheet ≡ 9 → (line : ℕ) × Faulty sheet line
   unfolding refusalOf
-  nine-faulty e = faulty-line sheet (chain-nine (eqb (sheet .counts .flag) 0) (eqb (sheet .counts .k) 0) (hasSlope sheet) (coversRows sheet) (anyFaulty sheet) e)
+  nine-faulty e = faulty-line sheet (chain-nine (eqb sheet.counts.flag 0) (eqb sheet.counts.k 0) (hasSlope sheet) (coversRows sheet) (anyFaulty sheet) e)
 
   pub none-faulty : refusalOf sheet ≡ 0 → (line : ℕ) → Faulty sheet line → ⊥
   unfolding refusalOf
   none-faulty e line f =
       true≢false
       (sym (line-faulty sheet line f)
-      ∙ chain-none (eqb (sheet .counts .flag) 0) (eqb (sheet .counts .k) 0) (hasSlope sheet) (coversRows sheet) (anyFaulty sheet) e)
+      ∙ chain-none (eqb sheet.counts.flag 0) (eqb sheet.counts.k 0) (hasSlope sheet) (coversRows sheet) (anyFaulty sheet) e)
 
   pub nine-lines : refusalOf sheet ≡ 9 → (line : ℕ) → Refuses sheet 9 line ↔ Faulty sheet line
   nine-lines e line = (λ r. r .names, λ f. record { applies = omega arith; first = e; names = f })
@@ -131,5 +131,5 @@ module _ (sheet : Sheet) where
       go (suc n) true e u =
           let nine : refusalOf sheet ≡ 9 = eqb-true _ 9 u in
           let f = nine-faulty nine in
-          inr (f .0, record { applies = omega arith; first = e; names = rw (eq-eqb (suc n) 9 (sym e ∙ nine)) (f .1) })
+          inr (f.0, record { applies = omega arith; first = e; names = rw (eq-eqb (suc n) 9 (sym e ∙ nine)) f.1 })
       go (suc n) false e u = inr (0, record { applies = omega arith; first = e; names = rw (ap (λ (m : ℕ). eqb m 9) (sym e) ∙ u) refl })

@@ -34,25 +34,25 @@ pub record Passed (c : Cursor) (number next : ℕ) : Type 0 where
 
 pub passed : (c : Cursor) (number next : ℕ) → passOf c number next .number ≡ 0 → Passed c number next
 unfolding passOf
-passed c number next e = go (eqb (c .number) 0) (eqb number 0) refl refl e
+passed c number next e = go (eqb c.number 0) (eqb number 0) refl refl e
   where
     go : (t u : Bool) → eqb (c .number) 0 ≡ t → eqb number 0 ≡ u
         → cond t (cond u (record { at = next; line = c .line + 1; number = 0 }) (record { at = c .at; line = c .line; number = number })) c .number ≡ 0
         → Passed c number next
     go true true p q g = record { open-before = eqb-true _ 0 p; verdict = eqb-true number 0 q; after = rw (p, q) }
     go true false p q g = absurd (eqb-false number 0 q g)
-    go false u p q g = absurd (eqb-false (c .number) 0 p g)
+    go false u p q g = absurd (eqb-false c.number 0 p g)
 
 pub stays : (c : Cursor) (number next : ℕ) → (c .number ≡ 0 → ⊥) → passOf c number next ≡ c
 unfolding passOf
-stays c number next h = rw (ne-eqb (c .number) 0 h)
+stays c number next h = rw (ne-eqb c.number 0 h)
 
 -- ---- a run
 module _ {A : Type 0} (read : ℕ → Line) (verdict : ℕ × ℕ → Line → ℕ) (keep : ℕ → Line → A) where
   pub lines-length : (is : List (ℕ × ℕ)) (c : Cursor) → length (linesOf read verdict keep is c .items) ≡ length is
   unfolding linesOf
   lines-length [] c = refl
-  lines-length (i ∷ is) c = ap suc (lines-length is (passOf c (verdict i (read (c .at))) (read (c .at) .next)))
+  lines-length (i ∷ is) c = ap suc (lines-length is (passOf c (verdict i (read c.at)) (read c.at .next)))
 
   -- what an accepted run says
   pub record Ran (is : List (ℕ × ℕ)) (c : Cursor) : Type 0 where
@@ -65,15 +65,15 @@ module _ {A : Type 0} (read : ℕ → Line) (verdict : ℕ × ℕ → Line → �
   unfolding linesOf keptFrom pastFrom
   ran [] c e = record { open-before = e; line = omega arith; at = refl; items = refl }
   ran (i ∷ is) c e =
-      let l = read (c .at) in
-      let d = passOf c (verdict i l) (l .next) in
+      let l = read c.at in
+      let d = passOf c (verdict i l) l.next in
       let r : Ran is d = ran is d e in
-      let p : Passed c (verdict i l) (l .next) = passed c (verdict i l) (l .next) (r .open-before) in
+      let p : Passed c (verdict i l) l.next = passed c (verdict i l) l.next r.open-before in
       record {
-        open-before = p .open-before;
-        line = omega (arith, r .line, ap (λ (x : Cursor). x .line) (p .after));
-        at = r .at ∙ ap (λ (x : Cursor). pastFrom read (length is) (x .at)) (p .after);
-        items = ap (λ (k : List A). keep (c .line) l ∷ k) (r .items ∙ ap (λ (x : Cursor). keptFrom read keep (length is) (x .line) (x .at)) (p .after));
+        open-before = p.open-before;
+        line = omega (arith, r.line, ap (λ (x : Cursor). x .line) p.after);
+        at = r.at ∙ ap (λ (x : Cursor). pastFrom read (length is) x.at) p.after;
+        items = ap (λ (k : List A). keep c.line l ∷ k) (r.items ∙ ap (λ (x : Cursor). keptFrom read keep (length is) x.line x.at) p.after);
       }
 
   -- what every line in order has, every item of an accepted run has
@@ -82,16 +82,16 @@ module _ {A : Type 0} (read : ℕ → Line) (verdict : ℕ × ℕ → Line → �
   unfolding linesOf
   each P h [] c e = tt
   each P h (i ∷ is) c e =
-      let l = read (c .at) in
-      let d = passOf c (verdict i l) (l .next) in
-      (h i (c .line) l (passed c (verdict i l) (l .next) (ran is d e .open-before) .verdict), each P h is d e)
+      let l = read c.at in
+      let d = passOf c (verdict i l) l.next in
+      (h i c.line l (passed c (verdict i l) l.next (ran is d e .open-before) .verdict), each P h is d e)
 
   -- a cursor at a refused line stays there
   pub lines-stay : (is : List (ℕ × ℕ)) (c : Cursor) → (c .number ≡ 0 → ⊥) → linesOf read verdict keep is c .past ≡ c
   unfolding linesOf
   lines-stay [] c h = refl
   lines-stay (i ∷ is) c h =
-      let p : passOf c (verdict i (read (c .at))) (read (c .at) .next) ≡ c = stays c _ _ h in
+      let p : passOf c (verdict i (read c.at)) (read c.at .next) ≡ c = stays c _ _ h in
       ap (λ (x : Cursor). linesOf read verdict keep is x .past) p ∙ lines-stay is c h
 
   -- a run may be read in two parts
@@ -99,7 +99,7 @@ module _ {A : Type 0} (read : ℕ → Line) (verdict : ℕ × ℕ → Line → �
       → linesOf read verdict keep (is ++ js) c .past ≡ linesOf read verdict keep js (linesOf read verdict keep is c .past) .past
   unfolding linesOf
   lines-append [] js c = refl
-  lines-append (i ∷ is) js c = lines-append is js (passOf c (verdict i (read (c .at))) (read (c .at) .next))
+  lines-append (i ∷ is) js c = lines-append is js (passOf c (verdict i (read c.at)) (read c.at .next))
 
   -- what each line leaves true of the cursor, the run does
   pub lines-keep : (P : Cursor → Type 0) → ((c : Cursor) (i : ℕ × ℕ) (l : Line) → P c → P (passOf c (verdict i l) (l .next)))
@@ -107,8 +107,8 @@ module _ {A : Type 0} (read : ℕ → Line) (verdict : ℕ × ℕ → Line → �
   unfolding linesOf
   lines-keep P h [] c e = e
   lines-keep P h (i ∷ is) c e =
-      let l = read (c .at) in
-      lines-keep P h is (passOf c (verdict i l) (l .next)) (h c i l e)
+      let l = read c.at in
+      lines-keep P h is (passOf c (verdict i l) l.next) (h c i l e)
 
 -- ---- how many pairs of indexes there are
 pub row-length : (r c n : ℕ) → length (rowFrom r c n) ≡ n

@@ -36,10 +36,10 @@ refusal s = numberOf (sheetOf s)
 -- the numbers of its faulty lines
 unfoldable pub linesWith : (Entry → Bool) → List Entry → List ℕ
 linesWith test [] = []
-linesWith test (e ∷ rest) = cond (test e) (e .line ∷ []) [] ++ linesWith test rest
+linesWith test (e ∷ rest) = cond (test e) (e.line ∷ []) [] ++ linesWith test rest
 
 abbrev pub faultsOf : Outcome → List ℕ
-faultsOf (accepted sheet starts) = linesWith (isFault sheet) (sheet .zz)
+faultsOf (accepted sheet starts) = linesWith (isFault sheet) sheet.zz
 faultsOf (refused number line) = []
 
 unfoldable pub faulty : List ℕ → List ℕ

@@ -33,40 +33,40 @@ verdict-of-line false finite within = inr (omega arith, omega arith)
 
 -- the cursor's number is such a one, and its line is counted from 1
 abbrev Sound : Cursor → Type 0
-Sound c = OfLine (c .number) × (1 ≤ c .line)
+Sound c = OfLine c.number × (1 ≤ c .line)
 
 pass-sound : (c : Cursor) (number next : ℕ) → OfLine number → Sound c → Sound (passOf c number next)
 unfolding passOf
-pass-sound c number next v h = go (eqb (c .number) 0) (eqb number 0)
+pass-sound c number next v h = go (eqb c.number 0) (eqb number 0)
   where
     go : (t u : Bool) → Sound (cond t (cond u (record { at = next; line = c .line + 1; number = 0 }) (record { at = c .at; line = c .line; number = number })) c)
-    go true true = (inl refl, omega (arith, h .1))
-    go true false = (v, h .1)
+    go true true = (inl refl, omega (arith, h.1))
+    go true false = (v, h.1)
     go false u = h
 
 words-sound : (read : ℕ → Line) (width : ℕ → ℕ) (n : ℕ) (c : Cursor) → Sound c → Sound (wordsOf read width n c .past)
 words-sound read width n =
     lines-keep read givenVerdict wordIn Sound
-    (λ c i l. pass-sound c (givenVerdict i l) (l .next)
-    (verdict-of-line (inForm (l .next) && eqb (l .first) (i .0) && eqb (l .second) (i .1)) (isFinite (l .word)) true))
+    (λ c i l. pass-sound c (givenVerdict i l) l.next
+    (verdict-of-line (inForm l.next && eqb l.first i.0 && eqb l.second i.1) (isFinite l.word) true))
     (rowsFrom width 0 n)
 
 module _ (s : List ℕ) where
   blocks-sound : (k : ℕ) (c : Cursor) → Sound c → Sound (blocksOf s k c .past)
   blocks-sound k =
       lines-keep (blockLine s) blockVerdict blockIn Sound
-      (λ c i l. pass-sound c (blockVerdict i l) (l .next)
-      (verdict-of-line (inForm (l .next)) true (isBetween 1 (l .first) 65535 && isBetween 1 (l .second) 16)))
+      (λ c i l. pass-sound c (blockVerdict i l) l.next
+      (verdict-of-line (inForm l.next) true (isBetween 1 l.first 65535 && isBetween 1 l.second 16)))
       (rowsFrom (λ r. 1) 0 k)
 
   entries-sound : (left q col row : ℕ) (c : Cursor) → Sound c → Sound (entriesFrom left s q col row c .past)
   unfolding entriesFrom
   entries-sound zero q col row c h = h
   entries-sound (suc left) q col row c h =
-      let l = pairLine zzTag s (c .at) in
-      let v = verdict-of-line (inForm (l .next) && reaches col row (l .first) (l .second)) (isFinite (l .word)) (ltb (l .first) q && ltb (l .second) q) in
-      go (entries-sound left q (l .first) (l .second + 1) (passOf c (entryVerdict q col row l) (l .next)) (pass-sound c (entryVerdict q col row l) (l .next) v h))
-      (eqb (c .number) 0 && inForm (tagTo zzTag s (c .at) .next))
+      let l = pairLine zzTag s c.at in
+      let v = verdict-of-line (inForm l.next && reaches col row l.first l.second) (isFinite l.word) (ltb l.first q && ltb l.second q) in
+      go (entries-sound left q l.first (l.second + 1) (passOf c (entryVerdict q col row l) l.next) (pass-sound c (entryVerdict q col row l) l.next v h))
+      (eqb c.number 0 && inForm (tagTo zzTag s c.at .next))
     where
       go : let l = pairLine zzTag s (c .at) in
           let more = entriesFrom left s q (l .first) (l .second + 1) (passOf c (entryVerdict q col row l) (l .next)) in
@@ -83,27 +83,27 @@ Refusal number line = ((number ≡ 1) × (line ≡ 0)) ⊎ OnLine number line
 
 of-cursor : (number line : ℕ) → (number ≡ 0 → ⊥) → OfLine number × (1 ≤ line) → OnLine number line
 of-cursor number line h (inl z, l) = absurd (h z)
-of-cursor number line h (inr r, l) = (r .0, r .1, l)
+of-cursor number line h (inr r, l) = (r.0, r.1, l)
 
 settled-refusal : (c : Cursor) (sheet : Sheet) (starts : Starts) (number line : ℕ) → Sound c → settled c sheet starts ≡ refused number line → OnLine number line
-settled-refusal c sheet starts number line h e = go (eqb (c .number) 0) refl e
+settled-refusal c sheet starts number line h e = go (eqb c.number 0) refl e
   where
     go : (t : Bool) → eqb (c .number) 0 ≡ t → cond t (accepted sheet starts) (refused (c .number) (c .line)) ≡ refused number line → OnLine number line
     go true u g = let z : _≡_ {A = ℕ} 0 1 = cc in absurd (omega arith)
     go false u g =
         let n : c .number ≡ number = cc in
         let l : c .line ≡ line = cc in
-        subst (λ (x : ℕ). OnLine x line) n (subst (λ (x : ℕ). OnLine (c .number) x) l (of-cursor (c .number) (c .line) (eqb-false _ 0 u) h))
+        subst (λ (x : ℕ). OnLine x line) n (subst (λ (x : ℕ). OnLine c.number x) l (of-cursor c.number c.line (eqb-false _ 0 u) h))
 
 -- below the size line a refusal is of a line
 pub lines-refusal : (s : List ℕ) (z : Counts) (at number line : ℕ) → readLines s z (record { at = at; line = 2; number = 0 }) ≡ refused number line → OnLine number line
 unfolding readLines
 lines-refusal s z at number line e =
     let c : Cursor = record { at = at; line = 2; number = 0 } in
-    let hz : Sound (zzRun s z at .past) = entries-sound s (length s) (z .q) 0 0 _ (blocks-sound s (z .k) c (inl refl, omega arith)) in
+    let hz : Sound (zzRun s z at .past) = entries-sound s (length s) z.q 0 0 _ (blocks-sound s z.k c (inl refl, omega arith)) in
     let hx : Sound (xxRun s z at .past) =
-    words-sound _ _ (z .p) _ (words-sound (singleLine zyTag s) (λ r. 1) (z .q) _ (words-sound (pairLine zxTag s) (λ r. z .p) (z .q) _ hz)) in
-    settled-refusal (yyRun s z at .past) _ _ number line (words-sound _ _ 1 _ (words-sound (singleLine xyTag s) (λ r. 1) (z .p) _ hx)) e
+    words-sound _ _ z.p _ (words-sound (singleLine zyTag s) (λ r. 1) z.q _ (words-sound (pairLine zxTag s) (λ r. z .p) z.q _ hz)) in
+    settled-refusal (yyRun s z at .past) _ _ number line (words-sound _ _ 1 _ (words-sound (singleLine xyTag s) (λ r. 1) z.p _ hx)) e
 
 -- THE CLAIM
 pub read-refusal : (s : List ℕ) (number line : ℕ) → readSheet s ≡ refused number line → Refusal number line
@@ -134,7 +134,7 @@ alone-refusal s number line e = go (readSheet s) refl e
         inr (omega arith, omega arith, omega (arith, read-whole s sheet starts u .shape .lines))
 
     go : (o : Outcome) → readSheet s ≡ o → alone s o ≡ refused number line → Refusal number line
-    go (accepted sheet starts) u g = left-over sheet starts (eqb (starts .end) (length s)) u g
+    go (accepted sheet starts) u g = left-over sheet starts (eqb starts.end (length s)) u g
     go (refused m k) u g = read-refusal s number line (u ∙ g)
 
 -- 1: of bytes that are too long no line is looked at

@@ -27,7 +27,7 @@ any-line read zero line at = refl
 any-line read (suc n) line at = ap (λ (l : List ℕ). read at .word ∷ l) (any-line read n (line + 1) (read at .next) ∙ sym (any-line read n (0 + 1) (read at .next)))
 
 word-finite : (i : ℕ × ℕ) (line : ℕ) (l : Line) → givenVerdict i l ≡ 0 → Finite (wordIn line l)
-word-finite i line l v = in-order (inForm (l .next) && eqb (l .first) (i .0) && eqb (l .second) (i .1)) (isFinite (l .word)) true v .1
+word-finite i line l v = in-order (inForm l.next && eqb l.first i.0 && eqb l.second i.1) (isFinite l.word) true v .1
 
 record RanWords (read : ℕ → Line) (width : ℕ → ℕ) (n : ℕ) (c : Cursor) : Type 0 where
   count : length (wordsOf read width n c .items) ≡ length (rowsFrom width 0 n)
@@ -42,36 +42,36 @@ ran-words read width n c e =
     let k : length (wordsOf read width n c .items) ≡ length is = lines-length read givenVerdict wordIn is c in
     record {
       count = k;
-      line = omega (arith, r .line);
+      line = omega (arith, r.line);
       words = (
-        r .items ∙ any-line read (length is) (c .line) (c .at) ∙ ap (λ (m : ℕ). keptFrom read wordIn m 0 (c .at)) (sym k),
-        r .at ∙ ap (λ (m : ℕ). pastFrom read m (c .at)) (sym k),
+        r .items ∙ any-line read (length is) c.line c.at ∙ ap (λ (m : ℕ). keptFrom read wordIn m 0 c.at) (sym k),
+        r .at ∙ ap (λ (m : ℕ). pastFrom read m c.at) (sym k),
       );
       finite = each read givenVerdict wordIn Finite word-finite is c e;
     }
 
 block-in-range : (i : ℕ × ℕ) (line : ℕ) (l : Line) → blockVerdict i l ≡ 0 → BlockInRange (blockIn line l)
 block-in-range i line l v =
-    let w = in-order (inForm (l .next)) true (isBetween 1 (l .first) 65535 && isBetween 1 (l .second) 16) v in
-    let x = both (isBetween 1 (l .first) 65535) (isBetween 1 (l .second) 16) (w .2) in
-    let m = both (leb 1 (l .first)) (leb (l .first) 65535) (x .0) in
-    let e = both (leb 1 (l .second)) (leb (l .second) 16) (x .1) in
-    record { m = (leb-true _ _ (m .0), leb-true _ _ (m .1)); e = (leb-true _ _ (e .0), leb-true _ _ (e .1)) }
+    let w = in-order (inForm l.next) true (isBetween 1 l.first 65535 && isBetween 1 l.second 16) v in
+    let x = both (isBetween 1 l.first 65535) (isBetween 1 l.second 16) w.2 in
+    let m = both (leb 1 l.first) (leb l.first 65535) x.0 in
+    let e = both (leb 1 l.second) (leb l.second 16) x.1 in
+    record { m = (leb-true _ _ m.0, leb-true _ _ m.1); e = (leb-true _ _ e.0, leb-true _ _ e.1) }
 
 pub counts-in-range : (z : Counts) → countsWithin z ≡ true → InRange z
 counts-in-range z e =
-    let flag = both _ (isBetween 0 (z .flag) 1) e in
-    let k = both _ (isBetween 0 (z .k) 8) (flag .0) in
-    let q = both _ (isBetween 0 (z .q) 524280) (k .0) in
-    let p = both (isBetween 1 (z .n) 1000000000) (isBetween 1 (z .p) 32) (q .0) in
-    let n′ = both (leb 1 (z .n)) (leb (z .n) 1000000000) (p .0) in
-    let p′ = both (leb 1 (z .p)) (leb (z .p) 32) (p .1) in
+    let flag = both _ (isBetween 0 z.flag 1) e in
+    let k = both _ (isBetween 0 z.k 8) flag.0 in
+    let q = both _ (isBetween 0 z.q 524280) k.0 in
+    let p = both (isBetween 1 z.n 1000000000) (isBetween 1 z.p 32) q.0 in
+    let n′ = both (leb 1 z.n) (leb z.n 1000000000) p.0 in
+    let p′ = both (leb 1 z.p) (leb z.p 32) p.1 in
     record {
-      n = (leb-true _ _ (n′ .0), leb-true _ _ (n′ .1));
-      p = (leb-true _ _ (p′ .0), leb-true _ _ (p′ .1));
-      q = leb-true _ _ (both (leb 0 (z .q)) (leb (z .q) 524280) (q .1) .1);
-      k = leb-true _ _ (both (leb 0 (z .k)) (leb (z .k) 8) (k .1) .1);
-      flag = leb-true _ _ (both (leb 0 (z .flag)) (leb (z .flag) 1) (flag .1) .1);
+      n = (leb-true _ _ n′.0, leb-true _ _ n′.1);
+      p = (leb-true _ _ p′.0, leb-true _ _ p′.1);
+      q = leb-true _ _ (both (leb 0 z.q) (leb z.q 524280) q.1 .1);
+      k = leb-true _ _ (both (leb 0 z.k) (leb z.k 8) k.1 .1);
+      flag = leb-true _ _ (both (leb 0 z.flag) (leb z.flag 1) flag.1 .1);
     }
 
 -- ---- the lines after the size line
@@ -92,52 +92,52 @@ lines-whole s z at sheet starts short h e =
     let xx = xxRun s z at in
     let xy = xyRun s z at in
     let yy = yyRun s z at in
-    let ryy = ran-words (bareLine yyTag s) (λ r. 1) 1 (xy .past) (o .yy) in
-    let rxy = ran-words (singleLine xyTag s) (λ r. 1) (z .p) (xx .past) (o .xy) in
-    let rxx = ran-words (pairLine xxTag s) (λ r. r + 1) (z .p) (zy .past) (o .xx) in
-    let rzy = ran-words (singleLine zyTag s) (λ r. 1) (z .q) (zx .past) (o .zy) in
-    let rzx = ran-words (pairLine zxTag s) (λ r. z .p) (z .q) (zz .past) (o .zx) in
-    let rzz = listed s (z .q) (length s) 0 0 (blocks .past) (o .zz) in
-    let is = rowsFrom (λ r. 1) 0 (z .k) in
-    let rb = ran (blockLine s) blockVerdict blockIn is c (o .blocks) in
-    let k : length is ≡ z .k = omega (arith, grid-length 1 0 (z .k)) in
-    let nb : length (blocks .items) ≡ z .k = lines-length (blockLine s) blockVerdict blockIn is c ∙ k in
-    let nzx : length (zx .items) ≡ z .q * z .p = rzx .count ∙ grid-length (z .p) 0 (z .q) in
-    let nzy : length (zy .items) ≡ z .q = rzy .count ∙ omega (arith, grid-length 1 0 (z .q)) in
-    let nxx : length (xx .items) ≡ z .p * (z .p + 1) / 2 = rxx .count ∙ triangle-length (z .p) in
-    let nxy : length (xy .items) ≡ z .p = rxy .count ∙ omega (arith, grid-length 1 0 (z .p)) in
-    let one : yy .items ≡ getD (yy .items) 0 0 ∷ [] = alone-in (yy .items) (ryy .count ∙ grid-length 1 0 1) in
-    let fyy : Each Finite (getD (yy .items) 0 0 ∷ []) = subst (λ (l : List ℕ). Each Finite l) one (ryy .finite) in
-    let lb : blocks .past .line ≡ z .k + 2 = omega (arith, rb .line) in
-    let ly : length (yy .items) ≡ 1 = ryy .count ∙ grid-length 1 0 1 in
-    subst (λ (x : Sheet). Whole s x starts) (o .same-sheet)
-    (subst (λ (x : Starts). Whole s (sheetRead s z at) x) (o .same-starts)
+    let ryy = ran-words (bareLine yyTag s) (λ r. 1) 1 xy.past o.yy in
+    let rxy = ran-words (singleLine xyTag s) (λ r. 1) z.p xx.past o.xy in
+    let rxx = ran-words (pairLine xxTag s) (λ r. r + 1) z.p zy.past o.xx in
+    let rzy = ran-words (singleLine zyTag s) (λ r. 1) z.q zx.past o.zy in
+    let rzx = ran-words (pairLine zxTag s) (λ r. z .p) z.q zz.past o.zx in
+    let rzz = listed s z.q (length s) 0 0 blocks.past o.zz in
+    let is = rowsFrom (λ r. 1) 0 z.k in
+    let rb = ran (blockLine s) blockVerdict blockIn is c o.blocks in
+    let k : length is ≡ z .k = omega (arith, grid-length 1 0 z.k) in
+    let nb : length blocks.items ≡ z .k = lines-length (blockLine s) blockVerdict blockIn is c ∙ k in
+    let nzx : length zx.items ≡ z .q * z .p = rzx.count ∙ grid-length z.p 0 z.q in
+    let nzy : length zy.items ≡ z .q = rzy.count ∙ omega (arith, grid-length 1 0 z.q) in
+    let nxx : length xx.items ≡ z .p * (z.p + 1) / 2 = rxx.count ∙ triangle-length z.p in
+    let nxy : length xy.items ≡ z .p = rxy.count ∙ omega (arith, grid-length 1 0 z.p) in
+    let one : yy .items ≡ getD yy.items 0 0 ∷ [] = alone-in yy.items (ryy.count ∙ grid-length 1 0 1) in
+    let fyy : Each Finite (getD yy.items 0 0 ∷ []) = subst (λ (l : List ℕ). Each Finite l) one ryy.finite in
+    let lb : blocks .past .line ≡ z .k + 2 = omega (arith, rb.line) in
+    let ly : length yy.items ≡ 1 = ryy.count ∙ grid-length 1 0 1 in
+    subst (λ (x : Sheet). Whole s x starts) o.same-sheet
+    (subst (λ (x : Starts). Whole s (sheetRead s z at) x) o.same-starts
     (record {
       short = short;
       shape = record {
         same-counts = refl;
         counts = h;
-        blocks = each (blockLine s) blockVerdict blockIn BlockInRange block-in-range is c (o .blocks);
+        blocks = each (blockLine s) blockVerdict blockIn BlockInRange block-in-range is c o.blocks;
         blocks-length = nb;
-        zz = rzz .within;
-        zz-rising = rzz .rising;
-        words = (rzx .finite, rzy .finite, rxx .finite, rxy .finite, fyy .0);
+        zz = rzz.within;
+        zz-rising = rzz.rising;
+        words = (rzx.finite, rzy.finite, rxx.finite, rxy.finite, fyy.0);
         zx-length = nzx;
         zy-length = nzy;
         xx-length = nxx;
         xy-length = nxy;
-        lines = omega (arith, ryy .line, rxy .line, rxx .line, rzy .line, rzx .line, rzz .line);
+        lines = omega (arith, ryy.line, rxy.line, rxx.line, rzy.line, rzx.line, rzz.line);
       };
       placed = record {
-        blocks = rb .items ∙ ap (λ (n : ℕ). keptFrom (blockLine s) blockIn n 2 at) k;
-        blocks-end = rb .at ∙ ap (λ (n : ℕ). pastFrom (blockLine s) n at) k;
-        zz = rzz .items ∙ ap (λ (n : ℕ). keptFrom (pairLine zzTag s) entryIn (length (zz .items)) n (blocks .past .at)) lb;
-        zz-end = rzz .at;
-        zx = rzx .words;
-        zy = rzy .words;
-        xx = rxx .words;
-        xy = rxy .words;
-        yy = subst (λ (l : List ℕ). WordsFrom (bareLine yyTag s) (xy .past .at) (yy .past .at) l) one (ryy .words);
+        blocks = rb.items ∙ ap (λ (n : ℕ). keptFrom (blockLine s) blockIn n 2 at) k;
+        blocks-end = rb.at ∙ ap (λ (n : ℕ). pastFrom (blockLine s) n at) k;
+        zz = rzz.items ∙ ap (λ (n : ℕ). keptFrom (pairLine zzTag s) entryIn (length zz.items) n blocks.past.at) lb;
+        zz-end = rzz.at;
+        zx = rzx.words;
+        zy = rzy.words;
+        xx = rxx.words;
+        xy = rxy.words;
+        yy = subst (λ (l : List ℕ). WordsFrom (bareLine yyTag s) xy.past.at yy.past.at l) one ryy.words;
       };
     }))
 
@@ -165,8 +165,8 @@ alone-read s sheet starts e = go (readSheet s) refl e
   where
     ends : (a : Sheet) (b : Starts) (t : Bool) → eqb (b .end) (length s) ≡ t → cond t (accepted a b) (refused 2 (b .line)) ≡ accepted sheet starts → (accepted a b ≡ accepted sheet starts) × (starts .end ≡ length s)
     ends a b true u g = let x : b ≡ starts = cc in (g, subst (λ (y : Starts). y .end ≡ length s) x (eqb-true _ _ u))
-    ends a b false u g = absurd (not-accepted 2 (b .line) sheet starts g)
+    ends a b false u g = absurd (not-accepted 2 b.line sheet starts g)
 
     go : (o : Outcome) → readSheet s ≡ o → alone s o ≡ accepted sheet starts → (readSheet s ≡ accepted sheet starts) × (starts .end ≡ length s)
-    go (accepted a b) u g = let r = ends a b (eqb (b .end) (length s)) refl g in (u ∙ r .0, r .1)
+    go (accepted a b) u g = let r = ends a b (eqb b.end (length s)) refl g in (u ∙ r.0, r.1)
     go (refused number line) u g = absurd (not-accepted number line sheet starts g)

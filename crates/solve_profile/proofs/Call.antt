@@ -7,17 +7,17 @@ use lib.ListN.{length}
 use lib.Ieee.{Float}
 use borrow.Author.Tests.{eq-eqb, ne-eqb}
 use Rattle.layout.specs.declared.Layout.{Layout}
-use Rattle.heading_rules.specs.Heading.{layoutOf, progressOf, lawful, headed}
-use Rattle.heading_rules.proofs.Fits.{fits}
+use Rattle.heading_format.specs.Heading.{layoutOf, progressOf, lawful, headed}
+use Rattle.heading_format.proofs.Fits.{fits}
 use Rattle.refusal.specs.declared.Refusal.{Refusal}
 use Rattle.refusal.specs.Numbers.{refusal}
 use Rattle.profile.specs.declared.Solve.{Solve}
 use Rattle.profile.specs.declared.Solve.the-variants.{Refused}
 use Rattle.profile.specs.Deviance.{isFinished}
 use Rattle.profile.specs.Finish.{solveOf, resultLength}
-use Rattle.solution_places.specs.Places.{wholeLength}
-use Rattle.solution_places.proofs.Parts.{length-formula}
-use Rattle.solve_finish.specs.Outcome.{finishOf}
+use Rattle.solution_vectors.specs.result_places.Places.{wholeLength}
+use Rattle.solution_vectors.proofs.result_places.Parts.{length-formula}
+use Rattle.solution_finish.specs.Outcome.{finishOf}
 
 -- the layout of a workspace is lawful
 pub is-lawful-layout : (h : List ℕ) (w : List Float) → headed h (length w) ≡ true → (y : Layout) → y ≡ layoutOf h → lawful y ≡ true

@@ -10,21 +10,21 @@ use lib.Ieee.{Float}
 use borrow.Author.Tests.{ltb-true, eq-eqb, ne-eqb}
 use Rattle.refusal.specs.declared.Answer.the-variants.{Refused}
 use Rattle.refusal.specs.Numbers.{refusal}
-use Rattle.order.specs.Steps.{Step, Named, named, after, rustOrder}
-use Rattle.order.specs.Progress.{all, done, stepsLeft}
-use Rattle.order.proofs.Sets.{named-iff}
+use Rattle.step_order.specs.Steps.{Step, Named, named, after, rustOrder}
+use Rattle.step_order.specs.Progress.{all, done, stepsLeft}
+use Rattle.step_order.proofs.Sets.{named-iff}
 use Rattle.layout.specs.declared.Layout.{Layout}
-use Rattle.heading_rules.specs.declared.Progress.{Progress}
-use Rattle.heading_rules.specs.declared.State.{State}
-use Rattle.heading_rules.specs.declared.State.the-variants.{Idle, UnderWay, Finished}
+use Rattle.heading_format.specs.declared.Progress.{Progress}
+use Rattle.heading_format.specs.declared.State.{State}
+use Rattle.heading_format.specs.declared.State.the-variants.{Idle, UnderWay, Finished}
 use Rattle.layout.specs.Shapes.{pick}
-use Rattle.heading_rules.specs.Heading.{layoutOf, progressOf, stageOf, headed, every, forerun, stateLawful, progressLawful}
-use Rattle.heading_rules.proofs.Lawful.{is-lawful}
+use Rattle.heading_format.specs.Heading.{layoutOf, progressOf, stageOf, headed, every, forerun, stateLawful, progressLawful}
+use Rattle.heading_format.proofs.Lawful.{is-lawful}
 use Rattle.workspace.specs.Answers.{Outcome, space, untouched}
 use Rattle.update.specs.Calls.{isUnderWay, refusedBy, onPivot, stepOf}
-use Rattle.heading_rules.specs.Fits.{Fits}
-use Rattle.heading_rules.proofs.Fits.{fits}
-use Rattle.names.specs.Faults.{nameFault, faultOf}
+use Rattle.heading_format.specs.Fits.{Fits}
+use Rattle.heading_format.proofs.Fits.{fits}
+use Rattle.step.specs.step_check.Faults.{nameFault, faultOf}
 
 -- the tests in turn, by the first number
 turns : {A : Type 0} (refuse : ℕ → A) (ready : A) (u n d f : Bool)
@@ -53,9 +53,9 @@ last-test a b c d e = and-eq-true-iff (a && b && c) d .0 e .1
 
 left-lawful : (k : ℕ) (g : Progress) → progressLawful k g ≡ true → isUnderWay (g .state) ≡ true → 1 ≤ g .left
 unfolding progressLawful
-left-lawful k g e u = some-left (g .state) (g .left) (length (rustOrder k)) u
-    (last-test (every (λ i. every (λ j. leb (stageOf g i j) (suc j)) (suc i)) (suc k)) (eqb (g .left) (stepsLeft k (done (stageOf g)))) (forerun (stageOf g) (rustOrder k))
-    (stateLawful (g .state) (g .left) (length (rustOrder k))) e)
+left-lawful k g e u = some-left g.state g.left (length (rustOrder k)) u
+    (last-test (every (λ i. every (λ j. leb (stageOf g i j) (suc j)) (suc i)) (suc k)) (eqb g.left (stepsLeft k (done (stageOf g)))) (forerun (stageOf g) (rustOrder k))
+    (stateLawful g.state g.left (length (rustOrder k))) e)
 
 module _ (h : List ℕ) (w : List Float) (s : Step) where
   -- 20
@@ -88,7 +88,7 @@ module _ (h : List ℕ) (w : List Float) (s : Step) where
         pub is-ready : Fits h (length w) × Named (layoutOf h .k) s × (1 ≤ progressOf h .left)
         is-ready =
             let f = fits h (length w) ok in
-            (f, named-iff (layoutOf h .k) s .0 (passed .1), left-lawful (layoutOf h .k) (progressOf h) (f .progress) (passed .0))
+            (f, named-iff (layoutOf h .k) s .0 passed.1, left-lawful (layoutOf h .k) (progressOf h) f.progress passed.0)
 
         -- and taken
         pub taken : (o : Outcome) → o ≡ onPivot h w (refusedBy h w s) s → o ≡ stepOf h w s
@@ -97,10 +97,10 @@ module _ (h : List ℕ) (w : List Float) (s : Step) where
 -- what was read of the heading
 pub fault-now : (h : List ℕ) (s : Step) {number : ℕ} (y : Layout) (g : Progress) → y ≡ layoutOf h → g ≡ progressOf h → number ≡ faultOf (y .k) g s
     → number ≡ faultOf (layoutOf h .k) (progressOf h) s
-fault-now h s y g is-y is-g e = e ∙ ap₂ (λ (z : Layout) (x : Progress). faultOf (z .k) x s) is-y is-g
+fault-now h s y g is-y is-g e = e ∙ ap₂ (λ (z : Layout) (x : Progress). faultOf z.k x s) is-y is-g
 
 pub read-named : (h : List ℕ) (s : Step) (y : Layout) → y ≡ layoutOf h → Named (layoutOf h .k) s → Named (y .k) s
-read-named h s y is n = subst (λ (z : Layout). Named (z .k) s) (sym is) n
+read-named h s y is n = subst (λ (z : Layout). Named z.k s) (sym is) n
 
 pub read-left : (h : List ℕ) (g : Progress) → g ≡ progressOf h → 1 ≤ progressOf h .left → 1 ≤ g .left
 read-left h g is n = subst (λ (z : Progress). 1 ≤ z .left) (sym is) n

@@ -1,15 +1,21 @@
 // A step of an update (document 01, Records 4 and 5) and its refusals 20, 22, 21, 23, 24 and 26. What it answers and leaves is defined in the crate
 // update, specs/Calls.antt.
+mod apply_step;
+mod factor_step;
+mod step_check;
+pub mod step_result;
+
 ghost use mathlib.Core.Path.{_≡_};
 ghost use mathlib.Core.Bool.{true};
 ghost use Prim.Native.Nat.{_≤_};
 ghost use lib.ListN.{length};
-ghost use Rattle.order.specs.Steps.{Named};
-ghost use Rattle.heading_rules.specs.Heading.{layoutOf, progressOf, headed};
+ghost use Rattle.step_order.specs.Steps.{Named};
+ghost use Rattle.heading_format.specs.Heading.{layoutOf, progressOf, headed};
 ghost use Rattle.workspace.specs.Answers.{space};
 ghost use Rattle.update.specs.Names.{stepOfName};
 ghost use Rattle.update.specs.Calls.{refusedBy, onPivot, stepOf};
-ghost use Rattle.heading_rules.specs.Fits.{Fits};
+ghost use Rattle.heading_format.specs.Fits.{Fits};
+use heading::writer;
 use refusal::Answer;
 use refusal::Refusal;
 use update::Name;
@@ -21,8 +27,8 @@ pub fn take_ready(h: &mut [u32], w: &mut [f64], name: Name) -> Answer
 {
     let y = heading::layout(h);
     let g = heading::progress(h);
-    let m = take_step::take(y, g, h, w, name);
-    heading_writer::write_progress(h, m.progress);
+    let m = apply_step::take(y, g, h, w, name);
+    writer::write_progress(h, m.progress);
     m.answer
 }
 
@@ -33,7 +39,7 @@ fn step_headed(h: &mut [u32], w: &mut [f64], name: Name) -> Answer
 {
     let y = heading::layout(h);
     let g = heading::progress(h);
-    let number = names::fault(y.k, g, name);
+    let number = step_check::fault(y.k, g, name);
     if number == 0 {
         return take_ready(h, w, name);
     }
@@ -49,7 +55,7 @@ fn step_headed(h: &mut [u32], w: &mut [f64], name: Name) -> Answer
 pub fn step(h: &mut [u32], w: &mut [f64], name: Name) -> Answer
     ensures { λ r. ⌜ record { answer = r; left = space (now (h .exit)) (now (w .exit)) } ≡ stepOf (now (h .entry)) (now (w .entry)) (stepOfName name) ⌝ }
 {
-    if headed::is_headed(h, w.len()) {
+    if heading_check::is_headed(h, w.len()) {
         return step_headed(h, w, name);
     }
     Answer::Refused(Refusal {

@@ -41,8 +41,8 @@ module _ {A : Type 0} where
   unfolding fill
   cell-fill d s f r c h =
       let k = lies s r c h in
-      getD-cells (runLength s) (runs s) (λ j i. f (rowAt s j i) (columnAt s j i)) (runOf s r c) (inRun s r c) d (k .run) (k .within)
-      ∙ ap₂ f (k .row) (k .column)
+      getD-cells (runLength s) (runs s) (λ j i. f (rowAt s j i) (columnAt s j i)) (runOf s r c) (inRun s r c) d k.run k.within
+      ∙ ap₂ f k.row k.column
 
   -- only the cells that the shape has count
   pub fill-ext : (s : Shape) (f g : ℕ → ℕ → A) → ((r c : ℕ) → hasCell s r c ≡ true → f r c ≡ g r c) → fill s f ≡ fill s g
@@ -58,7 +58,7 @@ module _ {A : Type 0} where
   is-fill d s f l e h =
       is-cells d (runLength s) (runs s) (λ j i. f (rowAt s j i) (columnAt s j i)) l e
       (λ j i p q. let k = holds s j i p q in
-      ap₂ (λ (x y : ℕ). getD l (start (runLength s) x + y) d) (sym (k .run)) (sym (k .within)) ∙ h (rowAt s j i) (columnAt s j i) (k .has))
+      ap₂ (λ (x y : ℕ). getD l (start (runLength s) x + y) d) (sym k.run) (sym k.within) ∙ h (rowAt s j i) (columnAt s j i) k.has)
 
   -- a list of the block's size is the block of its own cells
   pub fill-cell : (d : A) (s : Shape) (l : List A) → length l ≡ sizeOf s → fill s (cell d s l) ≡ l
@@ -75,7 +75,7 @@ module _ {A : Type 0} where
     pub cell-set-other : (r′ c′ : ℕ) → hasCell s r′ c′ ≡ true → (r ≡ r′ → c ≡ c′ → ⊥) → cell d s (set l (placeOf s r c) v) r′ c′ ≡ cell d s l r′ c′
     cell-set-other r′ c′ h′ other =
         getD-set-other l (placeOf s r c) (placeOf s r′ c′) v d
-        (λ e. let k = place-one-to-one s r c r′ c′ h h′ (sym e) in other (k .0) (k .1))
+        (λ e. let k = place-one-to-one s r c r′ c′ h h′ (sym e) in other k.0 k.1)
 
   -- ---- a block that lies from `off` on in a longer list
 

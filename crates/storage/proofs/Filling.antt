@@ -36,7 +36,7 @@ module _ {A : Type 0} where
     -- a cell that is not written yet, or lies before them all, is as it was
     pub filling-else : (d : A) (k : ℕ) → (k < off) ⊎ (off + j ≤ k) → getD r k d ≡ getD w k d
     filling-else d k h =
-        ap (λ (l : List A). getD l k d) (e .same)
+        ap (λ (l : List A). getD l k d) e.same
         ∙ store-else off (tab j f) w (omega (arith, length-tab j f)) d k (⊎-elim (λ l. inl l) (λ l. inr (omega (arith, length-tab j f))) h)
 
     -- and so are m cells that lie apart
@@ -47,13 +47,13 @@ module _ {A : Type 0} where
     pub filling-at : {k : ℕ} {v : A} → k ≡ off + j → j < n → v ≡ f j → Filling f off n w (set r k v) (j + 1)
     unfolding tab
     filling-at {k} {v} d h q =
-        let fits = e .fits in
+        let fits = e.fits in
         let place : off + length (tab j f) ≡ k = omega (arith, length-tab j f) in
         record {
           within = omega arith;
           fits = fits;
-          long = simp length-set (e .long);
-          same = rw (add-one, e .same, q) (rw place at (store-one off (tab j f) w (omega (arith, length-tab j f)) (f j) (omega (arith, length-tab j f))));
+          long = simp length-set e.long;
+          same = rw (add-one, e.same, q) (rw place at (store-one off (tab j f) w (omega (arith, length-tab j f)) (f j) (omega (arith, length-tab j f))));
         }
 
     pub filling-more : {v : A} → j < n → v ≡ f j → Filling f off n w (set r (off + j) v) (j + 1)
@@ -71,11 +71,11 @@ module _ {A : Type 0} where
         let room : off + length (tab j f) ≤ length w = omega (arith, length-tab j f) in
         record {
           within = h;
-          fits = e .fits;
-          long = ap length then ∙ length-store to (tab k g) r (omega (arith, length-tab k g)) ∙ e .long;
+          fits = e.fits;
+          long = ap length then ∙ length-store to (tab k g) r (omega (arith, length-tab k g)) ∙ e.long;
           same =
               then
-              ∙ ap₂ (λ (x : ℕ) (l : List A). store x (tab k g) l) place (e .same)
+              ∙ ap₂ (λ (x : ℕ) (l : List A). store x (tab k g) l) place e.same
               ∙ store-more off (tab j f) w room (tab k g)
               ∙ ap (λ (l : List A). store off (tab j f ++ l) w) (tab-ext k g (λ i. f (j + i)) is)
               ∙ ap (λ (l : List A). store off l w) (tab-add j k f);
@@ -84,9 +84,9 @@ module _ {A : Type 0} where
     -- all of them
     pub filling-done : n ≤ j → r ≡ store off (tab n f) w
     filling-done h =
-        let within = e .within in
+        let within = e.within in
         let q : j ≡ n = omega arith in
-        rw (← q) (e .same)
+        rw (← q) e.same
 
   -- ---- the whole of an array of n cells
   module _ {f : ℕ → A} {n : ℕ} {w r : List A} {j : ℕ} (e : Filling f 0 n w r j) where

@@ -47,32 +47,32 @@ pub record Lies (s : Shape) (r c : ℕ) : Type 0 where
 pub lies : (s : Shape) (r c : ℕ) → hasCell s r c ≡ true → Lies s r c
 lies (packed n) r c h =
     let k = and-eq-true-iff (ltb r n) (leb c r) .0 h in
-    record { run = ltb-true r n (k .0); within = omega (arith, leb-true c r (k .1)); row = refl; column = refl }
+    record { run = ltb-true r n k.0; within = omega (arith, leb-true c r k.1); row = refl; column = refl }
 lies (diagonal n) r c h =
     let k = and-eq-true-iff (ltb r n) (eqb c r) .0 h in
-    record { run = ltb-true r n (k .0); within = omega arith; row = refl; column = sym (eqb-true c r (k .1)) }
+    record { run = ltb-true r n k.0; within = omega arith; row = refl; column = sym (eqb-true c r k.1) }
 lies (columns rows cols) r c h =
     let k = and-eq-true-iff (ltb c cols) (ltb r rows) .0 h in
-    let x : c < cols = ltb-true c cols (k .0) in
-    let y : r < rows = ltb-true r rows (k .1) in
+    let x : c < cols = ltb-true c cols k.0 in
+    let y : r < rows = ltb-true r rows k.1 in
     record { run = omega arith; within = omega arith; row = refl; column = refl }
 lies (entries cols row) r c h =
     let k = and-eq-true-iff (ltb c cols) (eqb r (row c)) .0 h in
-    record { run = ltb-true c cols (k .0); within = omega arith; row = sym (eqb-true r (row c) (k .1)); column = refl }
+    record { run = ltb-true c cols k.0; within = omega arith; row = sym (eqb-true r (row c) k.1); column = refl }
 
 -- every cell lies inside the block's list
 pub place-below : (s : Shape) (r c : ℕ) → hasCell s r c ≡ true → placeOf s r c < sizeOf s
 place-below s r c h =
-    let k = lies s r c h in omega (arith, k .within, start-below (runLength s) (runOf s r c) (runs s) (k .run))
+    let k = lies s r c h in omega (arith, k.within, start-below (runLength s) (runOf s r c) (runs s) k.run)
 
 -- two cells at one place are one cell
 pub place-one-to-one : (s : Shape) (r c r′ c′ : ℕ) → hasCell s r c ≡ true → hasCell s r′ c′ ≡ true → placeOf s r c ≡ placeOf s r′ c′ → (r ≡ r′) × (c ≡ c′)
 place-one-to-one s r c r′ c′ h h′ e =
     let k = lies s r c h in
     let k′ = lies s r′ c′ h′ in
-    let p = same-run (runLength s) (runOf s r c) (inRun s r c) (runOf s r′ c′) (inRun s r′ c′) (k .within) (k′ .within) e in
-    let q = same-cell (runLength s) (runOf s r c) (inRun s r c) (runOf s r′ c′) (inRun s r′ c′) (k .within) (k′ .within) e in
-    (sym (k .row) ∙ ap₂ (rowAt s) p q ∙ k′ .row, sym (k .column) ∙ ap₂ (columnAt s) p q ∙ k′ .column)
+    let p = same-run (runLength s) (runOf s r c) (inRun s r c) (runOf s r′ c′) (inRun s r′ c′) k.within k′.within e in
+    let q = same-cell (runLength s) (runOf s r c) (inRun s r c) (runOf s r′ c′) (inRun s r′ c′) k.within k′.within e in
+    (sym k.row ∙ ap₂ (rowAt s) p q ∙ k′.row, sym k.column ∙ ap₂ (columnAt s) p q ∙ k′.column)
 
 -- ---- places and sizes in closed form
 

@@ -6,12 +6,12 @@ use mathlib.Core.Bool.{false, true}
 use mathlib.Core.List.{List, [], _∷_, _++_}
 use lib.ListN.{replicate, drop}
 use lib.Ieee.{Float, nan}
-use Rattle.order.specs.Steps.{Step, C, T, rustOrder, S}
+use Rattle.step_order.specs.Steps.{Step, C, T, rustOrder, S}
 use Rattle.layout.specs.declared.Layout.{Layout}
 use Rattle.refusal.specs.declared.Answer.the-variants.{Accepted}
-use Rattle.heading_rules.specs.declared.State.the-variants.{Idle}
+use Rattle.heading_format.specs.declared.State.the-variants.{Idle}
 use Rattle.layout.specs.Shapes as Shapes
-use Rattle.heading_rules.specs.Heading.{written, progressOf, progressNumbers, idle}
+use Rattle.heading_format.specs.Heading.{written, progressOf, progressNumbers, idle}
 use Rattle.workspace.specs.Compute.{leaves, word, words}
 use Rattle.workspace.specs.Memory.{Workspace, workingBlock}
 use Rattle.refusal.specs.Numbers.{refusalOf}
@@ -42,11 +42,11 @@ fresh = space (written layout (idle 2)) (replicate 13 one ++ (word 0x40220000000
 
 unfoldable begun : Outcome
 unfolding fresh steps beginOf
-begun = beginOf (fresh .heading) (fresh .doubles) (word 0x4000000000000000 ∷ word 0x4008000000000000 ∷ [])
+begun = beginOf fresh.heading fresh.doubles (word 0x4000000000000000 ∷ word 0x4008000000000000 ∷ [])
 
 unfoldable done : List Step → Outcome
 unfolding begun runOf
-done l = runOf (begun .left) l
+done l = runOf begun.left l
 
 enough : Shapes.doublesNeeded layout ≡ 31
 unfolding leaves

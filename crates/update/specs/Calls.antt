@@ -8,18 +8,18 @@ use lib.ListN.{length, getD}
 use lib.Ieee.{Float}
 use Rattle.storage.specs.Runs.{start, triangle}
 use Rattle.storage.specs.Part.{store}
-use Rattle.order.specs.Steps.{Step, S, C, T, row, col, index, named, after}
-use Rattle.order.specs.Progress.{all, done}
+use Rattle.step_order.specs.Steps.{Step, S, C, T, row, col, index, named, after}
+use Rattle.step_order.specs.Progress.{all, done}
 use Rattle.rules.specs.Arithmetic.{ieee}
-use Rattle.heading_rules.specs.declared.Progress.{Progress}
-use Rattle.heading_rules.specs.declared.State.{State}
-use Rattle.heading_rules.specs.declared.State.the-variants.{Idle, UnderWay, Finished}
+use Rattle.heading_format.specs.declared.Progress.{Progress}
+use Rattle.heading_format.specs.declared.State.{State}
+use Rattle.heading_format.specs.declared.State.the-variants.{Idle, UnderWay, Finished}
 use Rattle.refusal.specs.declared.Answer.{Answer}
 use Rattle.refusal.specs.declared.Answer.the-variants.{Accepted, Refused}
 use Rattle.refusal.specs.Numbers.{refuse}
-use Rattle.heading_rules.specs.Marked.{marked}
+use Rattle.heading_format.specs.Marked.{marked}
 use Rattle.layout.specs.Shapes.{Target, pick, targets, thetaAt, workingAt, sumAt}
-use Rattle.heading_rules.specs.Heading.{layoutOf, progressOf, stageOf, entryRow, headed, idle, underWay}
+use Rattle.heading_format.specs.Heading.{layoutOf, progressOf, stageOf, entryRow, headed, idle, underWay}
 use Rattle.workspace.specs.Memory.{Workspace, loadedBlock, workingBlock, loadedSome, logSum, headingWith, cleared}
 use Rattle.workspace.specs.Answers.{Outcome, space, untouched, firstInfinite, unlessAt}
 use Rattle.update.specs.Working.{rulesOf, started}

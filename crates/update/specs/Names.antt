@@ -1,5 +1,5 @@
 -- The step that a name names (document 01, Record 4).
-use Rattle.order.specs.Steps.{Step, S, C, T}
+use Rattle.step_order.specs.Steps.{Step, S, C, T}
 use Rattle.update.specs.declared.Name.{Name}
 use Rattle.update.specs.declared.Name.the-variants.{S as Subtract, C as Factor, T as Solve}
 

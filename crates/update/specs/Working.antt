@@ -7,7 +7,7 @@ use lib.Dec.{eqb}
 use lib.ListN.{getD}
 use lib.Ieee.{Float}
 use Rattle.storage.specs.Shape.{Shape, packed, diagonal, columns, entries, fill}
-use Rattle.order.specs.Elimination.{Rules}
+use Rattle.step_order.specs.Elimination.{Rules}
 use Rattle.rules.specs.Arithmetic.{ieee}
 use Rattle.rules.specs.Begin.{diagonalCell, crossCell, fixedCell}
 use Rattle.rules.specs.Steps.{subtractDense, subtractDiagonal, subtractLast, subtractSparse, divide}

@@ -13,20 +13,20 @@ use Rattle.storage.specs.Part.{part}
 use Rattle.refusal.specs.declared.Refusal.{Refusal}
 use Rattle.refusal.specs.Numbers.{refusal}
 use Rattle.layout.specs.declared.Layout.{Layout}
-use Rattle.heading_rules.specs.declared.Progress.{Progress}
+use Rattle.heading_format.specs.declared.Progress.{Progress}
 use Rattle.layout.specs.Shapes.{pick, levels, shape, workingAt, numbersNeeded, doublesNeeded}
-use Rattle.heading_rules.specs.Heading.{layoutOf, progressOf, entryRow, every, lawful, progressLawful, headed}
+use Rattle.heading_format.specs.Heading.{layoutOf, progressOf, entryRow, every, lawful, progressLawful, headed}
 use Rattle.workspace.specs.Memory.{cellOf, workingBlock}
 use Rattle.profile.specs.Deviance.{isFinished, logDeterminant}
-use Rattle.block_sizes.proofs.Sizes.{doubles-small}
-use Rattle.deviance_tail.specs.Tail.{logDeterminantOf}
+use Rattle.block_places.proofs.block_sizes.Sizes.{doubles-small}
+use Rattle.deviance.specs.deviance_tail.Tail.{logDeterminantOf}
 use Rattle.views.specs.declared.Left.the-variants.{Steps, Refused as Denied}
 use Rattle.views.specs.declared.Look.{Look}
 use Rattle.views.specs.declared.Look.the-variants.{Value, Absent, Refused}
-use Rattle.working_blocks.specs.Rows.{rowsOf}
-use Rattle.pivot_places.specs.Pivots.{isPivot, pivotAt}
+use Rattle.block_places.specs.block_kinds.Rows.{rowsOf}
+use Rattle.views.specs.pivot_places.Pivots.{isPivot, pivotAt}
 use Rattle.views.specs.Views.{stepsLeftOf, finishedLook, pivotLook}
-use Rattle.pivot_places.proofs.Places.{shape-is}
+use Rattle.views.proofs.pivot_places.Places.{shape-is}
 
 -- ---- 20 by the heading alone: more doubles than any workspace has are as good as those that it needs
 enough : (a b c d e f g x z i : Bool) → (e ≡ true → x ≡ z) → (a && b && c && d && e && f && g && x && i) ≡ (a && b && c && d && e && f && g && z && i)
@@ -41,9 +41,9 @@ pub headed-alone : (h : List ℕ) → headed h 2199023255552 ≡ headed h (doubl
 unfolding headed
 headed-alone h =
     let y : Layout = layoutOf h in
-    enough (leb 128 (length h)) (leb (getD h 20 0) 1) (leb (getD h 21 0) 1) (leb (getD h 22 0) 2) (lawful y) (progressLawful (y .k) (progressOf h))
+    enough (leb 128 (length h)) (leb (getD h 20 0) 1) (leb (getD h 21 0) 1) (leb (getD h 22 0) 2) (lawful y) (progressLawful y.k (progressOf h))
     (leb (numbersNeeded y) (length h)) (leb (doublesNeeded y) 2199023255552) (leb (doublesNeeded y) (doublesNeeded y))
-    (not (y .sparse) || every (λ c. ltb (entryRow h c) (levels y 1)) (levels y 0))
+    (not y.sparse || every (λ c. ltb (entryRow h c) (levels y 1)) (levels y 0))
     (λ ok. le-leb (doublesNeeded y) 2199023255552 (omega (arith, doubles-small y ok)) ∙ sym (le-leb (doublesNeeded y) (doublesNeeded y) (omega arith)))
 
 module _ (h : List ℕ) (b : Bool) (is-b : b ≡ headed h 2199023255552) where
@@ -84,11 +84,11 @@ pivot-same h w j r y v e q =
 
 module _ (y : Layout) (w : List Float) (j r : ℕ) where
   pub no-block : y .k < j → Absent ≡ pivotLook y w j r
-  no-block h = rw (lt-leb j (y .k) h) refl
+  no-block h = rw (lt-leb j y.k h) refl
 
   module _ (there : j ≤ y .k) (n : ℕ) (is-n : n ≡ rowsOf y j) where
     pub no-row : n ≤ r → Absent ≡ pivotLook y w j r
-    no-row h = rw (le-leb j (y .k) there, le-ltb r (rowsOf y j) (omega arith)) refl
+    no-row h = rw (le-leb j y.k there, le-ltb r (rowsOf y j) (omega arith)) refl
 
     pub a-pivot : r < n → (v : Float) → v ≡ pivotAt y w j r → Value v ≡ pivotLook y w j r
-    a-pivot h v e = rw (le-leb j (y .k) there, lt-ltb r (rowsOf y j) (omega arith)) (ap Value e)
+    a-pivot h v e = rw (le-leb j y.k there, lt-ltb r (rowsOf y j) (omega arith)) (ap Value e)

@@ -8,14 +8,14 @@ use Rattle.refusal.specs.declared.Refusal.{Refusal}
 use Rattle.refusal.specs.Numbers.{refusal, noRefusal}
 use Rattle.layout.specs.declared.Layout.{Layout}
 use Rattle.layout.specs.Shapes.{pick, shape, doublesNeeded}
-use Rattle.heading_rules.specs.Heading.{layoutOf, progressOf, entryRow, headed}
+use Rattle.heading_format.specs.Heading.{layoutOf, progressOf, entryRow, headed}
 use Rattle.workspace.specs.Memory.{cellOf, workingBlock}
 use Rattle.profile.specs.Deviance.{isFinished, logDeterminant}
 use Rattle.views.specs.declared.Left.{Left}
 use Rattle.views.specs.declared.Left.the-variants.{Steps, Refused as Denied}
 use Rattle.views.specs.declared.Look.{Look}
 use Rattle.views.specs.declared.Look.the-variants.{Value, Absent, Refused}
-use Rattle.pivot_places.specs.Pivots.{isPivot, pivotAt}
+use Rattle.views.specs.pivot_places.Pivots.{isPivot, pivotAt}
 
 -- document 01's number and places of an answer, 0 where it is none of its refusals
 abbrev pub refusalOfLeft : Left → Refusal

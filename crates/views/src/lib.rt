@@ -1,13 +1,17 @@
 // What a caller may look at in a workspace: the steps left, the log determinant and the pivots (document 01, Record 5 and "Worked sheets"), with the
 // refusals 20 and 25. What each answers is defined in specs/Views.antt.
+pub mod pivot_places;
+
 ghost use mathlib.Core.Path.{_≡_};
 ghost use mathlib.Core.Bool.{true};
 ghost use Prim.Native.Nat.{_<_, _≤_};
 ghost use lib.ListN.{length};
 ghost use Rattle.layout.specs.Shapes.{doublesNeeded};
-ghost use Rattle.heading_rules.specs.Heading.{progressOf, lawful};
+ghost use Rattle.heading_format.specs.Heading.{progressOf, lawful};
 ghost use Rattle.profile.specs.Deviance.{isFinished};
 ghost use Rattle.views.specs.Views.{stepsLeftOf, determinantOf, pivotOf, pivotLook};
+use block_places::block_kinds;
+use deviance::deviance_tail;
 use deviance::is_finished;
 use deviance::refused;
 use layout::Layout;
@@ -33,7 +37,7 @@ const LARGE: usize = 2199023255552;
 pub fn steps_left(h: &[u32]) -> Left
     ensures { λ r. ⌜ r ≡ stepsLeftOf (now (h .entry)) ⌝ }
 {
-    if headed::is_headed(h, LARGE) {
+    if heading_check::is_headed(h, LARGE) {
         let g = heading::progress(h);
         return Left::Steps(g.left);
     }
@@ -54,7 +58,7 @@ fn has_factor(h: &[u32]) -> bool
 pub fn log_determinant(h: &[u32], w: &[f64]) -> Look
     ensures { λ r. ⌜ r ≡ determinantOf (now (h .entry)) (now (w .entry)) ⌝ }
 {
-    if headed::is_headed(h, w.len()) {
+    if heading_check::is_headed(h, w.len()) {
         if has_factor(h) {
             return Look::Value(deviance_tail::log_determinant(heading::layout(h), w));
         }
@@ -69,7 +73,7 @@ fn pivot_or_absent(y: Layout, w: &[f64], j: u64, r: u64) -> Look
     ensures { λ v. ⌜ v ≡ pivotLook y (now (w .entry)) j r ⌝ }
 {
     if j <= y.k {
-        if r < working_blocks::rows_of(y, j) as u64 {
+        if r < block_kinds::rows_of(y, j) as u64 {
             return Look::Value(pivot_places::read_pivot(y, w, j, r));
         }
     }
@@ -80,7 +84,7 @@ fn pivot_or_absent(y: Layout, w: &[f64], j: u64, r: u64) -> Look
 pub fn pivot(h: &[u32], w: &[f64], block: u64, row: u64) -> Look
     ensures { λ r. ⌜ r ≡ pivotOf (now (h .entry)) (now (w .entry)) block row ⌝ }
 {
-    if headed::is_headed(h, w.len()) {
+    if heading_check::is_headed(h, w.len()) {
         if has_factor(h) {
             return pivot_or_absent(heading::layout(h), w, block, row);
         }

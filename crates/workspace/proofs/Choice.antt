@@ -24,11 +24,11 @@ module _ (s h : List ℕ) (w : List Float) where
   unfolding loadOf
   nine-of (Read starts) o e n = absurd (omega (arith, n))
   nine-of (Unread number line) o e n =
-      record { number = ap (λ (x : Outcome). refusalOf (x .answer) .number) e ∙ n; left = ap (λ (x : Outcome). x .left) e }
+      record { number = ap (λ (x : Outcome). refusalOf x.answer .number) e ∙ n; left = ap (λ (x : Outcome). x .left) e }
 
   pub loads-alike : (o p : Outcome) → Loads s h w o → Loads s h w p → (o ≡ p) ⊎ (Nine o × Nine p)
-  loads-alike o p a b = go (one-answer (sheetOf s) (a .reading) (b .reading) (a .read) (b .read))
+  loads-alike o p a b = go (one-answer (sheetOf s) a.reading b.reading a.read b.read)
     where
       go : (a .reading ≡ b .reading) ⊎ ((answerOf (a .reading) .number ≡ 9) × (answerOf (b .reading) .number ≡ 9)) → (o ≡ p) ⊎ (Nine o × Nine p)
-      go (inl e) = inl (a .comes ∙ ap (λ (r : Reading). loadOf s r h w) e ∙ sym (b .comes))
-      go (inr (m, n)) = inr (nine-of (a .reading) o (a .comes) m, nine-of (b .reading) p (b .comes) n)
+      go (inl e) = inl (a.comes ∙ ap (λ (r : Reading). loadOf s r h w) e ∙ sym b.comes)
+      go (inr (m, n)) = inr (nine-of a.reading o a.comes m, nine-of b.reading p b.comes n)

@@ -12,7 +12,7 @@ use Rattle.storage.specs.Runs.{tab}
 use Rattle.sheet.specs.Run.{Entry}
 use Rattle.sheet.specs.Sheet.{Sheet}
 use Rattle.layout.specs.Blocks.{sum}
-use Rattle.heading_rules.specs.Heading.{sheetLevels, layoutOf}
+use Rattle.heading_format.specs.Heading.{sheetLevels, layoutOf}
 use Rattle.workspace.specs.Compute.{leaves, word, words}
 use Rattle.workspace.specs.Memory.{thetaOf}
 use Rattle.workspace.specs.Answers.{Outcome, untouched}
@@ -76,7 +76,7 @@ short-heading = refl
 -- ---- a response: Z'y by sheet rows, X'y, y'y, on a workspace whose working doubles are 99
 unfoldable replaced : List Float → List Float → List Float → Outcome
 unfolding loaded replaceOf
-replaced zy xy yy = let v = loaded 33 .left in replaceOf (v .heading) (take 14 (v .doubles) ++ replicate 19 (word 99)) zy xy yy
+replaced zy xy yy = let v = loaded 33 .left in replaceOf v.heading (take 14 v.doubles ++ replicate 19 (word 99)) zy xy yy
 
 response-writes :
     words (replaced (word 20 ∷ word 21 ∷ word 22 ∷ []) (word 23 ∷ []) (word 24 ∷ []) .left .doubles)

@@ -21,7 +21,7 @@ use Rattle.sheet.specs.Sheet as Sheets
 use Rattle.sheet.specs.Answer.{Answers}
 use Rattle.layout.specs.declared.Layout.{Layout}
 use Rattle.layout.specs.Shapes.{pick, pairs, numbersNeeded, doublesNeeded}
-use Rattle.heading_rules.specs.Heading.{headed}
+use Rattle.heading_format.specs.Heading.{headed}
 use Rattle.workspace.specs.Answers.{Outcome, accept, untouched}
 use Rattle.workspace.specs.Loaded.{firstDenied, layoutOfSheet}
 use Rattle.workspace.specs.Load.{Loads, headingOf, doublesOf, roomy, afterGate, loadSheet, loadParsed, loadOf}
@@ -34,7 +34,7 @@ isAccepted (Refused r) = false
 
 -- an accepted outcome is a workspace
 abbrev Good : Outcome → Type 0
-Good o = isAccepted (o .answer) ≡ true → headed (o .left .heading) (length (o .left .doubles)) ≡ true
+Good o = isAccepted o.answer ≡ true → headed o.left.heading (length o.left.doubles) ≡ true
 
 module _ (h : List ℕ) (w : List Float) where
   refused-good : (n a b : ℕ) → Good (untouched h w n a b)
@@ -55,10 +55,10 @@ module _ (h : List ℕ) (w : List Float) where
     unfolding loadSheet
     sheet-good sheet starts e a =
         let y : Layout = layoutOfSheet sheet in
-        gate-good sheet y (firstDenied sheet y (pairs (y .k)))
+        gate-good sheet y (firstDenied sheet y (pairs y.k))
         (λ gate room ok.
         let fits : doublesNeeded y ≤ length w = leb-true (doublesNeeded y) (length w) (and-eq-true-iff (leb (numbersNeeded y) (length h)) (leb (doublesNeeded y) (length w)) .0 room .1) in
-        load-stored s sheet starts e (a .0) gate (length (store 0 (doublesOf sheet y) w))
+        load-stored s sheet starts e a.0 gate (length (store 0 (doublesOf sheet y) w))
         (omega (arith, fits, length-doubles sheet y, length-store 0 (doublesOf sheet y) w (omega (arith, fits, length-doubles sheet y)))) h)
 
     parsed-good : (p : Sheets.Outcome) → sheetOf s ≡ p → (r : Reading) → Answers p r → Good (loadOf s r h w)
@@ -66,8 +66,8 @@ module _ (h : List ℕ) (w : List Float) where
     parsed-good p e (Unread number line) a = refused-good number line 0
     parsed-good (refused number line) e (Read starts) a = subst (λ (p : Sheets.Outcome). Good (loadParsed p h w)) (sym e) (refused-good number line 0)
     parsed-good (accepted sheet starts) e (Read found) a =
-        subst (λ (p : Sheets.Outcome). Good (loadParsed p h w)) (sym e) (sheet-good sheet starts e (a .0, refl))
+        subst (λ (p : Sheets.Outcome). Good (loadParsed p h w)) (sym e) (sheet-good sheet starts e (a.0, refl))
 
     -- "20 never comes", of a workspace just loaded
     pub loads-headed : (o : Outcome) → Loads s h w o → o .answer ≡ Accepted → headed (o .left .heading) (length (o .left .doubles)) ≡ true
-    loads-headed o l e = subst Good (sym (l .comes)) (parsed-good (sheetOf s) refl (l .reading) (l .read)) (ap isAccepted e)
+    loads-headed o l e = subst Good (sym l.comes) (parsed-good (sheetOf s) refl l.reading l.read) (ap isAccepted e)

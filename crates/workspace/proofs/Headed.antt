@@ -18,9 +18,9 @@ use Rattle.sheet.specs.Fault.{refusalOf}
 use Rattle.layout.specs.declared.Layout.{Layout}
 use Rattle.layout.specs.Blocks.{sorted, each}
 use Rattle.layout.specs.Shapes.{pick, levels, pairs, doublesNeeded}
-use Rattle.heading_rules.specs.Heading.{written, idle, lawful, headed}
-use Rattle.heading_rules.proofs.Lawful.{is-lawful, every-at}
-use Rattle.heading_rules.proofs.Heading.{never-20, idle-lawful}
+use Rattle.heading_format.specs.Heading.{written, idle, lawful, headed}
+use Rattle.heading_format.proofs.Lawful.{is-lawful, every-at}
+use Rattle.heading_format.proofs.Heading.{never-20, idle-lawful}
 use Rattle.workspace.specs.Loaded.{rowStart, inBlock, countOf, rowOf, ofColumn, oneEach, firstDenied, sheetM, sortedLayout, layoutOfSheet, entryRowIn}
 use Rattle.workspace.specs.Load.{headingOf}
 use Rattle.layout.proofs.Sums.{length-padded}
@@ -41,15 +41,15 @@ row-found test (x ∷ l) h = step (row-found test l) (test x) refl h
 
 pub row-below : (sheet : Sheet) (y : Layout) → oneEach sheet y 1 0 ≡ true → (c : ℕ) → c < levels y 0 → entryRowIn sheet y c < levels y 1
 row-below sheet y one c h =
-    let count : countOf (ofColumn y 1 0 c) (sheet .zz) ≡ 1 =
-    eqb-true (countOf (ofColumn y 1 0 c) (sheet .zz)) 1 (every-at (λ c. eqb (countOf (ofColumn y 1 0 c) (sheet .zz)) 1) (levels y 0) one c h) in
-    let r = row-found (ofColumn y 1 0 c) (sheet .zz) (omega arith) in
-    let e = r .0 in
-    let t = and-eq-true-iff (eqb (e .col) (rowStart y 0 + c)) (inBlock y 1 (e .row)) .0 (r .1) .1 in
-    let b = and-eq-true-iff (leb (rowStart y 1) (e .row)) (ltb (e .row) (rowStart y 1 + levels y 1)) .0 t in
-    let low : rowStart y 1 ≤ e .row = leb-true (rowStart y 1) (e .row) (b .0) in
-    let high : e .row < rowStart y 1 + levels y 1 = ltb-true (e .row) (rowStart y 1 + levels y 1) (b .1) in
-    within (rowOf (ofColumn y 1 0 c) (sheet .zz)) (e .row) (rowStart y 1) (levels y 1) (r .2) low high
+    let count : countOf (ofColumn y 1 0 c) sheet.zz ≡ 1 =
+    eqb-true (countOf (ofColumn y 1 0 c) sheet.zz) 1 (every-at (λ c. eqb (countOf (ofColumn y 1 0 c) sheet.zz) 1) (levels y 0) one c h) in
+    let r = row-found (ofColumn y 1 0 c) sheet.zz (omega arith) in
+    let e = r.0 in
+    let t = and-eq-true-iff (eqb e.col (rowStart y 0 + c)) (inBlock y 1 e.row) .0 r.1 .1 in
+    let b = and-eq-true-iff (leb (rowStart y 1) e.row) (ltb e.row (rowStart y 1 + levels y 1)) .0 t in
+    let low : rowStart y 1 ≤ e .row = leb-true (rowStart y 1) e.row b.0 in
+    let high : e .row < rowStart y 1 + levels y 1 = ltb-true e.row (rowStart y 1 + levels y 1) b.1 in
+    within (rowOf (ofColumn y 1 0 c) sheet.zz) e.row (rowStart y 1) (levels y 1) r.2 low high
   where
     within : (a row from n : ℕ) → a ≡ row → from ≤ row → row < from + n → a - from < n
     within a row from n q low high = omega arith
@@ -58,11 +58,11 @@ row-below sheet y one c h =
 
 pub length-m : (sheet : Sheet) → length (layoutOfSheet sheet .m) ≡ 8
 unfolding layoutOfSheet sortedLayout
-length-m sheet = length-padded 8 (each (sheetM sheet) (sorted (sheetM sheet) (sheet .counts .k)))
+length-m sheet = length-padded 8 (each (sheetM sheet) (sorted (sheetM sheet) sheet.counts.k))
 
 pub length-order : (sheet : Sheet) → length (layoutOfSheet sheet .order) ≡ 8
 unfolding layoutOfSheet sortedLayout
-length-order sheet = length-padded 8 (sorted (sheetM sheet) (sheet .counts .k))
+length-order sheet = length-padded 8 (sorted (sheetM sheet) sheet.counts.k)
 
 -- the rows behind the 128 numbers
 abbrev rowsOf : Sheet → Layout → Bool → List ℕ
@@ -86,9 +86,9 @@ unfolding headingOf
 lawful-headed sheet rest doubles ok room =
     let y : Layout = layoutOfSheet sheet in
     let k : y .k ≤ 8 = is-lawful y ok .blocks .1 in
-    ap (λ (h : List ℕ). headed h doubles) (append-assoc (written y (idle (y .k))) (rowsOf sheet y (y .sparse)) rest)
-    ∙ never-20 y (idle (y .k)) (rowsOf sheet y (y .sparse) ++ rest) doubles ok (idle-lawful (y .k) k) (length-m sheet) (length-order sheet)
-    (length-replicate {A = ℕ} 45 0) (λ s. rows-right sheet y rest (sparse-columns sheet s .1) (y .sparse) s) room
+    ap (λ (h : List ℕ). headed h doubles) (append-assoc (written y (idle y.k)) (rowsOf sheet y y.sparse) rest)
+    ∙ never-20 y (idle y.k) (rowsOf sheet y y.sparse ++ rest) doubles ok (idle-lawful y.k k) (length-m sheet) (length-order sheet)
+    (length-replicate {A = ℕ} 45 0) (λ s. rows-right sheet y rest (sparse-columns sheet s .1) y.sparse s) room
 
 module _ (s : List ℕ) (sheet : Sheet) (starts : Starts) (read : sheetOf s ≡ accepted sheet starts) (fine : refusalOf sheet ≡ 0)
     (gate : firstDenied sheet (layoutOfSheet sheet) (pairs (layoutOfSheet sheet .k)) ≡ none) (doubles : ℕ) (room : doublesNeeded (layoutOfSheet sheet) ≤ doubles) where

@@ -23,9 +23,9 @@ use Rattle.layout.specs.Blocks.{insert, sorted, sum, each, padded}
 use Rattle.layout.specs.Gate.{thin, pairOf}
 use Rattle.layout.specs.Shapes.{Target, target, levels, across, pairs}
 use Rattle.layout.proofs.Sums.{sum-same, sum-front, sum-over, over-sorted, padded-at, each-at}
-use Rattle.heading_rules.specs.Heading.{every, bit, within, same, sheetLevels, isDense, isSparse, pairLawful, lawful}
-use Rattle.heading_rules.proofs.Sorted.{all-at, length-sorted, below-sorted, sorted-ext}
-use Rattle.heading_rules.proofs.Lawful.{both, unless, every-of, every-at}
+use Rattle.heading_format.specs.Heading.{every, bit, within, same, sheetLevels, isDense, isSparse, pairLawful, lawful}
+use Rattle.heading_format.proofs.Sorted.{all-at, length-sorted, below-sorted, sorted-ext}
+use Rattle.heading_format.proofs.Lawful.{both, unless, every-of, every-at}
 use Rattle.workspace.specs.Loaded.{
   rowStart,
   countOf,
@@ -50,7 +50,7 @@ In i (s ∷ l) = (s ≡ i) ⊎ In i l
 in-at : (i : ℕ) (l : List ℕ) → In i l → (t : ℕ) × (t < length l) × (getD l t 0 ≡ i)
 in-at i [] a = absurd a
 in-at i (s ∷ l) (inl e) = (0, omega arith, e)
-in-at i (s ∷ l) (inr a) = let r = in-at i l a in let b = r .1 in (suc (r .0), omega arith, r .2)
+in-at i (s ∷ l) (inr a) = let r = in-at i l a in let b = r.1 in (suc r.0, omega arith, r.2)
 
 -- ---- the sorted list: blocks 0 to k - 1, each once
 
@@ -90,7 +90,7 @@ same-refl (x ∷ l) = both (eqb x x) (same l l) (eq-eqb x x refl) (same-refl l)
 
 abbrev pub levelsIn : List Block → ℕ → ℕ
 levelsIn [] i = 0
-levelsIn (b ∷ l) zero = b .m
+levelsIn (b ∷ l) zero = b.m
 levelsIn (b ∷ l) (suc i) = levelsIn l i
 
 pub sum-levels : (l : List Block) → sum (levelsIn l) (length l) ≡ levelsOf l
@@ -100,16 +100,16 @@ sum-levels (b ∷ l) = sum-front (levelsIn (b ∷ l)) (length l) ∙ ap (λ (a :
 
 levels-range : (l : List Block) → Each BlockInRange l → (i : ℕ) → i < length l → (1 ≤ levelsIn l i) × (levelsIn l i ≤ 65535)
 levels-range [] a i h = absurd (omega arith)
-levels-range (b ∷ l) a zero h = a .0 .m
-levels-range (b ∷ l) a (suc i) h = levels-range l (a .1) i (omega arith)
+levels-range (b ∷ l) a zero h = a.0.m
+levels-range (b ∷ l) a (suc i) h = levels-range l a.1 i (omega arith)
 
 -- a sheet without a fault has a block, and its blocks cover its rows
 pub no-refusal : (sheet : Sheet) → refusalOf sheet ≡ 0 → (1 ≤ sheet .counts .k) × (sheet .counts .q ≡ levelsOf (sheet .blocks))
 unfolding refusalOf
 no-refusal sheet e =
-    let r = go (eqb (sheet .counts .flag) 0) (eqb (sheet .counts .k) 0) (hasSlope sheet) (coversRows sheet) (anyFaulty sheet) e in
-    let some-block : sheet .counts .k ≡ 0 → ⊥ = eqb-false (sheet .counts .k) 0 (r .0) in
-    (positive (sheet .counts .k) some-block, eqb-true (sheet .counts .q) (levelsOf (sheet .blocks)) (r .1))
+    let r = go (eqb sheet.counts.flag 0) (eqb sheet.counts.k 0) (hasSlope sheet) (coversRows sheet) (anyFaulty sheet) e in
+    let some-block : sheet .counts .k ≡ 0 → ⊥ = eqb-false sheet.counts.k 0 r.0 in
+    (positive sheet.counts.k some-block, eqb-true sheet.counts.q (levelsOf sheet.blocks) r.1)
   where
     go : (a b c d e : Bool) → _≡_ {A = ℕ} (cond a 5 (cond b 6 (cond c 7 (cond (not d) 8 (cond e 9 0))))) 0 → (b ≡ false) × (d ≡ true)
     go true b c d e h = absurd (omega arith)
@@ -126,10 +126,10 @@ no-refusal sheet e =
 
 module _ (sheet : Sheet) (few : sheet .counts .k ≤ 8) where
   abbrev list : List ℕ
-  list = sorted (sheetM sheet) (sheet .counts .k)
+  list = sorted (sheetM sheet) sheet.counts.k
 
   long : length list ≡ sheet .counts .k
-  long = length-sorted (sheetM sheet) (sheet .counts .k)
+  long = length-sorted (sheetM sheet) sheet.counts.k
 
   pub order-at : (j : ℕ) → j < sheet .counts .k → getD (layoutOfSheet sheet .order) j 0 ≡ getD list j 0
   unfolding layoutOfSheet sortedLayout
@@ -159,34 +159,34 @@ module _ (sheet : Sheet) (few : sheet .counts .k ≤ 8) where
   -- the layout gives back the sheet's levels
   pub sheet-levels : (i : ℕ) → i < sheet .counts .k → sheetLevels (layoutOfSheet sheet) (sheet .counts .k) i ≡ sheetM sheet i
   sheet-levels i h =
-      let r = in-at i list (in-sorted (sheetM sheet) (sheet .counts .k) i h) in
-      let b = r .1 in
-      sheet-found (sheet .counts .k) i (r .0) (omega arith) (omega (arith, long)) (r .2)
+      let r = in-at i list (in-sorted (sheetM sheet) sheet.counts.k i h) in
+      let b = r.1 in
+      sheet-found sheet.counts.k i r.0 (omega arith) (omega (arith, long)) r.2
 
   pub order-test : same (take (sheet .counts .k) (layoutOfSheet sheet .order)) (sorted (sheetLevels (layoutOfSheet sheet) (sheet .counts .k)) (sheet .counts .k)) ≡ true
   unfolding layoutOfSheet sortedLayout
   order-test =
       ap₂ same
       (ap (λ (n : ℕ). take n (padded 8 list)) (sym long) ∙ padded-take 8 list (omega (arith, long, few)))
-      (sorted-ext (sheetLevels (layoutOfSheet sheet) (sheet .counts .k)) (sheetM sheet) (sheet .counts .k) sheet-levels)
+      (sorted-ext (sheetLevels (layoutOfSheet sheet) sheet.counts.k) (sheetM sheet) sheet.counts.k sheet-levels)
       ∙ same-refl list
 
   pub total : length (sheet .blocks) ≡ sheet .counts .k → sum (levels (layoutOfSheet sheet)) (sheet .counts .k) ≡ levelsOf (sheet .blocks)
   total e =
-      sum-same (levels (layoutOfSheet sheet)) (λ j. sheetM sheet (getD list j 0)) (sheet .counts .k) levels-at
+      sum-same (levels (layoutOfSheet sheet)) (λ j. sheetM sheet (getD list j 0)) sheet.counts.k levels-at
       ∙ ap (λ (n : ℕ). sum (λ j. sheetM sheet (getD list j 0)) n) (sym long)
       ∙ sum-over (sheetM sheet) list
-      ∙ over-sorted (sheetM sheet) (sheetM sheet) (sheet .counts .k)
+      ∙ over-sorted (sheetM sheet) (sheetM sheet) sheet.counts.k
       ∙ ap (λ (n : ℕ). sum (sheetM sheet) n) (sym e)
-      ∙ sum-levels (sheet .blocks)
+      ∙ sum-levels sheet.blocks
 
   pub level-range : Each BlockInRange (sheet .blocks) → length (sheet .blocks) ≡ sheet .counts .k → (j : ℕ) → j < sheet .counts .k
       → (1 ≤ levels (layoutOfSheet sheet) j) × (levels (layoutOfSheet sheet) j ≤ 65535)
   level-range a e j h =
-      let below : getD list j 0 < sheet .counts .k = all-at (λ s. s < sheet .counts .k) list (below-sorted (sheetM sheet) (sheet .counts .k)) j (omega (arith, long)) in
-      let r = levels-range (sheet .blocks) a (getD list j 0) (omega arith) in
-      let r₀ = r .0 in
-      let r₁ = r .1 in
+      let below : getD list j 0 < sheet .counts .k = all-at (λ s. s < sheet .counts .k) list (below-sorted (sheetM sheet) sheet.counts.k) j (omega (arith, long)) in
+      let r = levels-range sheet.blocks a (getD list j 0) (omega arith) in
+      let r₀ = r.0 in
+      let r₁ = r.1 in
       (omega (arith, levels-at j h), omega (arith, levels-at j h))
 
 -- ---- entries: with one in each column, a pair has as many as columns
@@ -211,10 +211,10 @@ inside a n x = leb a x && ltb x (a + n)
 
 -- entries in columns a to a + n - 1 and in rows b to b + m - 1, and those of column a + c
 abbrev inPair : ℕ → ℕ → ℕ → ℕ → Entry → Bool
-inPair a n b m e = inside a n (e .col) && inside b m (e .row)
+inPair a n b m e = inside a n e.col && inside b m e.row
 
 abbrev inColumn : ℕ → ℕ → ℕ → ℕ → Entry → Bool
-inColumn a c b m e = eqb (e .col) (a + c) && inside b m (e .row)
+inColumn a c b m e = eqb e.col (a + c) && inside b m e.row
 
 inside-none : (a x : ℕ) → inside a 0 x ≡ false
 inside-none a x = by-cases (decLt x a) (λ h. rw (lt-leb a x h) refl) (λ h. let g : leb a x ≡ true = le-leb a x (omega arith) in rw (g, le-ltb x (a + 0) (omega arith)) refl)
@@ -244,20 +244,20 @@ both-more false false true r e = absurd (omega arith)
 both-more false false false r e = refl
 
 pub count-columns : (l : List Entry) (a n b m : ℕ) → ((c : ℕ) → c < n → countOf (inColumn a c b m) l ≡ 1) → countOf (inPair a n b m) l ≡ n
-count-columns l a zero b m h = count-none (inPair a 0 b m) (λ e. rw (inside-none a (e .col)) refl) l
+count-columns l a zero b m h = count-none (inPair a 0 b m) (λ e. rw (inside-none a e.col) refl) l
 count-columns l a (suc n) b m h =
     omega (
       arith,
       count-split (inPair a (suc n) b m) (inPair a n b m) (inColumn a n b m)
-          (λ e. both-more (inside a (suc n) (e .col)) (inside a n (e .col)) (eqb (e .col) (a + n)) (inside b m (e .row)) (inside-more a n (e .col))) l,
+          (λ e. both-more (inside a (suc n) e.col) (inside a n e.col) (eqb e.col (a + n)) (inside b m e.row) (inside-more a n e.col)) l,
       count-columns l a n b m (λ c g. h c (omega arith)),
       h n (omega arith),
     )
 
 pub one-each-count : (sheet : Sheet) (y : Layout) (i j : ℕ) → oneEach sheet y i j ≡ true → countOf (ofPair y i j) (sheet .zz) ≡ levels y j
 one-each-count sheet y i j e =
-    count-columns (sheet .zz) (rowStart y j) (levels y j) (rowStart y i) (levels y i)
-    (λ c h. eqb-true (countOf (ofColumn y i j c) (sheet .zz)) 1 (every-at (λ c. eqb (countOf (ofColumn y i j c) (sheet .zz)) 1) (levels y j) e c h))
+    count-columns sheet.zz (rowStart y j) (levels y j) (rowStart y i) (levels y i)
+    (λ c h. eqb-true (countOf (ofColumn y i j c) sheet.zz) 1 (every-at (λ c. eqb (countOf (ofColumn y i j c) sheet.zz) 1) (levels y j) e c h))
 
 -- ---- the gate does not see how the pair is stored
 
@@ -265,18 +265,18 @@ module _ (sheet : Sheet) (y : Layout) (sparse diagonal : Bool) where
   stored-levels : (n i : ℕ) → sheetLevels (withStorage y sparse diagonal) n i ≡ sheetLevels y n i
   unfolding sheetLevels
   stored-levels zero i = refl
-  stored-levels (suc n) i = ap (λ (x : ℕ). cond (eqb (getD (y .order) n 0) i) (levels y n) x) (stored-levels n i)
+  stored-levels (suc n) i = ap (λ (x : ℕ). cond (eqb (getD y.order n 0) i) (levels y n) x) (stored-levels n i)
 
   stored-start : (j : ℕ) → rowStart (withStorage y sparse diagonal) j ≡ rowStart y j
-  stored-start j = sum-same (sheetLevels (withStorage y sparse diagonal) (y .k)) (sheetLevels y (y .k)) (getD (y .order) j 0) (λ i h. stored-levels (y .k) i)
+  stored-start j = sum-same (sheetLevels (withStorage y sparse diagonal) y.k) (sheetLevels y y.k) (getD y.order j 0) (λ i h. stored-levels y.k i)
 
   stored-one : (i j : ℕ) → oneEach sheet (withStorage y sparse diagonal) i j ≡ oneEach sheet y i j
-  stored-one i j = ap₂ (λ (a b : ℕ). every (λ c. eqb (countOf (inColumn a c b (levels y i)) (sheet .zz)) 1) (levels y j)) (stored-start j) (stored-start i)
+  stored-one i j = ap₂ (λ (a b : ℕ). every (λ c. eqb (countOf (inColumn a c b (levels y i)) sheet.zz) 1) (levels y j)) (stored-start j) (stored-start i)
 
   stored-pair : (i j : ℕ) → pairIn sheet (withStorage y sparse diagonal) i j ≡ pairIn sheet y i j
   unfolding pairIn
   stored-pair i j =
-      ap₂ (λ (a b : ℕ). pairOf (y .k) (levels y i) (levels y j) (every (λ c. eqb (countOf (inColumn a c b (levels y i)) (sheet .zz)) 1) (levels y j)) (countOf (inPair a (levels y j) b (levels y i)) (sheet .zz)))
+      ap₂ (λ (a b : ℕ). pairOf y.k (levels y i) (levels y j) (every (λ c. eqb (countOf (inColumn a c b (levels y i)) sheet.zz) 1) (levels y j)) (countOf (inPair a (levels y j) b (levels y i)) sheet.zz))
       (stored-start j) (stored-start i)
 
 -- ---- no pair is refused
@@ -285,7 +285,7 @@ module _ (sheet : Sheet) (y : Layout) where
   allowed-parts : (l r : List Target) → firstDenied sheet y (l ++ r) ≡ none → (firstDenied sheet y l ≡ none) × (firstDenied sheet y r ≡ none)
   unfolding firstDenied
   allowed-parts [] r e = (refl, e)
-  allowed-parts (t ∷ l) r e = step (allowed-parts l r) (pairIn sheet y (t .row) (t .col)) e
+  allowed-parts (t ∷ l) r e = step (allowed-parts l r) (pairIn sheet y t.row t.col) e
     where
       step : (firstDenied sheet y (l ++ r) ≡ none → (firstDenied sheet y l ≡ none) × (firstDenied sheet y r ≡ none)) → (p : Pair)
           → denied p t (firstDenied sheet y (l ++ r)) ≡ none → (denied p t (firstDenied sheet y l) ≡ none) × (firstDenied sheet y r ≡ none)
@@ -298,16 +298,16 @@ module _ (sheet : Sheet) (y : Layout) where
   allowed-across i zero e j h = absurd (omega arith)
   allowed-across i (suc n) e j h =
       let r = allowed-parts (across i n) (target i n ∷ []) e in
-      by-cases (decLt j n) (λ l. allowed-across i n (r .0) j l)
-      (λ l. let z : n ≡ j = omega arith in subst (λ (x : ℕ). firstDenied sheet y (target i x ∷ []) ≡ none) z (r .1))
+      by-cases (decLt j n) (λ l. allowed-across i n r.0 j l)
+      (λ l. let z : n ≡ j = omega arith in subst (λ (x : ℕ). firstDenied sheet y (target i x ∷ []) ≡ none) z r.1)
 
   pub allowed-pairs : (k : ℕ) → firstDenied sheet y (pairs k) ≡ none → (i j : ℕ) → i < k → j < i → firstDenied sheet y (target i j ∷ []) ≡ none
   unfolding pairs
   allowed-pairs zero e i j h g = absurd (omega arith)
   allowed-pairs (suc k) e i j h g =
       let r = allowed-parts (pairs k) (across k k) e in
-      by-cases (decLt i k) (λ l. allowed-pairs k (r .0) i j l g)
-      (λ l. let z : k ≡ i = omega arith in subst (λ (x : ℕ). firstDenied sheet y (target x j ∷ []) ≡ none) z (allowed-across k k (r .1) j (omega arith)))
+      by-cases (decLt i k) (λ l. allowed-pairs k r.0 i j l g)
+      (λ l. let z : k ≡ i = omega arith in subst (λ (x : ℕ). firstDenied sheet y (target x j ∷ []) ≡ none) z (allowed-across k k r.1 j (omega arith)))
 
 -- the gate's answer with these tests: few cells, more than two blocks, one entry in each column and thin
 abbrev answer : Bool → Bool → Bool → Pair
@@ -330,27 +330,27 @@ module _ (sheet : Sheet) (y : Layout) (sp : y .sparse ≡ eqb (y .k) 2 && isSpar
   one-pair : y .k ≡ 2 → firstDenied sheet y (target 1 0 ∷ []) ≡ none → pairLawful y 1 0 ≡ true
   unfolding firstDenied pairIn pairOf
   one-pair k e =
-      let q : eqb (y .k) 2 ≡ true = eq-eqb (y .k) 2 k in
+      let q : eqb y.k 2 ≡ true = eq-eqb y.k 2 k in
       let s : y .sparse ≡ isSparse (pairIn sheet y 1 0) = sp ∙ ap (λ (b : Bool). b && isSparse (pairIn sheet y 1 0)) q in
       let d : y .diagonal ≡ oneEach sheet y 1 0 = di ∙ ap (λ (b : Bool). b && oneEach sheet y 1 0) q in
       let cells : ℕ = levels y 1 * levels y 0 in
-      ap₂ (λ (s d : Bool). let pair = pairOf (y .k) (levels y 1) (levels y 0) d (levels y 0) in cond s (isSparse pair) (isDense pair)) s d
-      ∙ two-blocks (target 1 0) (leb cells 100000) (ltb 2 (y .k)) (oneEach sheet y 1 0) (thin (countOf (ofPair y 1 0) (sheet .zz)) cells) (thin (levels y 0) cells)
+      ap₂ (λ (s d : Bool). let pair = pairOf y.k (levels y 1) (levels y 0) d (levels y 0) in cond s (isSparse pair) (isDense pair)) s d
+      ∙ two-blocks (target 1 0) (leb cells 100000) (ltb 2 y.k) (oneEach sheet y 1 0) (thin (countOf (ofPair y 1 0) sheet.zz) cells) (thin (levels y 0) cells)
       (λ o. ap (λ (n : ℕ). thin n cells) (one-each-count sheet y 1 0 o)) e
 
   other-pair : (i j : ℕ) → 2 < y .k → firstDenied sheet y (target i j ∷ []) ≡ none → pairLawful y i j ≡ true
   unfolding firstDenied pairIn pairOf
   other-pair i j k e =
-      let q : eqb (y .k) 2 ≡ false = ne-eqb (y .k) 2 (λ z. omega arith) in
+      let q : eqb y.k 2 ≡ false = ne-eqb y.k 2 (λ z. omega arith) in
       let s : y .sparse ≡ false = sp ∙ ap (λ (b : Bool). b && isSparse (pairIn sheet y 1 0)) q in
       let cells : ℕ = levels y i * levels y j in
-      ap (λ (s : Bool). let pair = pairOf (y .k) (levels y i) (levels y j) (y .diagonal) (levels y j) in cond s (isSparse pair) (isDense pair)) s
-      ∙ more-blocks (target i j) (leb cells 100000) (ltb 2 (y .k)) (oneEach sheet y i j && thin (countOf (ofPair y i j) (sheet .zz)) cells)
-      (y .diagonal && thin (levels y j) cells) (lt-ltb 2 (y .k) k) e
+      ap (λ (s : Bool). let pair = pairOf y.k (levels y i) (levels y j) y.diagonal (levels y j) in cond s (isSparse pair) (isDense pair)) s
+      ∙ more-blocks (target i j) (leb cells 100000) (ltb 2 y.k) (oneEach sheet y i j && thin (countOf (ofPair y i j) sheet.zz) cells)
+      (y.diagonal && thin (levels y j) cells) (lt-ltb 2 y.k k) e
 
   pub pair-lawful : (i j : ℕ) → i < y .k → j < i → firstDenied sheet y (target i j ∷ []) ≡ none → pairLawful y i j ≡ true
   pair-lawful i j h g e =
-      by-cases (decLt 2 (y .k)) (λ l. other-pair i j l e)
+      by-cases (decLt 2 y.k) (λ l. other-pair i j l e)
       (λ l.
       let k : y .k ≡ 2 = omega arith in
       let a : 1 ≡ i = omega arith in
@@ -383,16 +383,16 @@ lawful-of y n p k level order q diagonal sparse pair =
     (both _ _
     (both _ _
     (both _ _
-    (both _ _ (both _ _ (is-within 1 1000000000 (y .n) n) (is-within 1 32 (y .p) p)) (is-within 1 8 (y .k) k))
-    (every-of (λ j. within 1 65535 (levels y j)) (y .k) (λ j h. is-within 1 65535 (levels y j) (level j h))))
+    (both _ _ (both _ _ (is-within 1 1000000000 y.n n) (is-within 1 32 y.p p)) (is-within 1 8 y.k k))
+    (every-of (λ j. within 1 65535 (levels y j)) y.k (λ j h. is-within 1 65535 (levels y j) (level j h))))
     order)
-    (eq-eqb (y .q) (sum (levels y) (y .k)) q))
-    (unless (y .diagonal) (eqb (y .k) 2) (λ d. eq-eqb (y .k) 2 (diagonal d))))
-    (unless (y .sparse) (y .diagonal && eqb (y .k) 2) (λ s. both (y .diagonal) (eqb (y .k) 2) (sparse s .0) (eq-eqb (y .k) 2 (sparse s .1)))))
-    (every-of (λ i. every (λ j. pairLawful y i j) i) (y .k) (λ i h. every-of (λ j. pairLawful y i j) i (λ j g. pair i j h g)))
+    (eq-eqb y.q (sum (levels y) y.k) q))
+    (unless y.diagonal (eqb y.k 2) (λ d. eq-eqb y.k 2 (diagonal d))))
+    (unless y.sparse (y.diagonal && eqb y.k 2) (λ s. both y.diagonal (eqb y.k 2) (sparse s .0) (eq-eqb y.k 2 (sparse s .1)))))
+    (every-of (λ i. every (λ j. pairLawful y i j) i) y.k (λ i h. every-of (λ j. pairLawful y i j) i (λ j g. pair i j h g)))
   where
     is-within : (low high x : ℕ) → (low ≤ x) × (x ≤ high) → within low high x ≡ true
-    is-within low high x h = both (leb low x) (leb x high) (le-leb low x (h .0)) (le-leb x high (h .1))
+    is-within low high x h = both (leb low x) (leb x high) (le-leb low x h.0) (le-leb x high h.1)
 
 -- a sparse pair has one entry in each column
 sparse-one : (a b one thin : Bool) → isSparse (answer a b (one && thin)) ≡ true → one ≡ true
@@ -405,10 +405,10 @@ pub sparse-columns : (sheet : Sheet) → layoutOfSheet sheet .sparse ≡ true �
 unfolding pairIn pairOf
 sparse-columns sheet s =
     let y : Layout = layoutOfSheet sheet in
-    let t = and-eq-true-iff (eqb (y .k) 2) (isSparse (pairIn sheet y 1 0)) .0 (sym (sparse-is sheet) ∙ s) in
+    let t = and-eq-true-iff (eqb y.k 2) (isSparse (pairIn sheet y 1 0)) .0 (sym (sparse-is sheet) ∙ s) in
     let cells : ℕ = levels y 1 * levels y 0 in (
-      eqb-true (y .k) 2 (t .0),
-      sparse-one (leb cells 100000) (ltb 2 (y .k)) (oneEach sheet y 1 0) (thin (countOf (ofPair y 1 0) (sheet .zz)) cells) (t .1),
+      eqb-true y.k 2 t.0,
+      sparse-one (leb cells 100000) (ltb 2 y.k) (oneEach sheet y 1 0) (thin (countOf (ofPair y 1 0) sheet.zz) cells) t.1,
     )
 
 -- ---- the layout of a sheet that load accepts is lawful
@@ -420,14 +420,14 @@ unfolding layoutOfSheet sortedLayout
 shaped-lawful sheet n p k blocks count fine gate =
     let y : Layout = layoutOfSheet sheet in
     let r = no-refusal sheet fine in
-    lawful-of (layoutOfSheet sheet) n p (r .0, k) (level-range sheet k blocks count) (order-test sheet k) (r .1 ∙ sym (total sheet k count))
-    (λ d. eqb-true (y .k) 2 (and-eq-true-iff (eqb (y .k) 2) (oneEach sheet y 1 0) .0 (sym (diagonal-is sheet) ∙ d) .0))
-    (λ s. let t = sparse-columns sheet s in (diagonal-is sheet ∙ both (eqb (y .k) 2) (oneEach sheet y 1 0) (eq-eqb (y .k) 2 (t .0)) (t .1), t .0))
-    (λ i j h g. pair-lawful sheet (layoutOfSheet sheet) (sparse-is sheet) (diagonal-is sheet) i j h g (allowed-pairs sheet (layoutOfSheet sheet) (y .k) gate i j h g))
+    lawful-of (layoutOfSheet sheet) n p (r.0, k) (level-range sheet k blocks count) (order-test sheet k) (r.1 ∙ sym (total sheet k count))
+    (λ d. eqb-true y.k 2 (and-eq-true-iff (eqb y.k 2) (oneEach sheet y 1 0) .0 (sym (diagonal-is sheet) ∙ d) .0))
+    (λ s. let t = sparse-columns sheet s in (diagonal-is sheet ∙ both (eqb y.k 2) (oneEach sheet y 1 0) (eq-eqb y.k 2 t.0) t.1, t.0))
+    (λ i j h g. pair-lawful sheet (layoutOfSheet sheet) (sparse-is sheet) (diagonal-is sheet) i j h g (allowed-pairs sheet (layoutOfSheet sheet) y.k gate i j h g))
 
 -- Counts in range, sorted blocks that cover the rows, and pairs that the gate allows.
 pub sheet-lawful : (s : List ℕ) (sheet : Sheet) (starts : Starts) → sheetOf s ≡ accepted sheet starts → refusalOf sheet ≡ 0
     → firstDenied sheet (layoutOfSheet sheet) (pairs (layoutOfSheet sheet .k)) ≡ none → lawful (layoutOfSheet sheet) ≡ true
 sheet-lawful s sheet starts read fine gate =
     let shape = read-whole s sheet starts (alone-read s sheet starts read .0) .shape in
-    shaped-lawful sheet (shape .counts .n) (shape .counts .p) (shape .counts .k) (shape .blocks) (shape .blocks-length) fine gate
+    shaped-lawful sheet shape.counts.n shape.counts.p shape.counts.k shape.blocks shape.blocks-length fine gate

@@ -13,9 +13,9 @@ use Rattle.rules.specs.Arithmetic.{ieee}
 use Rattle.sheet.specs.Sheet.{Sheet}
 use Rattle.layout.specs.declared.Layout.{Layout}
 use Rattle.layout.specs.Shapes.{Target, pick, levels, cellsOf, loadedShape, loadedSizes, loadedLength, thetaAt, sumAt, targets, numbersNeeded, doublesNeeded}
-use Rattle.heading_rules.specs.Heading.{written, idle}
+use Rattle.heading_format.specs.Heading.{written, idle}
 use Rattle.layout.proofs.Places.{size-loaded}
-use Rattle.heading_rules.proofs.Heading.{length-written}
+use Rattle.heading_format.proofs.Heading.{length-written}
 use Rattle.workspace.specs.Memory.{noughts}
 use Rattle.workspace.specs.Loaded.{entryRowIn, loadedWord, double, loadedFrom, loadedNumbers}
 use Rattle.workspace.specs.Load.{headingOf, doublesOf}
@@ -25,14 +25,14 @@ module _ (sheet : Sheet) (y : Layout) where
   unfolding loadedFrom cellsOf
   length-from [] = refl
   length-from (t ∷ l) =
-      length-append (fill (loadedShape y (entryRowIn sheet y) (t .row) (t .col)) (λ r c. double (loadedWord sheet y (t .row) (t .col) r c))) (loadedFrom sheet y l)
-      ∙ ap₂ (λ (a b : ℕ). a + b) (length-fill (loadedShape y (entryRowIn sheet y) (t .row) (t .col)) _ ∙ size-loaded y (entryRowIn sheet y) (t .row) (t .col))
+      length-append (fill (loadedShape y (entryRowIn sheet y) t.row t.col) (λ r c. double (loadedWord sheet y t.row t.col r c))) (loadedFrom sheet y l)
+      ∙ ap₂ (λ (a b : ℕ). a + b) (length-fill (loadedShape y (entryRowIn sheet y) t.row t.col) _ ∙ size-loaded y (entryRowIn sheet y) t.row t.col)
       (length-from l)
 
   -- the loaded numbers
   pub length-loaded : length (loadedNumbers sheet y) ≡ loadedLength y
   unfolding loadedNumbers loadedLength
-  length-loaded = length-from (targets (y .k))
+  length-loaded = length-from (targets y.k)
 
   -- all doubles
   pub length-doubles : length (doublesOf sheet y) ≡ doublesNeeded y
@@ -40,9 +40,9 @@ module _ (sheet : Sheet) (y : Layout) where
   length-doubles =
       omega (
         arith,
-        length-append (loadedNumbers sheet y) (replicate (suc (sumAt y) - thetaAt y) (ieee .zero)),
+        length-append (loadedNumbers sheet y) (replicate (suc (sumAt y) - thetaAt y) ieee.zero),
         length-loaded,
-        length-replicate (suc (sumAt y) - thetaAt y) (ieee .zero),
+        length-replicate (suc (sumAt y) - thetaAt y) ieee.zero,
       )
 
   rows-length : (b : Bool) → length (pick b (tab (levels y 0) (entryRowIn sheet y)) []) ≡ cond b (levels y 0) 0
@@ -53,5 +53,5 @@ module _ (sheet : Sheet) (y : Layout) where
   pub length-heading : length (headingOf sheet y) ≡ numbersNeeded y
   unfolding headingOf
   length-heading =
-      length-append (written y (idle (y .k))) (pick (y .sparse) (tab (levels y 0) (entryRowIn sheet y)) [])
-      ∙ ap₂ (λ (a b : ℕ). a + b) (length-written y (idle (y .k))) (rows-length (y .sparse))
+      length-append (written y (idle y.k)) (pick y.sparse (tab (levels y 0) (entryRowIn sheet y)) [])
+      ∙ ap₂ (λ (a b : ℕ). a + b) (length-written y (idle y.k)) (rows-length y.sparse)

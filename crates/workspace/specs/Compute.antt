@@ -3,17 +3,17 @@ use Prim.Native.Nat.{ℕ}
 use mathlib.Core.List.{List, [], _∷_}
 use lib.Ieee as Ieee
 use lib.Ieee.{Float, binary64}
-use Rattle.root.specs.Root.{sqrtOf}
+use Rattle.square_root.specs.Root.{sqrtOf}
 use Rattle.logarithm.specs.Ln.{lnOf}
 use Rattle.storage.specs.Runs.{start, tab, cells}
 use Rattle.storage.specs.Shape.{fill}
 use Rattle.storage.specs.Part.{store}
-use Rattle.order.specs.Steps.{rustOrder}
+use Rattle.step_order.specs.Steps.{rustOrder}
 use Rattle.rules.specs.Sums.{sumFrom, lessFrom, logsFrom}
 use Rattle.rules.specs.Cholesky.{forward, rows, firstBad}
 use Rattle.rules.specs.Solves.{backward}
 use Rattle.layout.specs.Shapes.{loadedAt, workingAt, sumAt}
-use Rattle.heading_rules.specs.Heading.{written}
+use Rattle.heading_format.specs.Heading.{written}
 
 -- the definitions that do not open by themselves
 unfoldable pub leaves : ℕ

@@ -19,7 +19,7 @@ use Rattle.refusal.specs.declared.Refusal.{Refusal}
 use Rattle.refusal.specs.declared.Answer.the-variants.{Refused}
 use Rattle.layout.specs.Shapes.{pick, levels, pairs, numbersNeeded, doublesNeeded}
 use Rattle.layout.specs.Blocks.{sum}
-use Rattle.heading_rules.specs.Heading.{written, idle, sheetLevels}
+use Rattle.heading_format.specs.Heading.{written, idle, sheetLevels}
 use Rattle.workspace.specs.Memory.{noughts}
 use Rattle.workspace.specs.Answers.{Outcome, accept, untouched, space}
 use Rattle.workspace.specs.Loaded.{rowOf, firstDenied, layoutOfSheet, entryRowIn, loadedNumbers}

@@ -18,7 +18,7 @@ use Rattle.refusal.specs.declared.Refusal.{Refusal}
 use Rattle.layout.specs.Blocks.{sum, each, sorted, padded}
 use Rattle.layout.specs.Gate.{pairOf, diagonalOf}
 use Rattle.layout.specs.Shapes.{Target, pick, levels, loadedShape, targets}
-use Rattle.heading_rules.specs.Heading.{every, isSparse, sheetLevels}
+use Rattle.heading_format.specs.Heading.{every, isSparse, sheetLevels}
 
 -- ---- rows keep sheet order: block 0 of the sheet has the first m rows, block 1 the next
 -- the first row of sorted block j

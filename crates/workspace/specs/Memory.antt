@@ -8,9 +8,9 @@ use Rattle.storage.specs.Shape.{Shape, sizeOf, hasCell, cell}
 use Rattle.storage.specs.Part.{part, store}
 use Rattle.rules.specs.Arithmetic.{ieee}
 use Rattle.layout.specs.declared.Layout.{Layout}
-use Rattle.heading_rules.specs.declared.Progress.{Progress}
+use Rattle.heading_format.specs.declared.Progress.{Progress}
 use Rattle.layout.specs.Shapes.{shape, loadedShape, loadedAt, thetaAt, workingAt, sumAt}
-use Rattle.heading_rules.specs.Heading.{progressNumbers, layoutOf, entryRow}
+use Rattle.heading_format.specs.Heading.{progressNumbers, layoutOf, entryRow}
 
 -- what a call leaves
 pub record Workspace : Type 0 where

@@ -10,7 +10,7 @@ use Rattle.storage.specs.Part.{store}
 use Rattle.rules.specs.Arithmetic.{ieee}
 use Rattle.layout.specs.declared.Layout.{Layout}
 use Rattle.layout.specs.Shapes.{Target, target, pick, across, loadedShape, loadedAt}
-use Rattle.heading_rules.specs.Heading.{layoutOf, entryRow, headed, idle}
+use Rattle.heading_format.specs.Heading.{layoutOf, entryRow, headed, idle}
 use Rattle.workspace.specs.Memory.{cellOf, loadedBlock, headingWith}
 use Rattle.workspace.specs.Answers.{Outcome, accept, untouched, firstInfinite, unlessAt}
 use Rattle.workspace.specs.Loaded.{sheetRow}

@@ -8,13 +8,10 @@ use lib.ListN.{length}
 use Rattle.storage.specs.Runs.{start, triangle, dense}
 use Rattle.storage.specs.Shape.{fill}
 use Rattle.storage.proofs.Starts.{start-dense, start-below}
-use Rattle.blocks.proofs.Runs.{Writing, writing-none, writing-room, writing-all}
+use Rattle.block_runs.proofs.blocks.Runs.{Writing, writing-none, writing-room, writing-all}
 use Rattle.cross_block.proofs.Turns.{solvedCell, solve-turn}
 use Rattle.cross_block.proofs.solve_rows.Statement.{statement}
 use Rattle.cross_block.proofs.solve_rows.Tie as tie
-use Rattle.cross_block.proofs.solve_rows.Reads as reads
-use Rattle.cross_block.proofs.solve_rows.Lts as lts
-use Rattle.cross_block.proofs.solve_column.Reads as solve-column-reads
 
 abbrev Inv-loop : tie.InvT-loop
 Inv-loop w₀ off rows cols l end acc₀ c₀ to₀ row₀ w acc c to row =
@@ -24,71 +21,38 @@ abbrev μ-loop : tie.MeasureT-loop
 μ-loop w₀ off rows cols l end acc₀ c₀ to₀ row₀ w acc c to row = cols - c
 
 mul-end : tie.Need-mul-end Inv-loop μ-loop
-mul-end c = let a = c .before .args in omega (arith, start-dense (a .rows) (a .cols))
+mul-end c = let a = c.before.args in omega (arith, start-dense a.rows a.cols)
 
 add-end : tie.Need-add-end Inv-loop μ-loop
-add-end c = let a = c .before .args in omega (arith, start-dense (a .rows) (a .cols))
+add-end c = let a = c.before.args in omega (arith, start-dense a.rows a.cols)
 
 loop-holds : tie.Need-loop-holds Inv-loop μ-loop
 unfolding start
-loop-holds c =
-    let a = c .before .args in
-    let e = start-dense (a .rows) (a .cols) in
-    (refl, omega arith, writing-none (a .off) _ (dense (a .rows)) (a .cols) _ (a .w .now) (omega arith) (omega arith))
-
-slice-aggregate-solve-column : tie.Need-slice-aggregate-solve-column Inv-loop μ-loop
-slice-aggregate-solve-column c = search needs
+loop-holds c = let a = c.before.args in let e = start-dense a.rows a.cols in
+    (refl, omega arith, writing-none a.off _ (dense a.rows) a.cols _ a.w.now (omega arith) (omega arith))
 
 solve-column-requires : tie.Need-solve-column-requires Inv-loop μ-loop
-solve-column-requires c κs =
-    let l = c .before .before .before .loop in
-    omega (arith, writing-room (l .inv .2) (omega arith), start-below triangle (l .c) (c .before .before .before .before .before .args .cols) (omega arith))
-
-add-c : tie.Need-add-c Inv-loop μ-loop
-add-c c = search needs
+solve-column-requires c κs = let l = c.before.before.before.loop in
+    omega (arith, writing-room l.inv.2 (omega arith), start-below triangle l.c c.before.before.before.before.before.args.cols (omega arith))
 
 add-to : tie.Need-add-to Inv-loop μ-loop
-add-to c = omega (arith, writing-room (c .before .before .before .before .before .before .before .loop .inv .2) (omega arith))
+add-to c = omega (arith, writing-room c.before.before.before.before.before.before.before.loop.inv.2 (omega arith))
 
 add-row : tie.Need-add-row Inv-loop μ-loop
-add-row c =
-    let a = c .before .before .before .before .before .before .before .before .before .args in
-    let l = c .before .before .before .before .before .before .before .loop in
-    omega (arith, start-below triangle (l .c) (a .cols) (omega arith))
-
-loop-less : tie.Need-loop-less Inv-loop μ-loop
-loop-less c = search needs
+add-row c = let a = c.before.before.before.before.before.before.before.before.before.args in
+    let l = c.before.before.before.before.before.before.before.loop in
+    omega (arith, start-below triangle l.c a.cols (omega arith))
 
 loop-again : tie.Need-loop-again Inv-loop μ-loop
 unfolding start
-loop-again c =
-    let p = c .before .before .before .before .before .before .before .before .before in
-    let a = p .args in
-    let l = c .before .before .before .before .before .before .before .loop in
-    (omega arith, rw add-one (omega arith), solve-turn (a .l) (l .row) (l .inv .2) (omega arith) (omega arith) (p .pre .1) (l .inv .1) refl (c .before .before .before .solve-column .ensures))
-
-same-length : tie.Need-same-length Inv-loop μ-loop
-same-length c = search needs
+loop-again c = let p = c.before.before.before.before.before.before.before.before.before in let a = p.args in
+    let l = c.before.before.before.before.before.before.before.loop in
+    (omega arith, rw add-one (omega arith), solve-turn a.l l.row l.inv.2 (omega arith) (omega arith) p.pre.1 l.inv.1 refl c.before.before.before.solve-column.ensures)
 
 returns : tie.Need-returns Inv-loop μ-loop
 unfolding fill
-returns c = writing-all (c .before .loop .inv .2) (omega arith)
+returns c = writing-all c.before.loop.inv.2 (omega arith)
 
 pub solve-rows-spec : {M : Type 1} → statement M
-solve-rows-spec =
-    tie.close
-    (tie.spec
-    Inv-loop
-    μ-loop
-    mul-end
-    add-end
-    loop-holds
-    slice-aggregate-solve-column
-    solve-column-requires
-    add-c
-    add-to
-    add-row
-    loop-less
-    loop-again
-    same-length
-    returns)
+solve-rows-spec = tie.close (tie.spec Inv-loop μ-loop mul-end add-end loop-holds (λ c. search needs)
+    solve-column-requires (λ c. search needs) add-to add-row (λ c. search needs) loop-again (λ c. search needs) returns)

@@ -1,31 +1,16 @@
 -- `deviance::deviance_from_factor`: 20, or a workspace.
 use mathlib.Core.Path.{sym, _∙_}
-use Rattle.deviance_tail.proofs.Tails.{not-headed}
+use Rattle.deviance.proofs.deviance_tail.Tails.{not-headed}
 use borrow.Author.Needs.{needs}
 use Rattle.deviance.proofs.deviance_from_factor.Statement.{statement}
 use Rattle.deviance.proofs.deviance_from_factor.Tie as tie
-use Rattle.deviance.proofs.deviance_from_factor.Reads as reads
-use Rattle.deviance.proofs.deviance_from_factor.Lts as lts
-use Rattle.deviance.proofs.of_workspace.Reads as of-workspace-reads
-use Rattle.deviance.proofs.refused.Reads as refused-reads
-use Rattle.headed.proofs.is_headed.Reads as is-headed-reads
-
-is-headed-requires : tie.Need-is-headed-requires
-is-headed-requires c κs = search needs
 
 of-workspace-requires : tie.Need-of-workspace-requires
-of-workspace-requires c κs = sym (c .before .is-headed .ensures) ∙ c .if1 .taken
-
-returns : tie.Need-returns
-returns c = search needs
-
-refused-requires : tie.Need-refused-requires
-refused-requires c κs = search needs
+of-workspace-requires c κs = sym c.before.is-headed.ensures ∙ c.if1.taken
 
 returns-2 : tie.Need-returns-2
-returns-2 c = let a = c .before .before .before .before .before .args in not-headed (a .h .now) (a .w .now) (a .reml) (sym (c .before .before .is-headed .ensures) ∙ c .before .if1 .left) _ (c .refused .ensures)
+returns-2 c = let a = c.before.before.before.before.before.args in not-headed a.h.now a.w.now a.reml (sym c.before.before.is-headed.ensures ∙ c.before.if1.left) _ c.refused.ensures
 
 pub deviance-from-factor-spec : {M : Type 1} → statement M
-deviance-from-factor-spec =
-    tie.close
-    (tie.spec is-headed-requires of-workspace-requires returns refused-requires returns-2)
+deviance-from-factor-spec = tie.close (tie.spec (λ c κs. search needs) of-workspace-requires (λ c. search needs)
+    (λ c κs. search needs) returns-2)

@@ -3,85 +3,35 @@ use denote.Ref.{now}
 use mathlib.Core.Path.{subst}
 use Rattle.sheet.specs.Sheet.{readSheet}
 use Rattle.sheet.specs.Answer.{Answers}
-use Rattle.refusal_text.proofs.Texts.{goes-on, long-out, read-out, unread-out}
+use Rattle.factor_text.proofs.refusal_text.Texts.{goes-on, long-out, read-out, unread-out}
 use Rattle.factor_text.proofs.Room.{too-little, enough}
 use borrow.Author.Needs.{needs}
 use Rattle.factor_text.proofs.factor.Statement.{statement}
 use Rattle.factor_text.proofs.factor.Tie as tie
-use Rattle.factor_text.proofs.factor.Reads as reads
-use Rattle.factor_text.proofs.factor.Lts as lts
-use Rattle.factor_text.proofs.put_sheet.Reads as put-sheet-reads
-use Rattle.faults.proofs.first_answer.Reads as first-answer-reads
-use Rattle.refusal_text.proofs.put_refusal.Reads as put-refusal-reads
 
 returns : tie.Need-returns
-returns c =
-    let a = c .before .before .before .args in
-    too-little (now (a .input)) (now (a .out)) (c .if1 .taken)
-
-put-refusal-requires : tie.Need-put-refusal-requires
-put-refusal-requires c κs = search needs
-
-same-length : tie.Need-same-length
-same-length c = search needs
+returns c = let a = c.before.before.before.args in too-little (now a.input) (now a.out) c.if1.taken
 
 returns-2 : tie.Need-returns-2
-returns-2 c =
-    let a = c .before .before .before .before .before .before .before .before .args in
-    let room = c .before .before .before .before .before .if1 .left in
-    enough _ _ _ _ room (long-out (now (a .input)) _ (now (a .out)) _ room (c .before .before .before .before .if2 .taken) (c .before .before .put-refusal .ensures))
-
-first-answer-requires : tie.Need-first-answer-requires
-first-answer-requires c κs = search needs
-
-enum-known-r : tie.Need-enum-known-r
-enum-known-r c = search needs
+returns-2 c = let a = c.before.before.before.before.before.before.before.before.args in
+    let room = c.before.before.before.before.before.if1.left in
+    enough _ _ _ _ room (long-out (now a.input) _ (now a.out) _ room c.before.before.before.before.if2.taken c.before.before.put-refusal.ensures)
 
 put-sheet-requires : tie.Need-put-sheet-requires
-put-sheet-requires c κs =
-    let s = now (c .before .before .before .before .before .before .before .before .before .args .input) in
-    (goes-on s _ (subst (Answers (readSheet s)) (c .before .before .r .given .1) (c .before .before .before .before .first-answer .ensures)), c .before .before .before .before .before .before .if1 .left)
-
-enum-known-r-2 : tie.Need-enum-known-r-2
-enum-known-r-2 c = search needs
-
-put-refusal-requires-2 : tie.Need-put-refusal-requires-2
-put-refusal-requires-2 c κs = search needs
-
-same-length-2 : tie.Need-same-length-2
-same-length-2 c = search needs
+put-sheet-requires c κs = let s = now c.before.before.before.before.before.before.before.before.before.args.input in
+    (goes-on s _ (subst (Answers (readSheet s)) c.before.before.r.given.1 c.before.before.before.before.first-answer.ensures), c.before.before.before.before.before.before.if1.left)
 
 returns-3 : tie.Need-returns-3
-returns-3 c =
-    let a = c .before .before .before .before .before .before .before .before .before .before .before .before .args in
-    let s = now (a .input) in
-    let room = c .before .before .before .before .before .before .before .before .before .if1 .left in
-    enough _ _ _ _ room (read-out s _ (now (a .out)) _ room (c .before .before .before .before .before .before .before .before .if2 .left) _ (subst (Answers (readSheet s)) (c .before .before .before .before .before .r .given .1) (c .before .before .before .before .before .before .before .first-answer .ensures)) (c .before .before .put-sheet .ensures))
-
-same-length-3 : tie.Need-same-length-3
-same-length-3 c = search needs
+returns-3 c = let a = c.before.before.before.before.before.before.before.before.before.before.before.before.args in
+    let s = now a.input in let room = c.before.before.before.before.before.before.before.before.before.if1.left in
+    enough _ _ _ _ room (read-out s _ (now a.out) _ room c.before.before.before.before.before.before.before.before.if2.left _ (subst (Answers (readSheet s)) c.before.before.before.before.before.r.given.1 c.before.before.before.before.before.before.before.first-answer.ensures) c.before.before.put-sheet.ensures)
 
 returns-4 : tie.Need-returns-4
-returns-4 c =
-    let a = c .before .before .before .before .before .before .before .before .before .before .before .before .args in
-    let s = now (a .input) in
-    let room = c .before .before .before .before .before .before .before .before .before .if1 .left in
-    enough _ _ _ _ room (unread-out s _ (now (a .out)) _ room (c .before .before .before .before .before .before .before .before .if2 .left) _ _ (subst (Answers (readSheet s)) (c .before .before .before .before .before .r2 .given .1) (c .before .before .before .before .before .before .before .first-answer .ensures)) (c .before .before .put-refusal2 .ensures))
+returns-4 c = let a = c.before.before.before.before.before.before.before.before.before.before.before.before.args in
+    let s = now a.input in let room = c.before.before.before.before.before.before.before.before.before.if1.left in
+    enough _ _ _ _ room (unread-out s _ (now a.out) _ room c.before.before.before.before.before.before.before.before.if2.left _ _ (subst (Answers (readSheet s)) c.before.before.before.before.before.r2.given.1 c.before.before.before.before.before.before.before.first-answer.ensures) c.before.before.put-refusal2.ensures)
 
 pub factor-spec : {M : Type 1} → statement M
-factor-spec =
-    tie.close
-    (tie.spec
-    returns
-    put-refusal-requires
-    same-length
-    returns-2
-    first-answer-requires
-    enum-known-r
-    put-sheet-requires
-    enum-known-r-2
-    put-refusal-requires-2
-    same-length-2
-    returns-3
-    same-length-3
-    returns-4)
+factor-spec = tie.close (tie.spec returns (λ c κs. search needs) (λ c. search needs) returns-2 (λ c κs. search needs)
+    (λ c. search needs) put-sheet-requires (λ c. search needs) (λ c κs. search needs) (λ c. search needs) returns-3
+    (λ c. search needs) returns-4)

@@ -12,49 +12,13 @@ use Rattle.re_factor.proofs.Lends.{lent-factor}
 use borrow.Author.Needs.{needs}
 use Rattle.re_factor.proofs.chol_diagonal.Statement.{statement}
 use Rattle.re_factor.proofs.chol_diagonal.Tie as tie
-use Rattle.re_factor.proofs.chol_diagonal.Reads as reads
-use Rattle.re_factor.proofs.chol_diagonal.Lts as lts
-use Rattle.diagonal_chol.proofs.chol_diagonal.Reads as chol-diagonal-reads
-
-add-end : tie.Need-add-end
-add-end c = search needs
-
-mul-chol-diagonal : tie.Need-mul-chol-diagonal
-mul-chol-diagonal c = search needs
-
-sub-chol-diagonal : tie.Need-sub-chol-diagonal
-sub-chol-diagonal c = search needs
-
-part-chol-diagonal-start : tie.Need-part-chol-diagonal-start
-part-chol-diagonal-start c = search needs
-
-part-chol-diagonal-end : tie.Need-part-chol-diagonal-end
-part-chol-diagonal-end c = search needs
-
-chol-diagonal-requires : tie.Need-chol-diagonal-requires
-chol-diagonal-requires c κs = search needs
-
-same-length : tie.Need-same-length
-same-length c = search needs
 
 returns : tie.Need-returns
-returns c =
-    let a = c .before .before .before .before .before .args in
-    let p = c .before .before .chol-diagonal in
-    let k = start-single (a .n) in
-    lent-factor (a .w .now) (a .off) _ (sizeOf (diagonal (a .n))) (sym k) (omega arith) (p .last .0)
-    (λ x. pivots ieee (λ r. cell (ieee .zero) (diagonal (a .n)) x r r) (a .n)) (λ x. leftOfDiagonal (λ r. cell (ieee .zero) (diagonal (a .n)) x r r) (a .n)) (p .result)
-    (λ e. omega (arith, diagonal-room (pivotAt (a .off) (diagonal (a .n)) (a .w .now)) (a .n) (p .result) e)) (p .ensures .answer) (p .ensures .left)
+returns c = let a = c.before.before.before.before.before.args in let p = c.before.before.chol-diagonal in
+    let k = start-single a.n in lent-factor a.w.now a.off _ (sizeOf (diagonal a.n)) (sym k) (omega arith) p.last.0
+    (λ x. pivots ieee (λ r. cell ieee.zero (diagonal a.n) x r r) a.n) (λ x. leftOfDiagonal (λ r. cell ieee.zero (diagonal a.n) x r r) a.n) p.result
+    (λ e. omega (arith, diagonal-room (pivotAt a.off (diagonal a.n) a.w.now) a.n p.result e)) p.ensures.answer p.ensures.left
 
 pub chol-diagonal-spec : {M : Type 1} → statement M
-chol-diagonal-spec =
-    tie.close
-    (tie.spec
-    add-end
-    mul-chol-diagonal
-    sub-chol-diagonal
-    part-chol-diagonal-start
-    part-chol-diagonal-end
-    chol-diagonal-requires
-    same-length
-    returns)
+chol-diagonal-spec = tie.close (tie.spec (λ c. search needs) (λ c. search needs) (λ c. search needs) (λ c. search needs)
+    (λ c. search needs) (λ c κs. search needs) (λ c. search needs) returns)

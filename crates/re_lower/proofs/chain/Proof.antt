@@ -8,8 +8,6 @@ use Rattle.re_lower.specs.Lower.{chained}
 use Rattle.re_lower.proofs.Turns.{chain-turn}
 use Rattle.re_lower.proofs.chain.Statement.{statement}
 use Rattle.re_lower.proofs.chain.Tie as tie
-use Rattle.re_lower.proofs.chain.Reads as reads
-use Rattle.re_lower.proofs.chain.Lts as lts
 
 abbrev Inv-loop : tie.InvT-loop
 Inv-loop t a b n s v₀ y₀ v y = (y ≤ n) × (v ≡ chained s t a t b y)
@@ -21,52 +19,13 @@ loop-holds : tie.Need-loop-holds Inv-loop μ-loop
 unfolding lessFrom
 loop-holds c = (omega arith, refl)
 
-add-v : tie.Need-add-v Inv-loop μ-loop
-add-v c = omega arith
-
-mul-v : tie.Need-mul-v Inv-loop μ-loop
-mul-v c = omega arith
-
-shared-slice-read-v : tie.Need-shared-slice-read-v Inv-loop μ-loop
-shared-slice-read-v c = omega arith
-
-add-v-2 : tie.Need-add-v-2 Inv-loop μ-loop
-add-v-2 c = omega arith
-
-mul-v-2 : tie.Need-mul-v-2 Inv-loop μ-loop
-mul-v-2 c = omega arith
-
-shared-slice-read-v-2 : tie.Need-shared-slice-read-v-2 Inv-loop μ-loop
-shared-slice-read-v-2 c = omega arith
-
-add-y : tie.Need-add-y Inv-loop μ-loop
-add-y c = omega arith
-
-loop-less : tie.Need-loop-less Inv-loop μ-loop
-loop-less c = omega arith
-
 loop-again : tie.Need-loop-again Inv-loop μ-loop
-loop-again c = let a = c .before .before .before .before .args in
-    let l = c .before .before .before .loop in
-    (omega arith, rw add-one (chain-turn (a .s) (l .v) (a .t .now) (a .t .now) (a .a) (a .b) (l .y) _ _ refl refl (omega arith) (omega arith) (l .inv .1)))
+loop-again c = let a = c.before.before.before.before.args in let l = c.before.before.before.loop in
+    (omega arith, rw add-one (chain-turn a.s l.v a.t.now a.t.now a.a a.b l.y _ _ refl refl (omega arith) (omega arith) l.inv.1))
 
 returns : tie.Need-returns Inv-loop μ-loop
 returns c = let e : c .before .loop .y ≡ c .before .before .args .n = omega arith in cc
 
 pub chain-spec : {M : Type 1} → statement M
-chain-spec =
-    tie.close
-    (tie.spec
-    Inv-loop
-    μ-loop
-    loop-holds
-    add-v
-    mul-v
-    shared-slice-read-v
-    add-v-2
-    mul-v-2
-    shared-slice-read-v-2
-    add-y
-    loop-less
-    loop-again
-    returns)
+chain-spec = tie.close (tie.spec Inv-loop μ-loop loop-holds (λ c. omega arith) (λ c. omega arith) (λ c. omega arith)
+    (λ c. omega arith) (λ c. omega arith) (λ c. omega arith) (λ c. omega arith) (λ c. omega arith) loop-again returns)

@@ -1,73 +1,38 @@
 -- `solve_profile::of_workspace`: 25, 13, or the solution.
 use mathlib.Core.Path.{ap, _∙_}
-use Rattle.heading_rules.specs.declared.Progress.{Progress}
-use Rattle.heading_rules.proofs.Fits.{fits}
+use Rattle.heading_format.specs.declared.Progress.{Progress}
+use Rattle.heading_format.proofs.Fits.{fits}
 use Rattle.profile.specs.Deviance.{isFinished}
 use Rattle.solve_profile.proofs.Call.{is-lawful-layout, finishes, other-length, not-finished}
 use borrow.Author.Needs.{needs}
 use Rattle.solve_profile.proofs.of_workspace.Statement.{statement}
 use Rattle.solve_profile.proofs.of_workspace.Tie as tie
-use Rattle.solve_profile.proofs.of_workspace.Reads as reads
-use Rattle.solve_profile.proofs.of_workspace.Lts as lts
-use Rattle.deviance.proofs.is_finished.Reads as is-finished-reads
-use Rattle.deviance.proofs.refused.Reads as refused-reads
-use Rattle.heading.proofs.layout.Reads as layout-reads
-use Rattle.heading.proofs.progress.Reads as progress-reads
-use Rattle.solution_places.proofs.whole_length.Reads as whole-length-reads
-use Rattle.solve_profile.proofs.of_factor.Reads as of-factor-reads
 
 layout-requires : tie.Need-layout-requires
-layout-requires c κs = let s = c .before .before .before in fits (s .args .h .now) _ (s .pre) .long
+layout-requires c κs = let s = c.before.before.before in fits s.args.h.now _ s.pre .long
 
 progress-requires : tie.Need-progress-requires
-progress-requires c κs = let s = c .before .before .before .before in fits (s .args .h .now) _ (s .pre) .long
-
-is-finished-requires : tie.Need-is-finished-requires
-is-finished-requires c κs = search needs
+progress-requires c κs = let s = c.before.before.before.before in fits s.args.h.now _ s.pre .long
 
 whole-length-requires : tie.Need-whole-length-requires
-whole-length-requires c κs = let s = c .before .before .before .before .before .before .before in is-lawful-layout (s .args .h .now) (s .args .w .now) (s .pre) _ (c .before .before .before .layout .ensures)
+whole-length-requires c κs = let s = c.before.before.before.before.before.before.before in is-lawful-layout s.args.h.now s.args.w.now s.pre _ c.before.before.before.layout.ensures
 
 of-factor-requires : tie.Need-of-factor-requires
 of-factor-requires c κs =
-    let s = c .before .before .before .before .before .before .before .before .before .before in (c .before .before .before .before .before .before .layout .ensures, fits (s .args .h .now) _ (s .pre), c .before .if2 .taken ∙ c .before .before .whole-length .ensures)
-
-same-length : tie.Need-same-length
-same-length c = search needs
+    let s = c.before.before.before.before.before.before.before.before.before.before in (c.before.before.before.before.before.before.layout.ensures, fits s.args.h.now _ s.pre, c.before.if2.taken ∙ c.before.before.whole-length.ensures)
 
 returns : tie.Need-returns
-returns c =
-    let s = c .before .before .before .before .before .before .before .before .before .before .before .before .before in
-    finishes (s .args .h .now) (s .args .w .now) (s .args .reml) (s .args .out .now) (s .pre) _ (c .before .before .before .before .before .before .before .is-finished .ensures ∙ ap (λ (g : Progress). isFinished (g .state)) (c .before .before .before .before .before .before .before .before .progress .ensures)) (c .before .before .before .before .before .before .if1 .taken) _ (c .before .before .before .before .before .before .before .before .before .layout .ensures) _ (c .before .before .before .before .before .whole-length .ensures) (c .before .before .before .before .if2 .taken) _ _ (c .before .before .of-factor .ensures)
-
-refused-requires : tie.Need-refused-requires
-refused-requires c κs = search needs
+returns c = let s = c.before.before.before.before.before.before.before.before.before.before.before.before.before in
+    finishes s.args.h.now s.args.w.now s.args.reml s.args.out.now s.pre _ (c.before.before.before.before.before.before.before.is-finished.ensures ∙ ap (λ (g : Progress). isFinished g.state) c.before.before.before.before.before.before.before.before.progress.ensures) c.before.before.before.before.before.before.if1.taken _ c.before.before.before.before.before.before.before.before.before.layout.ensures _ c.before.before.before.before.before.whole-length.ensures c.before.before.before.before.if2.taken _ _ c.before.before.of-factor.ensures
 
 returns-2 : tie.Need-returns-2
-returns-2 c =
-    let s = c .before .before .before .before .before .before .before .before .before .before in
-    other-length (s .args .h .now) (s .args .w .now) (s .args .reml) (s .args .out .now) (s .pre) _ (c .before .before .before .before .is-finished .ensures ∙ ap (λ (g : Progress). isFinished (g .state)) (c .before .before .before .before .before .progress .ensures)) (c .before .before .before .if1 .taken) _ (c .before .before .before .before .before .before .layout .ensures) _ (c .before .before .whole-length .ensures) (c .before .if2 .left) _ (c .refused .ensures)
-
-refused-requires-2 : tie.Need-refused-requires-2
-refused-requires-2 c κs = search needs
+returns-2 c = let s = c.before.before.before.before.before.before.before.before.before.before in
+    other-length s.args.h.now s.args.w.now s.args.reml s.args.out.now s.pre _ (c.before.before.before.before.is-finished.ensures ∙ ap (λ (g : Progress). isFinished g.state) c.before.before.before.before.before.progress.ensures) c.before.before.before.if1.taken _ c.before.before.before.before.before.before.layout.ensures _ c.before.before.whole-length.ensures c.before.if2.left _ c.refused.ensures
 
 returns-3 : tie.Need-returns-3
-returns-3 c =
-    let s = c .before .before .before .before .before .before .before .before in
-    not-finished (s .args .h .now) (s .args .w .now) (s .args .reml) (s .args .out .now) (s .pre) _ (c .before .before .is-finished .ensures ∙ ap (λ (g : Progress). isFinished (g .state)) (c .before .before .before .progress .ensures)) (c .before .if1 .left) _ (c .refused2 .ensures)
+returns-3 c = let s = c.before.before.before.before.before.before.before.before in
+    not-finished s.args.h.now s.args.w.now s.args.reml s.args.out.now s.pre _ (c.before.before.is-finished.ensures ∙ ap (λ (g : Progress). isFinished g.state) c.before.before.before.progress.ensures) c.before.if1.left _ c.refused2.ensures
 
 pub of-workspace-spec : {M : Type 1} → statement M
-of-workspace-spec =
-    tie.close
-    (tie.spec
-    layout-requires
-    progress-requires
-    is-finished-requires
-    whole-length-requires
-    of-factor-requires
-    same-length
-    returns
-    refused-requires
-    returns-2
-    refused-requires-2
-    returns-3)
+of-workspace-spec = tie.close (tie.spec layout-requires progress-requires (λ c κs. search needs) whole-length-requires
+    of-factor-requires (λ c. search needs) returns (λ c κs. search needs) returns-2 (λ c κs. search needs) returns-3)

@@ -2,74 +2,38 @@
 use Prim.Native.Nat.{_≤_}
 use mathlib.Core.Path.{sym, subst}
 use Rattle.layout.specs.declared.Layout.{Layout}
-use Rattle.heading_rules.proofs.Fits.{fits}
+use Rattle.heading_format.proofs.Fits.{fits}
 use Rattle.update.specs.Names.{stepOfName}
 use Rattle.step.proofs.Turns.{few-blocks, fault-now, is-ready, taken, name-refused}
 use borrow.Author.Needs.{needs}
 use Rattle.step.proofs.step_headed.Statement.{statement}
 use Rattle.step.proofs.step_headed.Tie as tie
-use Rattle.step.proofs.step_headed.Reads as reads
-use Rattle.step.proofs.step_headed.Lts as lts
-use Rattle.heading.proofs.layout.Reads as layout-reads
-use Rattle.heading.proofs.progress.Reads as progress-reads
-use Rattle.names.proofs.fault.Reads as fault-reads
-use Rattle.step.proofs.take_ready.Reads as take-ready-reads
 
 layout-requires : tie.Need-layout-requires
-layout-requires c κs =
-    let s = c .before .before .before in
-    let a = s .args in
-    fits (a .h .now) _ (s .pre) .long
+layout-requires c κs = let s = c.before.before.before in let a = s.args in fits a.h.now _ s.pre .long
 
 progress-requires : tie.Need-progress-requires
-progress-requires c κs =
-    let s = c .before .before .before .before .before in
-    let a = s .args in
-    fits (a .h .now) _ (s .pre) .long
+progress-requires c κs = let s = c.before.before.before.before.before in let a = s.args in fits a.h.now _ s.pre .long
 
 fault-requires : tie.Need-fault-requires
-fault-requires c κs =
-    let s = c .before .before .before .before .before .before in
-    let a = s .args in
-    subst (λ (z : Layout). z .k ≤ 8) (sym (c .before .before .layout .ensures)) (few-blocks (a .h .now) (a .w .now) (stepOfName (a .name)) (s .pre))
+fault-requires c κs = let s = c.before.before.before.before.before.before in let a = s.args in
+    subst (λ (z : Layout). z .k ≤ 8) (sym c.before.before.layout.ensures) (few-blocks a.h.now a.w.now (stepOfName a.name) s.pre)
 
 take-ready-requires : tie.Need-take-ready-requires
-take-ready-requires c κs =
-    let s = c .before .before .before .before .before .before .before .before .before .before in
-    let a = s .args in
-    is-ready (a .h .now) (a .w .now) (stepOfName (a .name)) (s .pre) _ (fault-now (a .h .now) (stepOfName (a .name)) _ _ (c .before .before .before .before .before .before .layout .ensures) (c .before .before .before .before .progress .ensures) (c .before .before .before .fault .ensures)) (c .before .before .if1 .taken)
-
-same-length : tie.Need-same-length
-same-length c = search needs
-
-same-length-2 : tie.Need-same-length-2
-same-length-2 c = search needs
+take-ready-requires c κs = let s = c.before.before.before.before.before.before.before.before.before.before in
+    let a = s.args in
+    is-ready a.h.now a.w.now (stepOfName a.name) s.pre _ (fault-now a.h.now (stepOfName a.name) _ _ c.before.before.before.before.before.before.layout.ensures c.before.before.before.before.progress.ensures c.before.before.before.fault.ensures) c.before.before.if1.taken
 
 returns : tie.Need-returns
 returns c =
-    let s = c .before .before .before .before .before .before .before .before .before .before .before .before .before .before .before in
-    let a = s .args in
-    taken (a .h .now) (a .w .now) (stepOfName (a .name)) (s .pre) _ (fault-now (a .h .now) (stepOfName (a .name)) _ _ (c .before .before .before .before .before .before .before .before .before .before .before .layout .ensures) (c .before .before .before .before .before .before .before .before .before .progress .ensures) (c .before .before .before .before .before .before .before .before .fault .ensures)) (c .before .before .before .before .before .before .before .if1 .taken) _ (c .before .before .before .before .take-ready .ensures)
-
-same-length-3 : tie.Need-same-length-3
-same-length-3 c = search needs
+    let s = c.before.before.before.before.before.before.before.before.before.before.before.before.before.before.before in
+    let a = s.args in
+    taken a.h.now a.w.now (stepOfName a.name) s.pre _ (fault-now a.h.now (stepOfName a.name) _ _ c.before.before.before.before.before.before.before.before.before.before.before.layout.ensures c.before.before.before.before.before.before.before.before.before.progress.ensures c.before.before.before.before.before.before.before.before.fault.ensures) c.before.before.before.before.before.before.before.if1.taken _ c.before.before.before.before.take-ready.ensures
 
 returns-2 : tie.Need-returns-2
-returns-2 c =
-    let s = c .before .before .before .before .before .before .before .before in
-    let a = s .args in
-    name-refused (a .h .now) (a .w .now) (stepOfName (a .name)) (s .pre) _ (fault-now (a .h .now) (stepOfName (a .name)) _ _ (c .before .before .before .before .layout .ensures) (c .before .before .progress .ensures) (c .before .fault .ensures)) (c .if1 .left)
+returns-2 c = let s = c.before.before.before.before.before.before.before.before in let a = s.args in
+    name-refused a.h.now a.w.now (stepOfName a.name) s.pre _ (fault-now a.h.now (stepOfName a.name) _ _ c.before.before.before.before.layout.ensures c.before.before.progress.ensures c.before.fault.ensures) c.if1.left
 
 pub step-headed-spec : {M : Type 1} → statement M
-step-headed-spec =
-    tie.close
-    (tie.spec
-    layout-requires
-    progress-requires
-    fault-requires
-    take-ready-requires
-    same-length
-    same-length-2
-    returns
-    same-length-3
-    returns-2)
+step-headed-spec = tie.close (tie.spec layout-requires progress-requires fault-requires take-ready-requires
+    (λ c. search needs) (λ c. search needs) returns (λ c. search needs) returns-2)

@@ -2,62 +2,36 @@
 use mathlib.Core.Bool.{true}
 use lib.ListN.{length}
 use mathlib.Core.Path.{sym, _∙_}
-use Rattle.heading_rules.proofs.Fits.{fits}
+use Rattle.heading_format.proofs.Fits.{fits}
 use Rattle.layout.specs.Shapes.{pick, shape}
-use Rattle.heading_rules.specs.Heading.{layoutOf, entryRow}
+use Rattle.heading_format.specs.Heading.{layoutOf, entryRow}
 use Rattle.workspace.specs.Memory.{cellOf, workingBlock}
-use Rattle.deviance_tail.proofs.Tails.{workspace}
+use Rattle.deviance.proofs.deviance_tail.Tails.{workspace}
 use Rattle.views.specs.declared.Look.the-variants.{Value, Absent}
-use Rattle.pivot_places.specs.Pivots.{isPivot}
+use Rattle.views.specs.pivot_places.Pivots.{isPivot}
 use Rattle.views.proofs.Looks.{not-headed, not-finished, finished, pivot-same}
 use borrow.Author.Needs.{needs}
 use Rattle.views.proofs.pivot.Statement.{statement}
 use Rattle.views.proofs.pivot.Tie as tie
-use Rattle.views.proofs.pivot.Reads as reads
-use Rattle.views.proofs.pivot.Lts as lts
-use Rattle.deviance.proofs.refused.Reads as refused-reads
-use Rattle.headed.proofs.is_headed.Reads as is-headed-reads
-use Rattle.heading.proofs.layout.Reads as layout-reads
-use Rattle.views.proofs.has_factor.Reads as has-factor-reads
-use Rattle.views.proofs.pivot_or_absent.Reads as pivot-or-absent-reads
-
-is-headed-requires : tie.Need-is-headed-requires
-is-headed-requires c κs = search needs
 
 has-factor-requires : tie.Need-has-factor-requires
-has-factor-requires c κs = let a = c .before .before .before .before .args in fits (a .h .now) (length (a .w .now)) (sym (c .before .is-headed .ensures) ∙ c .if1 .taken) .long
+has-factor-requires c κs = let a = c.before.before.before.before.args in fits a.h.now (length a.w.now) (sym c.before.is-headed.ensures ∙ c.if1.taken) .long
 
 layout-requires : tie.Need-layout-requires
-layout-requires c κs = let a = c .before .before .before .before .before .before .args in fits (a .h .now) (length (a .w .now)) (sym (c .before .before .before .is-headed .ensures) ∙ c .before .before .if1 .taken) .long
+layout-requires c κs = let a = c.before.before.before.before.before.before.args in fits a.h.now (length a.w.now) (sym c.before.before.before.is-headed.ensures ∙ c.before.before.if1.taken) .long
 
 pivot-or-absent-requires : tie.Need-pivot-or-absent-requires
-pivot-or-absent-requires c κs = let a = c .before .before .before .before .before .before .before .args in workspace (a .h .now) (a .w .now) true (sym (c .before .before .before .before .is-headed .ensures) ∙ c .before .before .before .if1 .taken) _ (c .layout .ensures)
+pivot-or-absent-requires c κs = let a = c.before.before.before.before.before.before.before.args in workspace a.h.now a.w.now true (sym c.before.before.before.before.is-headed.ensures ∙ c.before.before.before.if1.taken) _ c.layout.ensures
 
 returns : tie.Need-returns
-returns c = let a = c .before .before .before .before .before .before .before .before .args in finished (a .h .now) (a .w .now) (pick (isPivot (layoutOf (a .h .now)) (a .block) (a .row)) (Value (cellOf (shape (layoutOf (a .h .now)) (entryRow (a .h .now)) (a .block) (a .block)) (workingBlock (a .h .now) (a .w .now) (a .block) (a .block)) (a .row) (a .row))) Absent) _ (c .before .before .before .before .before .is-headed .ensures) (c .before .before .before .before .if1 .taken) _ (c .before .before .before .has-factor .ensures) (c .before .before .if2 .taken) _ (pivot-same (a .h .now) (a .w .now) (a .block) (a .row) _ _ (c .before .layout .ensures) (c .pivot-or-absent .ensures))
-
-refused-requires : tie.Need-refused-requires
-refused-requires c κs = search needs
+returns c = let a = c.before.before.before.before.before.before.before.before.args in finished a.h.now a.w.now (pick (isPivot (layoutOf a.h.now) a.block a.row) (Value (cellOf (shape (layoutOf a.h.now) (entryRow a.h.now) a.block a.block) (workingBlock a.h.now a.w.now a.block a.block) a.row a.row)) Absent) _ c.before.before.before.before.before.is-headed.ensures c.before.before.before.before.if1.taken _ c.before.before.before.has-factor.ensures c.before.before.if2.taken _ (pivot-same a.h.now a.w.now a.block a.row _ _ c.before.layout.ensures c.pivot-or-absent.ensures)
 
 returns-2 : tie.Need-returns-2
-returns-2 c = let a = c .before .before .before .before .before .before .before .args in not-finished (a .h .now) (a .w .now) (pick (isPivot (layoutOf (a .h .now)) (a .block) (a .row)) (Value (cellOf (shape (layoutOf (a .h .now)) (entryRow (a .h .now)) (a .block) (a .block)) (workingBlock (a .h .now) (a .w .now) (a .block) (a .block)) (a .row) (a .row))) Absent) _ (c .before .before .before .before .is-headed .ensures) (c .before .before .before .if1 .taken) _ (c .before .before .has-factor .ensures) (c .before .if2 .left) _ (c .refused .ensures)
-
-refused-requires-2 : tie.Need-refused-requires-2
-refused-requires-2 c κs = search needs
+returns-2 c = let a = c.before.before.before.before.before.before.before.args in not-finished a.h.now a.w.now (pick (isPivot (layoutOf a.h.now) a.block a.row) (Value (cellOf (shape (layoutOf a.h.now) (entryRow a.h.now) a.block a.block) (workingBlock a.h.now a.w.now a.block a.block) a.row a.row)) Absent) _ c.before.before.before.before.is-headed.ensures c.before.before.before.if1.taken _ c.before.before.has-factor.ensures c.before.if2.left _ c.refused.ensures
 
 returns-3 : tie.Need-returns-3
-returns-3 c = let a = c .before .before .before .before .before .args in not-headed (a .h .now) (a .w .now) (pick (isPivot (layoutOf (a .h .now)) (a .block) (a .row)) (Value (cellOf (shape (layoutOf (a .h .now)) (entryRow (a .h .now)) (a .block) (a .block)) (workingBlock (a .h .now) (a .w .now) (a .block) (a .block)) (a .row) (a .row))) Absent) _ (c .before .before .is-headed .ensures) (c .before .if1 .left) _ (c .refused2 .ensures)
+returns-3 c = let a = c.before.before.before.before.before.args in not-headed a.h.now a.w.now (pick (isPivot (layoutOf a.h.now) a.block a.row) (Value (cellOf (shape (layoutOf a.h.now) (entryRow a.h.now) a.block a.block) (workingBlock a.h.now a.w.now a.block a.block) a.row a.row)) Absent) _ c.before.before.is-headed.ensures c.before.if1.left _ c.refused2.ensures
 
 pub pivot-spec : {M : Type 1} → statement M
-pivot-spec =
-    tie.close
-    (tie.spec
-    is-headed-requires
-    has-factor-requires
-    layout-requires
-    pivot-or-absent-requires
-    returns
-    refused-requires
-    returns-2
-    refused-requires-2
-    returns-3)
+pivot-spec = tie.close (tie.spec (λ c κs. search needs) has-factor-requires layout-requires pivot-or-absent-requires
+    returns (λ c κs. search needs) returns-2 (λ c κs. search needs) returns-3)

@@ -1,0 +1,126 @@
+-- What begin makes of a block of each kind, by the block's shape.
+use Prim.Native.Nat.{ℕ, _+_, _≤_, _<_}
+use mathlib.Core.Path.{_≡_, refl, ap, _∙_}
+use mathlib.Core.Bool.{Bool, true, false, cond}
+use mathlib.Core.List.{List}
+use native.Mathlib.Omega.{arith}
+use lib.Dec.{eqb}
+use lib.ListN.{length}
+use lib.Ieee.{Float}
+use borrow.Author.Tests.{eqb-true, eq-eqb, ne-eqb, lt-ltb, le-ltb}
+use Rattle.storage.specs.Shape.{Shape, packed, diagonal, fill}
+use Rattle.storage.specs.Part.{part, store}
+use Rattle.storage.proofs.Blocks.{length-fill}
+use Rattle.rules.specs.Arithmetic.{ieee}
+use Rattle.rules.specs.Begin.{diagonalCell, crossCell, fixedCell}
+use Rattle.layout.specs.declared.Layout.{Layout}
+use Rattle.layout.specs.Shapes.{pick, levels, shape, loadedShape, sizes, loadedSizes, loadedAt, workingAt, sumAt, doublesNeeded}
+use Rattle.layout.proofs.Formula.{loaded-last}
+use Rattle.layout.proofs.Places.{size-working, size-loaded, loaded-inside, working-behind, working-inside}
+use Rattle.workspace.specs.Memory.{cellOf}
+use Rattle.re_factor.specs.Factor as factor
+use Rattle.cross_block.specs.Blocks.{scaledTwice, scaledOnce}
+use Rattle.update.specs.Working.{started}
+use Rattle.block_places.specs.block_kinds.Rows.{isDiagonal}
+use Rattle.block_places.proofs.block_kinds.Shapes.{rows-level, diagonal-shape, packed-shape, loaded-pair}
+use Rattle.begin.specs.scaled_blocks.Started.{startedBlock}
+
+-- ---- shapes
+
+module _ (y : Layout) (j : ℕ) where
+  module _ (row : ℕ → ℕ) (h : j < y .k) where
+    -- a diagonal factor, and a triangle
+    pub shape-diagonal : isDiagonal y j ≡ true → shape y row j j ≡ diagonal (levels y j)
+    shape-diagonal e = diagonal-shape y row j (λ q. omega arith) e ∙ ap diagonal (rows-level y j h)
+
+    pub shape-packed : isDiagonal y j ≡ false → shape y row j j ≡ packed (levels y j)
+    shape-packed e = packed-shape y row j (λ q. omega arith) e ∙ ap packed (rows-level y j h)
+
+    -- its loaded block
+    pub shape-loaded : loadedShape y row j j ≡ diagonal (levels y j)
+    unfolding loadedShape
+    shape-loaded = rw (eq-eqb j j refl, lt-ltb j y.k h) refl
+
+module _ (y : Layout) (row : ℕ → ℕ) where
+  -- the last block is loaded as it works
+  pub shape-last : loadedShape y row (y .k) (y .k) ≡ shape y row (y .k) (y .k)
+  unfolding loadedShape
+  shape-last = rw (eq-eqb y.k y.k refl, le-ltb y.k y.k (omega arith)) refl
+
+-- ---- room: block (i, j) lies behind its loaded block, and both lie within the doubles
+pub record Room (y : Layout) (len i j : ℕ) : Type 0 where
+  pub working : workingAt y i j + sizes y i j ≤ len
+  pub loaded : loadedAt y i j + loadedSizes y i j ≤ len
+  pub apart : loadedAt y i j + loadedSizes y i j ≤ workingAt y i j
+
+pub room : (y : Layout) (len : ℕ) → doublesNeeded y ≤ len → (i j : ℕ) → j ≤ i → i ≤ y .k → Room y len i j
+room y len fits i j h g =
+    let a : workingAt y i j + sizes y i j ≤ sumAt y = working-inside y i j h g in
+    record {
+      working = omega arith;
+      loaded = omega (arith, loaded-inside y i j h g, working-behind y i j h g);
+      apart = omega (arith, loaded-inside y i j h g, working-behind y i j h g);
+    }
+
+-- ---- blocks
+
+module _ (y : Layout) (row : ℕ → ℕ) (t : ℕ → Float) where
+  -- `started` by its tests and its shapes
+  abbrev made : (last fixed own : Bool) (s d : Shape) (i j : ℕ) → List Float → List Float
+  made last fixed own s d i j a =
+      pick last a
+      (fill s
+      (pick fixed (λ r c. fixedCell ieee (t j) (cellOf d a r c))
+      (pick own (λ r c. cond (eqb r c) (diagonalCell ieee (t j) (cellOf d a r r)) ieee.zero) (λ r c. crossCell ieee (t j) (t i) (cellOf d a r c)))))
+
+  pub is-made : (loaded : ℕ → ℕ → Bool) (i j : ℕ) (a : List Float)
+      → started y row loaded t i j a ≡ made (eqb j (y .k)) (eqb i (y .k)) (eqb i j) (shape y row i j) (loadedShape y row i j) i j a
+  unfolding started
+  is-made loaded i j a = refl
+
+  module _ (i j : ℕ) (v : List Float) where
+    abbrev source : List Float
+    source = part (loadedAt y i j) (loadedSizes y i j) v
+
+    block-made : startedBlock y row t i j v
+        ≡ store (workingAt y i j) (made (eqb j (y .k)) (eqb i (y .k)) (eqb i j) (shape y row i j) (loadedShape y row i j) i j source) v
+    unfolding startedBlock
+    block-made = ap (λ (l : List Float). store (workingAt y i j) l v) (is-made (λ r c. false) i j source)
+
+  -- a factor of shape s
+  pub factor-started : (j : ℕ) → j < y .k → (s : Shape) → shape y row j j ≡ s → (v : List Float)
+      → startedBlock y row t j j v ≡ factor.started s (workingAt y j j) (levels y j) (loadedAt y j j) (t j) v
+  factor-started j h s e v =
+      block-made j j v
+      ∙ rw (ne-eqb j y.k (λ q. omega arith), eq-eqb j j refl, e, shape-loaded y j row h, shape-loaded y j (λ x. 0) h) refl
+
+  -- a pair
+  pub pair-started : (i j : ℕ) → j < i → i < y .k → (v : List Float)
+      → startedBlock y row t i j v ≡ scaledTwice (shape y row i j) (workingAt y i j) (loadedAt y i j) (t j) (t i) v
+  pair-started i j h g v =
+      block-made i j v
+      ∙ rw (ne-eqb j y.k (λ q. omega arith), ne-eqb i y.k (λ q. omega arith), ne-eqb i j (λ q. omega arith), ← (size-loaded y row i j), loaded-pair y row i j h) refl
+
+  -- fixed rows
+  pub fixed-started : (j : ℕ) → j < y .k → (v : List Float)
+      → startedBlock y row t (y .k) j v ≡ scaledOnce (shape y row (y .k) j) (workingAt y (y .k) j) (loadedAt y (y .k) j) (t j) v
+  fixed-started j h v =
+      block-made y.k j v
+      ∙ rw (ne-eqb j y.k (λ q. omega arith), eq-eqb y.k y.k refl, ← (size-loaded y row y.k j), loaded-pair y row y.k j h) refl
+
+  -- the last triangle
+  pub last-started : (v : List Float)
+      → startedBlock y row t (y .k) (y .k) v ≡ store (workingAt y (y .k) (y .k)) (part (loadedAt y (y .k) (y .k)) (loadedSizes y (y .k) (y .k)) v) v
+  last-started v = block-made y.k y.k v ∙ rw (eq-eqb y.k y.k refl) refl
+
+  -- a block has as many doubles as its shape has cells
+  pub length-started : (loaded : ℕ → ℕ → Bool) (i j : ℕ) → j ≤ i → i ≤ y .k → (a : List Float) → length a ≡ loadedSizes y i j
+      → length (started y row loaded t i j a) ≡ sizes y i j
+  length-started loaded i j h g a e = ap length (is-made loaded i j a) ∙ go (eqb j y.k) refl
+    where
+      go : (b : Bool) → eqb j (y .k) ≡ b → length (made b (eqb i (y .k)) (eqb i j) (shape y row i j) (loadedShape y row i j) i j a) ≡ sizes y i j
+      go true q =
+          let k : j ≡ y .k = eqb-true j y.k q in
+          let l : i ≡ y .k = omega arith in
+          e ∙ rw (k, l) (loaded-last y)
+      go false q = length-fill (shape y row i j) _ ∙ size-working y row i j

@@ -1,0 +1,35 @@
+-- `begin::write_begin::write_doubles`: theta, the blocks, the sum.
+use mathlib.Core.Path.{refl}
+use native.Mathlib.Omega.{arith}
+use lib.ListN.{length-set}
+use Rattle.block_places.proofs.block_sizes.Sizes.{doubles-small}
+use Rattle.layout.proofs.Places.{theta-inside}
+use Rattle.begin.proofs.write_begin.Stored.{theta-stored, doubles-begun}
+use borrow.Author.Needs.{needs}
+use Rattle.begin.proofs.write_begin.write_doubles.Statement.{statement}
+use Rattle.begin.proofs.write_begin.write_doubles.Tie as tie
+
+add-put : tie.Need-add-put
+add-put c = let s = c.before.before.before.before.before in
+    omega (arith, s.pre.1, s.pre.2, c.before.before.theta-at.ensures, theta-inside s.args.y, doubles-small s.args.y s.pre.0)
+
+put-requires : tie.Need-put-requires
+put-requires c κs = let s = c.before.before.before.before.before in
+    (omega arith, omega (arith, s.pre.1, s.pre.2, c.before.before.theta-at.ensures, theta-inside s.args.y), omega arith)
+
+mul-w : tie.Need-mul-w
+mul-w c = let s = c.before.before.before.before.before.before.before.before.before.before.before.before in
+    omega (arith, s.pre.2, c.before.before.before.before.before.before.before.before.before.theta-at.ensures, c.before.before.before.before.before.before.before.before.sum-at.ensures, theta-inside s.args.y, doubles-small s.args.y s.pre.0)
+
+slice-write-w : tie.Need-slice-write-w
+slice-write-w c = let s = c.before.before.before.before.before.before.before.before.before.before.before.before in
+    omega (arith, s.pre.2, c.before.before.before.before.before.before.before.before.before.theta-at.ensures, c.before.before.before.before.before.before.before.before.sum-at.ensures, theta-inside s.args.y, doubles-small s.args.y s.pre.0)
+
+returns : tie.Need-returns
+returns c = let s = c.before.before.before.before.before.before.before.before.before.before.before.before in
+    doubles-begun s.args.y s.args.theta.now s.args.w.now _ _ _ _ c.before.before.before.before.before.before.before.before.before.theta-at.ensures c.before.before.before.before.before.before.before.before.sum-at.ensures
+    (theta-stored s.args.theta.now s.args.w.now _ _ _ refl c.before.before.before.before.before.before.put.ensures) c.before.before.start-blocks.ensures (search needs)
+
+pub write-doubles-spec : {M : Type 1} → statement M
+write-doubles-spec = tie.close (tie.spec (λ c κs. search needs) (λ c κs. search needs) add-put put-requires
+    (λ c κs. search needs) mul-w slice-write-w (λ c. simp length-set (omega arith)) returns)

@@ -1,0 +1,2 @@
+pub mod scaled_blocks
+pub mod write_begin

@@ -1,0 +1,41 @@
+// What begin writes to the doubles and to progress (document 01, Records 4 and 5).
+ghost use mathlib.Core.Path.{_≡_};
+ghost use mathlib.Core.Bool.{true};
+ghost use Prim.Native.Nat.{_≤_};
+ghost use lib.ListN.{length};
+ghost use Rattle.layout.specs.Shapes.{doublesNeeded};
+ghost use Rattle.heading_format.specs.Heading.{lawful, underWay};
+ghost use Rattle.begin.specs.write_begin.Begun.{DoublesBegun};
+use crate::init_blocks;
+use block_places::places;
+use block_runs::run_copies;
+use heading::idle_progress;
+use heading_format::Progress;
+use heading_format::State;
+use layout::Layout;
+
+// An update just begun: no step is done, every one is left.
+pub fn under_way(k: u64) -> Progress
+    requires { ⌜ k ≤ 8 ⌝ }
+    ensures { λ r. ⌜ r ≡ underWay k ⌝ }
+{
+    let left = idle_progress::step_count(k);
+    Progress {
+        state: State::UnderWay,
+        left,
+        stages: [0; 45],
+    }
+}
+
+// Theta, the working blocks and the sum.
+pub fn write_doubles(y: Layout, w: &mut [f64], theta: &[f64])
+    requires { ⌜ (lawful y ≡ true) × (length (now theta) ≡ y .k) × (doublesNeeded y ≤ length (now w)) ⌝ }
+    ensures { λ _. ⌜ DoublesBegun y (now (theta .entry)) (now (w .entry)) (now (w .exit)) ⌝ }
+{
+    let at = places::theta_at(y);
+    let sum = places::sum_at(y);
+    let k = theta.len();
+    run_copies::put(w, at, at + k, 0, k, theta);
+    init_blocks::start_blocks(y, w, theta);
+    w[sum] = 0.0;
+}

@@ -1,0 +1,3 @@
+pub mod block_sizes
+pub mod block_kinds
+pub mod sheet_rows

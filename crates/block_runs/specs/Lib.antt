@@ -1,0 +1,3 @@
+pub mod blocks
+pub mod axpy
+pub mod axpy_pair

@@ -1,0 +1,45 @@
+// A run of a list of doubles divided by one double.
+ghost use mathlib.Core.Path.{_≡_};
+ghost use Prim.Native.Nat.{_+_, _≤_};
+ghost use lib.ListN.{length};
+ghost use Rattle.rules.specs.Arithmetic.{ieee};
+ghost use Rattle.block_runs.specs.axpy.Axpy.{at, run};
+
+// n doubles of t from `to` on become those of acc, each divided by p.
+fn over_part(t: &mut [f64], to: usize, n: usize, acc: &[f64], p: f64)
+    requires { ⌜ (to + n ≤ length (now t)) × (n ≤ length (now acc)) ⌝ }
+    ensures { λ _. ⌜ now (t .exit) ≡ run to n (λ i. ieee .over (at (now (acc .entry)) i) p) (now (t .entry)) ⌝ }
+{
+    let mut i = 0;
+    while i < n {
+        t[to + i] = acc[i] / p;
+        i += 1;
+    }
+}
+
+// n doubles of t from `to` on, each divided by p.
+fn divide_part(t: &mut [f64], to: usize, n: usize, p: f64)
+    requires { ⌜ to + n ≤ length (now t) ⌝ }
+    ensures { λ _. ⌜ now (t .exit) ≡ run to n (λ i. ieee .over (at (now (t .entry)) (to + i)) p) (now (t .entry)) ⌝ }
+{
+    let mut i = 0;
+    while i < n {
+        t[to + i] = t[to + i] / p;
+        i += 1;
+    }
+}
+
+// The same on the block that lies from off to end in w: the run starts at `to` within it.
+pub fn over(w: &mut [f64], off: usize, end: usize, to: usize, n: usize, acc: &[f64], p: f64)
+    requires { ⌜ (off + (to + n) ≤ end) × (end ≤ length (now w)) × (n ≤ length (now acc)) ⌝ }
+    ensures { λ _. ⌜ now (w .exit) ≡ run (off + to) n (λ i. ieee .over (at (now (acc .entry)) i) p) (now (w .entry)) ⌝ }
+{
+    over_part(&mut w[off..end], to, n, acc, p);
+}
+
+pub fn divide(w: &mut [f64], off: usize, end: usize, to: usize, n: usize, p: f64)
+    requires { ⌜ (off + (to + n) ≤ end) × (end ≤ length (now w)) ⌝ }
+    ensures { λ _. ⌜ now (w .exit) ≡ run (off + to) n (λ i. ieee .over (at (now (w .entry)) (off + to + i)) p) (now (w .entry)) ⌝ }
+{
+    divide_part(&mut w[off..end], to, n, p);
+}

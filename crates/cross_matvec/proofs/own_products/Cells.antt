@@ -1,0 +1,69 @@
+-- What a product in one list leaves, double by double.
+use Prim.Native.Nat.{ℕ, _+_, _*_, _≤_, _<_}
+use mathlib.Core.Path.{_≡_, refl, sym, ap, ap₂, _∙_}
+use mathlib.Core.List.{List}
+use mathlib.Core.Logic.{_⊎_, inl, inr, ⊎-elim}
+use native.Mathlib.Omega.{arith}
+use lib.ListN.{length, getD}
+use lib.Ieee.{Float}
+use Rattle.storage.specs.Runs.{tab}
+use Rattle.storage.specs.Shape.{columns}
+use Rattle.storage.specs.Part.{part}
+use Rattle.storage.proofs.Starts.{start-dense}
+use Rattle.storage.proofs.Cells.{length-tab}
+use Rattle.storage.proofs.Parts.{length-store, part-else, getD-part}
+use Rattle.storage.proofs.Blocks.{cell-part}
+use Rattle.rules.specs.Arithmetic.{ieee}
+use Rattle.rules.specs.Sums.{dot}
+use Rattle.rules.specs.Cholesky.{at}
+use Rattle.rules.specs.Solves.{lessDenseT}
+use Rattle.block_runs.specs.blocks.Blocks.{block, entry}
+use Rattle.block_runs.proofs.blocks.Laws.{has-dense}
+use Rattle.block_runs.specs.axpy.Axpy.{at as double}
+use Rattle.block_runs.proofs.axpy.Sums.{sum-along, along-ext, along-swap, read-run}
+use Rattle.cross_matvec.specs.Products.{lessProductT, columnSum}
+use Rattle.cross_matvec.proofs.Vectors.{read-entry, run-else}
+use Rattle.cross_matvec.proofs.Dense.{column-sum}
+
+-- a sum of products is the same whichever factors come first
+pub dot-swap : (a b : ℕ → Float) (n : ℕ) → dot ieee a b n ≡ dot ieee b a n
+dot-swap a b n = sym (sum-along ieee.zero a b n) ∙ along-swap ieee.plus ieee.zero a b n ∙ sum-along ieee.zero b a n
+
+-- the sum of a column, by the lists that lie there
+pub sum-lists : (v : List Float) (p z n : ℕ) (x u : List Float) → p + n ≤ length v → z + n ≤ length v → part p n v ≡ x → part z n v ≡ u
+    → columnSum v p v z n ≡ dot ieee (at ieee x) (at ieee u) n
+sum-lists v p z n x u room room′ is is′ =
+    column-sum v p v z n (at ieee x) (at ieee u) (λ i l. read-entry p n v i l room ∙ ap (λ (y : List Float). at ieee y i) is)
+    (λ i l. read-entry z n v i l room′ ∙ ap (λ (y : List Float). at ieee y i) is′)
+
+module _ (off cols z rows a : ℕ) (v v′ : List Float) (fits : off + cols ≤ length v) (so : v′ ≡ lessProductT off cols z rows a v v) where
+  abbrev cells : ℕ → Float
+  cells = lessDenseT ieee (block a (columns rows cols) v) (entry z rows v) (entry off cols v) rows
+
+  pub product-long : length v′ ≡ length v
+  product-long = ap length so ∙ length-store off (tab cols cells) v (omega (arith, length-tab cols cells))
+
+  -- what lies apart is as it was
+  pub product-else : (k : ℕ) → (k < off) ⊎ (off + cols ≤ k) → double v′ k ≡ double v k
+  product-else k h = ap (λ (l : List Float). double l k) so ∙ run-else off cols cells v fits k h
+
+  pub product-part : (b n : ℕ) → (b + n ≤ off) ⊎ (off + cols ≤ b) → part b n v′ ≡ part b n v
+  product-part b n h =
+      ap (part b n) so
+      ∙ part-else off (tab cols cells) v (omega (arith, length-tab cols cells)) b n (⊎-elim (λ l. inl l) (λ l. inr (omega (arith, length-tab cols cells))) h)
+
+  -- an entry is less the column's list times the vector's
+  pub product-cell : (c : ℕ) → c < cols → (x u : List Float) → part (a + c * rows) rows v ≡ x → part z rows v ≡ u
+      → double v′ (off + c) ≡ ieee .minus (double v (off + c)) (dot ieee (at ieee x) (at ieee u) rows)
+  product-cell c h x u is is′ =
+      ap (λ (l : List Float). double l (off + c)) so
+      ∙ read-run off cols cells v fits c (off + c) h refl
+      ∙ ap₂ ieee.minus (sym (read-entry off cols v c h fits))
+      (sym (sum-along ieee.zero (λ r. block a (columns rows cols) v r c) (entry z rows v) rows)
+      ∙ along-ext ieee.plus _ _ _ _ _ _ rows refl
+      (λ r l. cell-part ieee.zero (columns rows cols) a v r c (has-dense rows cols r c l h)
+      ∙ ap (λ (k : ℕ). getD v k ieee.zero) (omega (arith, start-dense rows c))
+      ∙ sym (getD-part (a + c * rows) rows v r ieee.zero l)
+      ∙ ap (λ (y : List Float). at ieee y r) is)
+      (λ r l. ap (λ (y : List Float). at ieee y r) is′)
+      ∙ sum-along ieee.zero (at ieee x) (at ieee u) rows)

@@ -1,0 +1,185 @@
+-- "any undone step whose forerunners are done is accepted unless it meets a refused pivot, and writes by its rule its own block, the progress and, where it
+-- takes logarithms, their sum, nothing else; until the last step or a refused pivot some step is ready".
+use Prim.Native.Nat.{ℕ, zero, _+_, _≤_, _<_}
+use mathlib.Core.Path.{_≡_, refl, sym, ap, subst, _∙_}
+use mathlib.Core.Bool.{Bool, true}
+use mathlib.Core.List.{List, _++_}
+use mathlib.Core.Option.{Option, none, some}
+use mathlib.Core.Logic.{by-cases}
+use native.Mathlib.Decide.{decLt, ℕ-discrete}
+use native.Mathlib.Omega.{arith}
+use lib.Dec.{eqb}
+use lib.ListN.{length, getD, length-append}
+use lib.Ieee.{Float}
+use borrow.Author.Tests.{eq-eqb}
+use Rattle.storage.specs.Part.{part}
+use Rattle.storage.specs.Shape.{sizeOf}
+use Rattle.storage.proofs.Parts.{take-store, drop-store, length-part}
+use Rattle.step_order.specs.Steps.{Step, S, C, T, Named, row, col}
+use Rattle.step_order.specs.Progress.{done, stepsLeft, refusedIn}
+use Rattle.step_order.proofs.Next.{some-next}
+use Rattle.rules.specs.Arithmetic.{ieee}
+use Rattle.sheet.specs.Sheet.{Sheet}
+use Rattle.refusal.specs.declared.Answer.{Answer}
+use Rattle.refusal.specs.declared.Answer.the-variants.{Accepted, Refused}
+use Rattle.refusal.specs.Numbers.{refuse}
+use Rattle.layout.specs.declared.Layout.{Layout}
+use Rattle.heading_format.specs.declared.Progress.{Progress}
+use Rattle.heading_format.specs.declared.State.{State}
+use Rattle.heading_format.specs.declared.State.the-variants.{Idle, UnderWay, Finished}
+use Rattle.layout.specs.Shapes.{pick, shape, sizes, workingAt, sumAt, doublesNeeded}
+use Rattle.heading_format.specs.Heading.{layoutOf, progressOf, entryRow, written, progressNumbers}
+use Rattle.heading_format.proofs.Heading.{length-written, layout-back, progress-stored}
+use Rattle.layout.proofs.Places.{size-working, working-inside}
+use Rattle.workspace.specs.Memory.{Workspace, workingBlock, logSum, headingWith}
+use Rattle.workspace.specs.Answers.{Outcome}
+use Rattle.update.specs.Working.{logged}
+use Rattle.update.specs.Calls.{advanced, stepOf, stepped, madeBy, sumBy, refusedBy, onPivot}
+use Rattle.book.specs.Book.{Book, book, layout, last, rust, inStep, bookState}
+use Rattle.book.specs.Values.{rulesHere, startHere}
+use Rattle.book.specs.Demand.{ReadyBy, TakesLogs, in-block, in-sum, Writes, UnderWayClaim}
+use Rattle.update.proofs.progress_laws.Kept.{numbers-many}
+use Rattle.demand3.proofs.frame.Step.{withBlock, with-length, with-own, with-sum, with-elsewhere}
+use Rattle.demand3.proofs.same_rules.Same.{made-length}
+use Rattle.demand3.proofs.invariant.Stands.{behind, Site, Stands}
+use Rattle.demand3.proofs.invariant.Site.{layout-of, alike, loaded-many}
+use Rattle.demand3.proofs.invariant.Step.{Comes, step-ready, step-comes}
+use Rattle.demand3.proofs.step_laws.Rust.{answerIn, in-step}
+use Rattle.demand3.proofs.Agrees.{begun-of}
+
+-- a row that is refused is no acceptance
+refused-not : {X : Type 0} (n a b : ℕ) → refuse n a b ≡ Accepted → X
+refused-not n a b e = absurd (subst Is e tt)
+  where
+    Is : Answer → Type 0
+    Is Accepted = ⊥
+    Is (Refused r) = Unit
+
+-- an accepted step met no refused pivot
+pivot-none : (h : List ℕ) (w : List Float) (s : Step) (r : Option ℕ) → onPivot h w r s .answer ≡ Accepted → r ≡ none
+pivot-none h w s none e = refl
+pivot-none h w s (some r) e = refused-not 26 (col s) r e
+
+-- a step that takes no logarithms leaves their sum
+keeps-sum : (h : List ℕ) (w : List Float) (s : Step) → Named (layoutOf h .k) s → (TakesLogs (layoutOf h .k) s → ⊥) → sumBy h w s ≡ logSum h w
+unfolding sumBy logged
+keeps-sum h w (S i j x) n t = refl
+keeps-sum h w (C j) n t = let e : j ≡ layoutOf h .k = last-one j (layoutOf h .k) n t in rw (eq-eqb j (layoutOf h .k) e) refl
+  where
+    last-one : (j k : ℕ) → j ≤ k → (j < k → ⊥) → j ≡ k
+    last-one j k l t = by-cases (decLt j k) (λ a. absurd (t a)) (λ a. omega arith)
+keeps-sum h w (T i j) n t = refl
+
+-- a target is a block of the layout
+in-layout : (k : ℕ) (s : Step) → Named k s → (col s ≤ row s) × (row s ≤ k)
+in-layout k (S i j x) n = (n.1, n.2)
+in-layout k (C j) n = (omega arith, n)
+in-layout k (T i j) n = (omega (arith, n.0), n.1)
+
+module _ (sheet : Sheet) (h : List ℕ) (w : List Float) (here : Site sheet h w) (b : Book) (v : Workspace) (stands : Stands sheet h w b v) (s : Step) (n : Named (last sheet) s) where
+  same : layoutOf (v .heading) ≡ layout sheet
+  same = layout-of sheet h w here b v stands
+
+  named-here : Named (layoutOf (v .heading) .k) s
+  named-here = subst (λ (z : Layout). Named z.k s) (sym same) n
+
+  inside : (col s ≤ row s) × (row s ≤ layoutOf (v .heading) .k)
+  inside = in-layout (layoutOf v.heading .k) s named-here
+
+  room : doublesNeeded (layoutOf (v .heading)) ≤ length (v .doubles)
+  room = rw same (omega (arith, here.doubles, stands.many))
+
+  size : length (madeBy (v .heading) (v .doubles) s) ≡ sizes (layoutOf (v .heading)) (row s) (col s)
+  size =
+      let y : Layout = layoutOf v.heading in
+      let long : length (workingBlock v.heading v.doubles (row s) (col s)) ≡ sizes (layout sheet) (row s) (col s) =
+      ap (λ (m : ℕ). length (part (workingAt y (row s) (col s)) m v.doubles)) (size-working y (entryRow v.heading) (row s) (col s))
+      ∙ length-part (workingAt y (row s) (col s)) (sizes y (row s) (col s)) v.doubles
+      (omega (arith, working-inside y (row s) (col s) inside.0 inside.1, room))
+      ∙ ap (λ (z : Layout). sizes z (row s) (col s)) same in
+      made-length sheet b.loaded b.theta v (alike sheet h w here b v stands) stands.progress s n long ∙ ap (λ (z : Layout). sizes z (row s) (col s)) (sym same)
+
+  -- the heading with another progress has the same layout
+  module _ (g : Progress) where
+    moved-heading : headingWith (v .heading) g ≡ written (layout sheet) g ++ behind sheet h
+    moved-heading = ap (λ (x : List ℕ). headingWith x g) stands.heading ∙ progress-stored (layout sheet) stands.progress g (behind sheet h)
+
+    moved-layout : layoutOf (headingWith (v .heading) g) ≡ layoutOf (v .heading)
+    moved-layout = ap layoutOf moved-heading ∙ layout-back (layout sheet) g (behind sheet h) here.eight-levels here.eight-places ∙ sym same
+
+    long : 22 + length (progressNumbers g) ≤ length (v .heading)
+    long =
+        omega (arith, numbers-many g, ap (λ (x : List ℕ). length x) stands.heading, length-append (written (layout sheet) stands.progress) (behind sheet h), length-written (layout sheet) stands.progress)
+
+  -- what it writes
+  pub stepped-writes : Writes v s (stepped (v .heading) (v .doubles) s)
+  unfolding stepped
+  stepped-writes =
+      let y : Layout = layoutOf v.heading in
+      let g : Progress = advanced (progressOf v.heading) s in
+      let made : List Float = madeBy v.heading v.doubles s in
+      let sum : Float = sumBy v.heading v.doubles s in
+      let u : List Float = withBlock y (row s) (col s) made sum v.doubles in
+      let sums : getD u (sumAt y) ieee.zero ≡ sum = with-sum y v.doubles room (row s) (col s) inside.0 inside.1 made size sum in
+      record {
+        block =
+            ap (λ (z : Layout). part (workingAt z (row s) (col s)) (sizeOf (shape z (entryRow (headingWith v.heading g)) (row s) (col s))) u) (moved-layout g)
+            ∙ ap (λ (m : ℕ). part (workingAt y (row s) (col s)) m u) (size-working y (entryRow (headingWith v.heading g)) (row s) (col s))
+            ∙ with-own y v.doubles room (row s) (col s) inside.0 inside.1 made size sum;
+        sum = sums;
+        lengths = with-length y v.doubles room (row s) (col s) inside.0 inside.1 made size sum;
+        elsewhere =
+            λ i other.
+            by-cases (ℕ-discrete i (sumAt y))
+            (λ e. ap (λ (m : ℕ). getD u m ieee.zero) e ∙ sums
+            ∙ keeps-sum v.heading v.doubles s named-here (λ t. other (in-sum t e))
+            ∙ ap (λ (m : ℕ). getD v.doubles m ieee.zero) (sym e))
+            (λ e. with-elsewhere y v.doubles room (row s) (col s) inside.0 inside.1 made size sum i (λ l m. other (in-block l m)) e);
+        before-progress = take-store 22 (progressNumbers g) v.heading (long g);
+        behind-progress = drop-store 22 (progressNumbers g) v.heading (long g) 69 (omega (arith, numbers-many g));
+      }
+
+-- ---- while an update is under way
+abbrev NotFinished : State → Type 0
+NotFinished Idle = Unit
+NotFinished UnderWay = Unit
+NotFinished Finished = ⊥
+
+module _ (sheet : Sheet) (h : List ℕ) (w : List Float) (here : Site sheet h w) (b : Book) (v : Workspace) (stands : Stands sheet h w b v) (d : Step → Bool) (e : b .done ≡ some d) where
+  -- the book with its set
+  with-set : Stands sheet h w (book (b .loaded) (b .theta) (some d)) v
+  with-set = subst (λ (o : Option (Step → Bool)). Stands sheet h w (book b.loaded b.theta o) v) e stands
+
+  comes-answer : (s : Step) (r : Option ℕ) (o : Outcome) → Comes sheet h w here (b .loaded) (b .theta) d s r o → o .answer ≡ answerIn s r
+  comes-answer s none o c = c.0
+  comes-answer s (some r) o c = c.0
+
+  ready-answers : (s : Step) → ReadyBy (last sheet) d s → stepOf (v .heading) (v .doubles) s .answer ≡ inStep sheet s (rust sheet (b .loaded) (b .theta) .answer)
+  ready-answers s r =
+      let g = begun-of sheet b b.done stands.progress v d e stands.updating .1 in
+      comes-answer s (refusedIn (rulesHere sheet b.loaded b.theta) (last sheet) (startHere sheet b.loaded b.theta) s) (stepOf v.heading v.doubles s)
+      (step-comes sheet h w here b.loaded b.theta d v with-set s r.exists r.undone r.forerun)
+      ∙ sym (in-step sheet h w here b.loaded b.theta (loaded-many sheet h w here b v stands) g.theta-many g.theta-finite s)
+
+  ready-writes : (s : Step) → ReadyBy (last sheet) d s → stepOf (v .heading) (v .doubles) s .answer ≡ Accepted → Writes v s (stepOf (v .heading) (v .doubles) s .left)
+  ready-writes s r a =
+      let t = step-ready sheet h w here b.loaded b.theta d v with-set s r.exists r.undone r.forerun in
+      let q : refusedBy v.heading v.doubles s ≡ none = pivot-none v.heading v.doubles s (refusedBy v.heading v.doubles s) (ap (λ (o : Outcome). o .answer) (sym t) ∙ a) in
+      let z : stepOf v.heading v.doubles s ≡ onPivot v.heading v.doubles none s = t ∙ ap (λ (x : Option ℕ). onPivot v.heading v.doubles x s) q in
+      subst (λ (o : Outcome). Writes v s o.left) (sym z) (stepped-writes sheet h w here b v stands s r.exists)
+
+  -- some step is left
+  some-left : bookState sheet (some d) ≡ UnderWay → 0 < stepsLeft (last sheet) d
+  some-left u = by-cases (decLt 0 (stepsLeft (last sheet) d)) (λ l. l) (λ l. absurd (differ (eq-eqb (stepsLeft (last sheet) d) 0 (omega arith))))
+    where
+      differ : eqb (stepsLeft (last sheet) d) 0 ≡ true → ⊥
+      differ q = subst NotFinished (sym u ∙ ap (λ (t : Bool). pick t Finished UnderWay) q) tt
+
+  pub under-way : bookState sheet (some d) ≡ UnderWay → UnderWayClaim sheet b v d
+  under-way u =
+      let x = some-next (last sheet) d (some-left u) in
+      record {
+        answers = ready-answers;
+        writes = ready-writes;
+        some-ready = (x.0, record { exists = x.1; undone = x.2; forerun = x.3 });
+      }

@@ -1,0 +1,182 @@
+-- A freshly loaded workspace stands by the opened book.
+use Prim.Native.Nat.{ℕ, _+_, _≤_, _<_}
+use mathlib.Core.Path.{_≡_, refl, sym, ap, subst, _∙_}
+use mathlib.Core.Bool.{Bool, true, false, and-eq-true-iff}
+use mathlib.Core.List.{List, [], _++_, append-assoc, append-nil}
+use mathlib.Core.Option.{Option, none, some}
+use native.Mathlib.Nat.{zero-add}
+use native.Mathlib.Omega.{arith}
+use lib.Dec.{leb}
+use lib.ListN.{length, getD, take, drop, length-append, length-replicate}
+use lib.Seq.{take-at, drop-at, drop-length}
+use lib.Ieee.{Float}
+use borrow.Author.Tests.{leb-true}
+use Rattle.storage.specs.Runs.{tab}
+use Rattle.storage.specs.Part.{store}
+use Rattle.storage.proofs.Cells.{getD-tab}
+use Rattle.storage.proofs.Parts.{length-store, drop-store}
+use Rattle.sheet.specs.declared.Starts.{Starts}
+use Rattle.sheet.specs.declared.Reading.{Reading}
+use Rattle.sheet.specs.declared.Reading.the-variants.{Sheet as Read, Refused as Unread}
+use Rattle.sheet.specs.Sheet.{Sheet, accepted, sheetOf}
+use Rattle.sheet.specs.Sheet as Sheets
+use Rattle.sheet.specs.Answer.{Answers}
+use Rattle.sheet.specs.Fault.{refusalOf}
+use Rattle.refusal.specs.declared.Refusal.{Refusal}
+use Rattle.refusal.specs.declared.Answer.the-variants.{Accepted}
+use Rattle.layout.specs.declared.Layout.{Layout}
+use Rattle.layout.specs.Shapes.{pick, levels, pairs, loadedLength, numbersNeeded, doublesNeeded}
+use Rattle.heading_format.specs.Heading.{entryRow, written, idle}
+use Rattle.heading_format.proofs.Lawful.{is-lawful}
+use Rattle.heading_format.proofs.Heading.{length-written, rows-back, idle-lawful}
+use Rattle.workspace.specs.Memory.{noughts}
+use Rattle.workspace.specs.Answers.{Outcome, space, accept, untouched}
+use Rattle.workspace.specs.Loaded.{firstDenied, entryRowIn, loadedNumbers}
+use Rattle.workspace.specs.Load.{Loads, headingOf, doublesOf, roomy, afterGate, loadSheet, loadParsed, loadOf}
+use Rattle.workspace.proofs.Lawful.{sparse-columns, sheet-lawful}
+use Rattle.workspace.proofs.Lengths.{length-loaded, length-doubles, length-heading}
+use Rattle.workspace.proofs.Headed.{row-below, length-m, length-order}
+use Rattle.book.specs.Book.{book, layout, last, opened, fresh}
+use Rattle.demand3.proofs.frame.Clear.{noughts-length}
+use Rattle.demand3.proofs.invariant.Stands.{Site, Stands, behind}
+
+-- ---- what an accepted load came to
+record Taken (sheet : Sheet) (h : List ℕ) (w : List Float) (o : Outcome) : Type 0 where
+  fine : refusalOf sheet ≡ 0
+  gate : firstDenied sheet (layout sheet) (pairs (last sheet)) ≡ none
+  room : roomy (layout sheet) h w ≡ true
+  left : o .left ≡ space (store 0 (headingOf sheet (layout sheet)) h) (store 0 (doublesOf sheet (layout sheet)) w)
+
+module _ (sheet : Sheet) (h : List ℕ) (w : List Float) where
+  -- it fitted
+  fitted : (b : Bool) (o : Outcome) → pick b o (untouched h w 12 0 0) .answer ≡ Accepted → (b ≡ true) × (pick b o (untouched h w 12 0 0) ≡ o)
+  fitted true o a = (refl, refl)
+  fitted false o a = absurd (let z : _≡_ {A = ℕ} 0 1 = cc in omega arith)
+
+  -- the gate let every pair pass
+  passed : (y : Layout) (g : Option Refusal) → afterGate g sheet y h w .answer ≡ Accepted
+      → (g ≡ none) × (roomy y h w ≡ true) × (afterGate g sheet y h w ≡ accept (store 0 (headingOf sheet y) h) (store 0 (doublesOf sheet y) w))
+  passed y none a = let f = fitted (roomy y h w) (accept (store 0 (headingOf sheet y) h) (store 0 (doublesOf sheet y) w)) a in (refl, f.0, f.1)
+  passed y (some r) a = absurd (let z : _≡_ {A = ℕ} 0 1 = cc in omega arith)
+
+  -- so a sheet without a fault was taken
+  sheet-taken : refusalOf sheet ≡ 0 → loadSheet sheet h w .answer ≡ Accepted → Taken sheet h w (loadSheet sheet h w)
+  unfolding loadSheet
+  sheet-taken fine a =
+      let p = passed (layout sheet) (firstDenied sheet (layout sheet) (pairs (last sheet))) a in
+      record { fine = fine; gate = p.0; room = p.1; left = ap (λ (o : Outcome). o .left) p.2 }
+
+  -- the sheet was read without a fault
+  taken : (bytes : List ℕ) (starts : Starts) → sheetOf bytes ≡ accepted sheet starts → (r : Reading) → Answers (accepted sheet starts) r
+      → loadOf bytes r h w .answer ≡ Accepted → Taken sheet h w (loadOf bytes r h w)
+  unfolding loadOf
+  taken bytes starts e (Unread number line) r a = absurd (let z : _≡_ {A = ℕ} 0 1 = cc in omega arith)
+  taken bytes starts e (Read found) r a =
+      subst (λ (p : Sheets.Outcome). loadParsed p h w .answer ≡ Accepted → Taken sheet h w (loadParsed p h w)) (sym e) (sheet-taken r.0) a
+
+  -- the same of what load came to
+  load-taken : (bytes : List ℕ) (starts : Starts) (o : Outcome) → sheetOf bytes ≡ accepted sheet starts → Loads bytes h w o → o .answer ≡ Accepted → Taken sheet h w o
+  load-taken bytes starts o e l a =
+      subst (Taken sheet h w) (sym l.comes)
+      (taken bytes starts e l.reading (subst (λ (p : Sheets.Outcome). Answers p l.reading) e l.read) (ap (λ (x : Outcome). x .answer) (sym l.comes) ∙ a))
+
+-- ---- the heading that load writes
+module _ (sheet : Sheet) where
+  -- the rows of a sparse pair's entries are rows of block 1
+  rows-below : layout sheet .sparse ≡ true → (c : ℕ) → c < levels (layout sheet) 0 → entryRow (headingOf sheet (layout sheet)) c < levels (layout sheet) 1
+  unfolding headingOf
+  rows-below sparse c l =
+      subst (λ (x : ℕ). x < levels (layout sheet) 1)
+      (sym
+      (rows-back (layout sheet) (idle (last sheet)) (pick (layout sheet .sparse) (tab (levels (layout sheet) 0) (entryRowIn sheet (layout sheet))) []) c
+      ∙ ap (λ (b : Bool). getD (pick b (tab (levels (layout sheet) 0) (entryRowIn sheet (layout sheet))) []) c 0) sparse
+      ∙ getD-tab (levels (layout sheet) 0) (entryRowIn sheet (layout sheet)) c 0 l))
+      (row-below sheet (layout sheet) (sparse-columns sheet sparse .1) c l)
+
+  -- its first 128 numbers, wherever it is written
+  first-numbers : (h : List ℕ) → store 0 (headingOf sheet (layout sheet)) h ≡ written (layout sheet) (idle (last sheet)) ++ behind sheet h
+  unfolding store headingOf
+  first-numbers h =
+      let front : List ℕ = written (layout sheet) (idle (last sheet)) in
+      let rows : List ℕ = pick (layout sheet .sparse) (tab (levels (layout sheet) 0) (entryRowIn sheet (layout sheet))) [] in
+      let rest : List ℕ = drop (0 + length (headingOf sheet (layout sheet))) h in
+      let seam : store 0 (headingOf sheet (layout sheet)) h ≡ front ++ (rows ++ rest) = append-assoc front rows rest in
+      seam ∙ ap (λ (x : List ℕ). front ++ x) (sym (ap (drop 128) seam ∙ drop-at front (rows ++ rest) 128 (length-written (layout sheet) (idle (last sheet)))))
+
+-- ---- the doubles that load writes
+
+-- the loaded numbers come first, wherever they are written
+first-doubles : (sheet : Sheet) (w : List Float) → take (loadedLength (layout sheet)) (store 0 (doublesOf sheet (layout sheet)) w) ≡ loadedNumbers sheet (layout sheet)
+unfolding store doublesOf
+first-doubles sheet w =
+    let rest : List Float = drop (0 + length (doublesOf sheet (layout sheet))) w in
+    ap (take (loadedLength (layout sheet))) (append-assoc (loadedNumbers sheet (layout sheet)) (noughts (layout sheet)) rest)
+    ∙ take-at (loadedNumbers sheet (layout sheet)) (noughts (layout sheet) ++ rest) (loadedLength (layout sheet)) (length-loaded sheet (layout sheet))
+
+-- a list written over itself
+over-itself : (l : List ℕ) → store 0 l l ≡ l
+unfolding store
+over-itself l = ap (λ (x : List ℕ). l ++ x) (ap (λ (n : ℕ). drop n l) (zero-add (length l)) ∙ drop-length l) ∙ append-nil l
+
+-- what load writes stands by the opened book
+stored : (sheet : Sheet) (h : List ℕ) (w : List Float) → Site sheet h w
+    → Stands sheet h w (opened sheet) (space (store 0 (headingOf sheet (layout sheet)) h) (store 0 (doublesOf sheet (layout sheet)) w))
+stored sheet h w here =
+    let fits : 0 + length (doublesOf sheet (layout sheet)) ≤ length w = omega (arith, here.doubles, length-doubles sheet (layout sheet)) in
+    record {
+      progress = idle (last sheet);
+      heading = first-numbers sheet h;
+      stages = length-replicate {A = ℕ} 45 0;
+      lawful-progress = idle-lawful (last sheet) (is-lawful (layout sheet) here.layout-lawful .blocks .1);
+      many = length-store 0 (doublesOf sheet (layout sheet)) w fits;
+      loaded = first-doubles sheet w;
+      unwritten = drop-store 0 (doublesOf sheet (layout sheet)) w fits (doublesNeeded (layout sheet)) (omega (arith, length-doubles sheet (layout sheet)));
+      updating = refl;
+    }
+
+-- ---- what load accepted: its site
+pub open-site : (bytes : List ℕ) (sheet : Sheet) (starts : Starts) (h : List ℕ) (w : List Float) (o : Outcome)
+    → sheetOf bytes ≡ accepted sheet starts → Loads bytes h w o → o .answer ≡ Accepted → Site sheet h w
+open-site bytes sheet starts h w o e l a =
+    let t = load-taken sheet h w bytes starts o e l a in
+    let both = and-eq-true-iff (leb (numbersNeeded (layout sheet)) (length h)) (leb (doublesNeeded (layout sheet)) (length w)) .0 t.room in
+    record {
+      layout-lawful = sheet-lawful bytes sheet starts e t.fine t.gate;
+      eight-levels = length-m sheet;
+      eight-places = length-order sheet;
+      numbers = leb-true (numbersNeeded (layout sheet)) (length h) both.0;
+      doubles = leb-true (doublesNeeded (layout sheet)) (length w) both.1;
+      rows = rows-below sheet;
+    }
+
+-- and its workspace, which stands by the opened book
+pub open-stands : (bytes : List ℕ) (sheet : Sheet) (starts : Starts) (h : List ℕ) (w : List Float) (o : Outcome)
+    → sheetOf bytes ≡ accepted sheet starts → Loads bytes h w o → o .answer ≡ Accepted → Stands sheet h w (opened sheet) (o .left)
+open-stands bytes sheet starts h w o e l a =
+    subst (Stands sheet h w (opened sheet)) (sym (load-taken sheet h w bytes starts o e l a .left)) (stored sheet h w (open-site bytes sheet starts h w o e l a))
+
+-- a freshly loaded workspace with any loaded numbers, of no length beyond the formula
+module _ (sheet : Sheet) (h : List ℕ) (w : List Float) (here : Site sheet h w) (loaded : List Float) (many : length loaded ≡ loadedLength (layout sheet)) where
+  pub fresh-site : Site sheet (headingOf sheet (layout sheet)) (loaded ++ noughts (layout sheet))
+  fresh-site =
+      record {
+        layout-lawful = here.layout-lawful;
+        eight-levels = here.eight-levels;
+        eight-places = here.eight-places;
+        numbers = omega (arith, length-heading sheet (layout sheet));
+        doubles = omega (arith, length-append loaded (noughts (layout sheet)), many, noughts-length (layout sheet));
+        rows = here.rows;
+      }
+
+  pub fresh-stands : Stands sheet (headingOf sheet (layout sheet)) (loaded ++ noughts (layout sheet)) (book loaded [] none) (fresh sheet loaded)
+  fresh-stands =
+      record {
+        progress = idle (last sheet);
+        heading = sym (over-itself (headingOf sheet (layout sheet))) ∙ first-numbers sheet (headingOf sheet (layout sheet));
+        stages = length-replicate {A = ℕ} 45 0;
+        lawful-progress = idle-lawful (last sheet) (is-lawful (layout sheet) here.layout-lawful .blocks .1);
+        many = refl;
+        loaded = take-at loaded (noughts (layout sheet)) (loadedLength (layout sheet)) many;
+        unwritten = refl;
+        updating = refl;
+      }

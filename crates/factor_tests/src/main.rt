@@ -1,0 +1,92 @@
+// Gives each input of the list on standard input to `factor`, and prints a line with the input's number and then what `factor` printed, byte for byte.
+// Where the list has several texts of which any serves, and one of them is what was printed, it prints how many they are instead. tools/factor_list.py
+// made the list, and the file stdout, which has what must be printed.
+ghost use Prim.Native.Nat.{_≤_};
+ghost use lib.ListN.{length};
+use libc::STDOUT_FILENO;
+
+// The word whose highest byte is byte j of a text that has so many words in the list: the next one, or the one before turned by a byte, so that the
+// last word goes on to the end.
+fn turned(x: u64, j: usize, words: u64) -> u64 {
+    if (j % 8 == 0) & (((j / 8) as u64) < words) {
+        return test_words::read_word().word;
+    }
+    x % 0x100000000000000 * 256 + x / 0x100000000000000 % 256
+}
+
+// The next text of the list, to the bytes of s from `from` on: where it ends, how many words it has, and the words. Answers where it ends.
+fn read_text(s: &mut [u8], from: usize) -> usize
+    ensures { λ r. ⌜ r ≤ length (now (s .exit)) ⌝ }
+{
+    let end = test_words::size(test_words::read_word().word, s.len());
+    let words = test_words::read_word().word;
+    let mut x: u64 = 0;
+    let mut i = from;
+    while i < end {
+        x = turned(x, i - from, words);
+        s[i] = (x / 0x100000000000000 % 256) as u8;
+        i += 1;
+    }
+    end
+}
+
+// Whether out begins with one of the texts in t, which have 32 bytes each, noughts behind.
+fn among(t: &[u8], out: &[u8; 131072]) -> bool {
+    let mut found = false;
+    let mut same = false;
+    let mut i: usize = 0;
+    while i < t.len() {
+        let k = i % 32;
+        same = (same | (k == 0)) & (t[i] == out[k]);
+        found = found | (same & (k == 31));
+        i += 1;
+    }
+    found
+}
+
+// A line of a word and a number.
+fn tell(what: &[u8], x: u64) {
+    io::write_all(STDOUT_FILENO, what);
+    test_words::print_number(x);
+    io::write_all(STDOUT_FILENO, b"\n");
+}
+
+// Prints the line with the input's number, and says whether what was printed is one of the next texts of the list, of which any serves; then it prints
+// how many they are. Behind what was printed out is nought.
+fn served(number: u64, out: &[u8; 131072]) -> bool {
+    let mut t = [0u8; 512];
+    let end = read_text(&mut t, 0);
+    let found = among(&t[..end], out);
+    tell(b"input", number);
+    if found {
+        tell(b"one of", (end / 32) as u64);
+    }
+    found
+}
+
+// What `factor` prints for an input.
+fn run(number: u64, input: &[u8]) {
+    let mut out = [0u8; 131072];
+    let n = factor_text::factor(input, &mut out);
+    if !served(number, &out) {
+        io::write_all(STDOUT_FILENO, &out[..n]);
+    }
+}
+
+// An input's first word says how many bytes it has in common with the one before, which s has. A proved loop has to end, and nothing says that a file
+// does, so it takes a million inputs at most.
+fn replay(s: &mut [u8]) {
+    let mut number: u64 = 1;
+    let mut next = test_words::read_word();
+    while number < 1000000 && next.more {
+        let end = read_text(s, test_words::size(next.word, 65536));
+        run(number, &s[..end]);
+        next = test_words::read_word();
+        number += 1;
+    }
+}
+
+fn main() {
+    let mut s = [0u8; 65536];
+    replay(&mut s);
+}

@@ -1,0 +1,2 @@
+pub mod double
+pub mod words

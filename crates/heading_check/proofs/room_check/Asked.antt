@@ -1,0 +1,84 @@
+-- What the tests of a workspace come to.
+use Prim.Native.Nat.{ℕ, _+_, _≤_, _<_}
+use mathlib.Core.Path.{_≡_, refl, sym, _∙_}
+use mathlib.Core.Bool.{Bool, true, false, not, _&&_, _||_}
+use mathlib.Core.List.{List}
+use native.Mathlib.Omega.{arith}
+use borrow.Author.Tests.{le-leb, lt-leb}
+use lib.Dec.{ltb, leb}
+use lib.ListN.{length, getD}
+use Rattle.layout.specs.declared.Layout.{Layout}
+use Rattle.layout.specs.Shapes.{levels, numbersNeeded, doublesNeeded, sumAt}
+use Rattle.heading_format.specs.Heading.{every, entryRow, layoutOf, progressOf, lawful, progressLawful, headed}
+use Rattle.heading_format.proofs.Lawful.{is-lawful}
+
+abbrev flags : List ℕ → Bool
+flags h = leb (getD h 20 0) 1 && leb (getD h 21 0) 1 && leb (getD h 22 0) 2
+
+abbrev rows : List ℕ → Layout → Bool
+rows h y = not y.sparse || every (λ c. ltb (entryRow h c) (levels y 1)) (levels y 0)
+
+abbrev room : List ℕ → Layout → ℕ → Bool
+room h y doubles = leb (numbersNeeded y) (length h) && leb (doublesNeeded y) doubles && rows h y
+
+-- ---- the room
+module _ (h : List ℕ) (y : Layout) (doubles : ℕ) {d : ℕ} (is-d : d ≡ sumAt y) where
+  pub room-dense : y .sparse ≡ false → (leb 128 (length h) && leb (d + 1) doubles) ≡ room h y doubles
+  room-dense s = rw (← is-d, s) (last (leb 128 (length h) && leb (d + 1) doubles))
+    where
+      last : (b : Bool) → b ≡ (b && true)
+      last true = refl
+      last false = refl
+
+  module _ (s : y .sparse ≡ true) {cols : ℕ} (is-c : cols ≡ levels y 0) where
+    pub room-sparse : {r : ℕ} {w : Bool} → 128 + cols ≤ length h → r ≡ levels y 1 → w ≡ every (λ c. ltb (entryRow h c) r) cols → (leb (d + 1) doubles && w) ≡ room h y doubles
+    room-sparse {r} n is-r is-w = rw (← is-d, ← is-c, ← is-r, s, le-leb (128 + cols) (length h) n, is-w)
+
+    pub room-short : length h < 128 + cols → false ≡ room h y doubles
+    room-short n = rw (← is-c, s, lt-leb (128 + cols) (length h) n)
+
+-- ---- the whole
+chain : (a b c d e f g h i : Bool) → (a && b && c && d && e && f && g && h && i) ≡ (a && (b && c && d) && e && f && (g && h && i))
+chain false b c d e f g h i = refl
+chain true false c d e f g h i = refl
+chain true true false d e f g h i = refl
+chain true true true false e f g h i = refl
+chain true true true true false f g h i = refl
+chain true true true true true false g h i = refl
+chain true true true true true true g h i = refl
+
+module _ (h : List ℕ) (doubles : ℕ) where
+  headed-is : headed h doubles ≡ (leb 128 (length h) && flags h && lawful (layoutOf h) && progressLawful (layoutOf h .k) (progressOf h) && room h (layoutOf h) doubles)
+  unfolding headed
+  headed-is =
+      chain (leb 128 (length h)) (leb (getD h 20 0) 1) (leb (getD h 21 0) 1) (leb (getD h 22 0) 2) (lawful (layoutOf h)) (progressLawful (layoutOf h .k) (progressOf h))
+      (leb (numbersNeeded (layoutOf h)) (length h)) (leb (doublesNeeded (layoutOf h)) doubles) (rows h (layoutOf h))
+
+  pub too-short : length h < 128 → false ≡ headed h doubles
+  too-short n = rw (headed-is, lt-leb 128 (length h) n)
+
+  module _ (n : 128 ≤ length h) {f : Bool} (is-f : f ≡ flags h) where
+    pub no-flags : f ≡ false → false ≡ headed h doubles
+    no-flags z = rw (headed-is, le-leb 128 (length h) n, ← is-f, z)
+
+    module _ (p : f ≡ true) {y : Layout} (is-y : y ≡ layoutOf h) {l : Bool} (is-l : l ≡ lawful y) where
+      pub not-lawful : l ≡ false → false ≡ headed h doubles
+      not-lawful z = rw (headed-is, le-leb 128 (length h) n, ← is-f, p, ← is-y, ← is-l, z)
+
+      module _ (q : l ≡ true) {g : Bool} (is-g : g ≡ progressLawful (y .k) (progressOf h)) where
+        pub not-going : g ≡ false → false ≡ headed h doubles
+        not-going z = rw (headed-is, le-leb 128 (length h) n, ← is-f, p, ← is-y, ← is-l, q, ← is-g, z)
+
+        pub all-asked : {r : Bool} → g ≡ true → r ≡ room h y doubles → r ≡ headed h doubles
+        all-asked z e = rw (headed-is, le-leb 128 (length h) n, ← is-f, p, ← is-y, ← is-l, q, ← is-g, z) e
+
+pub few-blocks : (y : Layout) {l : Bool} → l ≡ lawful y → l ≡ true → y .k ≤ 8
+few-blocks y e q = is-lawful y (sym e ∙ q) .blocks .1
+
+pub is-true : (y : Layout) {l : Bool} → l ≡ lawful y → l ≡ true → lawful y ≡ true
+is-true y e q = sym e ∙ q
+
+pub level-most : (y : Layout) → lawful y ≡ true → y .sparse ≡ true → (levels y 0 ≤ 65535) × (levels y 1 ≤ 65535)
+level-most y ok s =
+    let k = is-lawful y ok .sparse s .1 in
+    (is-lawful y ok .level 0 (omega arith) .1, is-lawful y ok .level 1 (omega arith) .1)

@@ -1,0 +1,2 @@
+pub mod layout_check
+pub mod stage_check

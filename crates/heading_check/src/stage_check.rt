@@ -1,0 +1,101 @@
+// The stages of a heading's progress (document 01, Record 5 and number 20): each within its target's steps, and no done step without its forerunners.
+ghost use mathlib.Core.Path.{_≡_};
+ghost use mathlib.Core.Bool.{cond, true};
+ghost use Prim.Native.Nat.{suc, _+_, _-_, _<_, _≤_};
+ghost use lib.Dec.{leb};
+ghost use lib.ListN.{length};
+ghost use Rattle.storage.specs.Runs.{start, triangle};
+ghost use Rattle.step_order.specs.Steps.{S};
+ghost use Rattle.heading_format.specs.Heading.{every};
+ghost use Rattle.heading_check.specs.stage_check.Walk.{stepWith, stepped, told};
+
+// What a walk over steps has found: how many are left, and whether each that is done comes after its forerunners.
+pub struct Walk {
+    pub left: u64,
+    pub lawful: bool,
+}
+
+// A number of the heading as a count.
+fn wide(x: u32) -> u64
+    ensures { λ r. ⌜ r ≡ x ⌝ }
+{
+    x as u64
+}
+
+// How many targets stand in the rows before row i.
+fn targets_before(i: u64) -> u64
+    requires { ⌜ i ≤ 8 ⌝ }
+    ensures { λ r. ⌜ (r ≡ start triangle i) × (r ≤ 36) ⌝ }
+{
+    i * (i + 1) / 2
+}
+
+// The stage of target (i, j).
+pub fn stage(h: &[u32], i: u64, j: u64) -> u64
+    requires { ⌜ (128 ≤ length (now h)) × (j ≤ i) × (i ≤ 8) ⌝ }
+    ensures { λ r. ⌜ r ≡ told (now (h .entry)) i j ⌝ }
+{
+    let at = 24 + targets_before(i) + j;
+    wide(h[at as usize])
+}
+
+// No target of row i is past its last step.
+fn row_bounded(h: &[u32], i: u64) -> bool
+    requires { ⌜ (128 ≤ length (now h)) × (i ≤ 8) ⌝ }
+    ensures { λ r. ⌜ r ≡ every (λ j. leb (told (now (h .entry)) i j) (suc j)) (suc i) ⌝ }
+{
+    let mut j: u64 = 0;
+    while j < i + 1 {
+        if stage(h, i, j) <= j + 1 {
+            j += 1;
+        } else {
+            return false;
+        }
+    }
+    true
+}
+
+// No target is.
+pub fn is_bounded(h: &[u32], k: u64) -> bool
+    requires { ⌜ (128 ≤ length (now h)) × (k ≤ 8) ⌝ }
+    ensures { λ r. ⌜ r ≡ every (λ i. every (λ j. leb (told (now (h .entry)) i j) (suc j)) (suc i)) (suc k) ⌝ }
+{
+    let mut i: u64 = 0;
+    while i < k + 1 {
+        if row_bounded(h, i) {
+            i += 1;
+        } else {
+            return false;
+        }
+    }
+    true
+}
+
+// How many steps are left of one.
+fn undone(done: bool) -> u64
+    ensures { λ r. ⌜ (r ≡ cond done 0 1) × (r ≤ 1) ⌝ }
+{
+    if done { 0 } else { 1 }
+}
+
+// A step more.
+pub fn step(w: Walk, done: bool, ready: bool) -> Walk
+    requires { ⌜ w .left ≤ 5000 ⌝ }
+    ensures { λ r. ⌜ (r ≡ stepWith w done ready) × (r .left ≤ w .left + 1) ⌝ }
+{
+    Walk {
+        left: w.left + undone(done),
+        lawful: w.lawful & (!done | ready),
+    }
+}
+
+// S(i,j,x): after it in its target come others, so those before it are done with it; what is left to see is T(i,x) and T(j,x).
+pub fn subtraction(h: &[u32], w: Walk, i: u64, j: u64, x: u64) -> Walk
+    requires { ⌜ (128 ≤ length (now h)) × (x < j) × (j ≤ i) × (i ≤ 8) × (w .left ≤ 5000) ⌝ }
+    ensures { λ r. ⌜ (r ≡ stepped (told (now (h .entry))) w (S i j x)) × (r .left ≤ w .left + 1) ⌝ }
+{
+    let s = stage(h, i, j);
+    let a = stage(h, i, x);
+    let b = stage(h, j, x);
+    step(w, x < s, (x < a) & (x < b))
+}

@@ -1,0 +1,43 @@
+-- `headed`, taken apart.
+use Prim.Native.Nat.{ℕ}
+use mathlib.Core.Path.{_≡_}
+use mathlib.Core.Bool.{Bool, true, not, _&&_, _||_, and-eq-true-iff}
+use mathlib.Core.List.{List}
+use lib.Dec.{ltb, leb}
+use lib.ListN.{length, getD}
+use borrow.Author.Tests.{leb-true, ltb-true}
+use Rattle.layout.specs.declared.Layout.{Layout}
+use Rattle.layout.specs.Shapes.{levels, numbersNeeded, doublesNeeded}
+use Rattle.heading_format.specs.Heading.{layoutOf, progressOf, entryRow, every, lawful, progressLawful, headed}
+use Rattle.heading_format.proofs.Lawful.{every-at, unless-at}
+use Rattle.heading_format.specs.Fits.{Fits}
+
+-- nine tests that all pass
+passed : (a b c d e f g h i : Bool) → (a && b && c && d && e && f && g && h && i) ≡ true
+    → (a ≡ true) × (e ≡ true) × (f ≡ true) × (g ≡ true) × (h ≡ true) × (i ≡ true)
+passed a b c d e f g h i t =
+    let t₈ = and-eq-true-iff (a && b && c && d && e && f && g && h) i .0 t in
+    let t₇ = and-eq-true-iff (a && b && c && d && e && f && g) h .0 t₈.0 in
+    let t₆ = and-eq-true-iff (a && b && c && d && e && f) g .0 t₇.0 in
+    let t₅ = and-eq-true-iff (a && b && c && d && e) f .0 t₆.0 in
+    let t₄ = and-eq-true-iff (a && b && c && d) e .0 t₅.0 in
+    let t₃ = and-eq-true-iff (a && b && c) d .0 t₄.0 in
+    let t₂ = and-eq-true-iff (a && b) c .0 t₃.0 in
+    (and-eq-true-iff a b .0 t₂.0 .0, t₄.1, t₅.1, t₆.1, t₇.1, t₈.1)
+
+pub fits : (h : List ℕ) (doubles : ℕ) → headed h doubles ≡ true → Fits h doubles
+unfolding headed
+fits h doubles e =
+    let y : Layout = layoutOf h in
+    let k =
+    passed (leb 128 (length h)) (leb (getD h 20 0) 1) (leb (getD h 21 0) 1) (leb (getD h 22 0) 2) (lawful y) (progressLawful y.k (progressOf h))
+    (leb (numbersNeeded y) (length h)) (leb (doublesNeeded y) doubles)
+    (not y.sparse || every (λ c. ltb (entryRow h c) (levels y 1)) (levels y 0)) e in
+    record {
+      layout = k.1;
+      progress = k.2;
+      long = leb-true 128 (length h) k.0;
+      numbers = leb-true (numbersNeeded y) (length h) k.3;
+      room = leb-true (doublesNeeded y) doubles k.4;
+      rows = λ s c b. ltb-true (entryRow h c) (levels y 1) (every-at (λ c. ltb (entryRow h c) (levels y 1)) (levels y 0) (unless-at y.sparse _ k.5 s) c b);
+    }

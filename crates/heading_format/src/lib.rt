@@ -1,0 +1,43 @@
+// The progress of an update, the heading's numbers and number 20 (document 01, Records 2 and 5): the structs that calls hand on by value.
+// Definitions are in specs/.
+ghost use mathlib.Core.Path.{_≡_};
+ghost use Prim.Native.Nat.{_<_, _≤_};
+ghost use Rattle.heading_format.specs.Marked.{marked};
+
+// Record 5: none, under way or finished.
+pub enum State {
+    Idle,
+    UnderWay,
+    Finished,
+}
+
+// Record 5: the state, the steps left, and the stage of each of the at most 45 target blocks, by rows: how many of its steps are done.
+pub struct Progress {
+    pub state: State,
+    pub left: u64,
+    pub stages: [u64; 45],
+}
+
+impl Progress {
+    // One step of a target done: its stage, by the target's place among the 45; one step left fewer, and finished with the last.
+    pub fn mark(self, place: usize, stage: u64) -> Progress
+        requires { ⌜ (place < 45) × (1 ≤ self .left) ⌝ }
+        ensures { λ r. ⌜ r ≡ marked self place stage ⌝ }
+    {
+        let mut stages = self.stages;
+        stages[place] = stage;
+        let left = self.left - 1;
+        if left == 0 {
+            return Progress {
+                state: State::Finished,
+                left,
+                stages,
+            };
+        }
+        Progress {
+            state: State::UnderWay,
+            left,
+            stages,
+        }
+    }
+}

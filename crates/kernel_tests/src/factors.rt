@@ -1,0 +1,93 @@
+// The kernels of triangle_init, diagonal_init, re_factor, block_logs, block_solve and block_divide; a solve's vector lies in w, its factor in v.
+ghost use Rattle.kernel_tests.specs.Cases.{Small};
+use super::answer;
+use super::answer::OUT_OF_FORM;
+use super::case::Case;
+use crate::kernel_sizes;
+use float_bits::words;
+use re_factor::block_divide;
+use re_factor::block_logs;
+use re_factor::block_solve;
+use re_factor::diagonal_init;
+use re_factor::triangle_init;
+
+pub fn init(x: Case, w: &mut [f64]) -> u64
+    requires { ⌜ Small x ⌝ }
+{
+    let size = kernel_sizes::packed_size(x.p1);
+    if kernel_sizes::clash(w.len(), x.p0, size, x.p2, x.p1) {
+        return OUT_OF_FORM;
+    }
+    triangle_init::init(w, x.p0, x.p1, x.p2, x.s);
+    0
+}
+
+pub fn init_diagonal(x: Case, w: &mut [f64]) -> u64
+    requires { ⌜ Small x ⌝ }
+{
+    if kernel_sizes::clash(w.len(), x.p0, x.p1, x.p2, x.p1) {
+        return OUT_OF_FORM;
+    }
+    diagonal_init::init_diagonal(w, x.p0, x.p1, x.p2, x.s);
+    0
+}
+
+// chol, log_pivots and logs_later.
+pub fn packed_block(x: Case, w: &mut [f64]) -> u64
+    requires { ⌜ Small x ⌝ }
+{
+    if kernel_sizes::no_packed(w.len(), x.p0, x.p1) {
+        return OUT_OF_FORM;
+    }
+    if x.kernel == 22 {
+        return answer::row(re_factor::chol(w, x.p0, x.p1));
+    }
+    if x.kernel == 24 {
+        return words::word_of(block_logs::log_pivots(w, x.p0, x.p1, x.s));
+    }
+    words::word_of(block_logs::logs_later(w, x.p0, x.p1, x.s))
+}
+
+// chol_diagonal, log_diagonal and logs_later_diagonal.
+pub fn diagonal_block(x: Case, w: &mut [f64]) -> u64
+    requires { ⌜ Small x ⌝ }
+{
+    if x.p0 + x.p1 > w.len() {
+        return OUT_OF_FORM;
+    }
+    if x.kernel == 23 {
+        return answer::row(re_factor::chol_diagonal(w, x.p0, x.p1));
+    }
+    if x.kernel == 25 {
+        return words::word_of(block_logs::log_diagonal(w, x.p0, x.p1, x.s));
+    }
+    words::word_of(block_logs::logs_later_diagonal(w, x.p0, x.p1, x.s))
+}
+
+// forward and backward.
+pub fn solve(x: Case, w: &mut [f64], v: &[f64]) -> u64
+    requires { ⌜ Small x ⌝ }
+{
+    if (x.p0 + x.p2 > w.len()) | kernel_sizes::no_packed(v.len(), x.p1, x.p2) {
+        return OUT_OF_FORM;
+    }
+    if x.kernel == 28 {
+        block_solve::forward(w, x.p0, v, x.p1, x.p2);
+        return 0;
+    }
+    block_solve::backward(w, x.p0, v, x.p1, x.p2);
+    0
+}
+
+pub fn divide(x: Case, w: &mut [f64], v: &[f64]) -> u64
+    requires { ⌜ Small x ⌝ }
+{
+    if x.p0 + x.p2 > w.len() {
+        return OUT_OF_FORM;
+    }
+    if x.p1 + x.p2 > v.len() {
+        return OUT_OF_FORM;
+    }
+    block_divide::divide(w, x.p0, v, x.p1, x.p2);
+    0
+}

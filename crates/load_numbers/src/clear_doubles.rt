@@ -1,0 +1,21 @@
+// All doubles that the formula counts, cleared (document 01, Record 3): nothing past the formula is written.
+ghost use mathlib.Core.Path.{_≡_};
+ghost use mathlib.Core.Bool.{true};
+ghost use Prim.Native.Nat.{_+_, _≤_};
+ghost use lib.ListN.{length};
+ghost use Rattle.storage.specs.Runs.{tab};
+ghost use Rattle.storage.specs.Part.{store};
+ghost use Rattle.rules.specs.Arithmetic.{ieee};
+ghost use Rattle.layout.specs.Shapes.{doublesNeeded};
+ghost use Rattle.heading_format.specs.Heading.{lawful};
+use block_places::places;
+use block_runs::run_copies;
+use layout::Layout;
+
+// Every double that the formula counts becomes +0.0.
+pub fn clear_all(y: Layout, w: &mut [f64])
+    requires { ⌜ (lawful y ≡ true) × (doublesNeeded y ≤ length (now w)) ⌝ }
+    ensures { λ _. ⌜ now (w .exit) ≡ store 0 (tab (doublesNeeded y) (λ i. ieee .zero)) (now (w .entry)) ⌝ }
+{
+    run_copies::clear(w, places::sum_at(y) + 1);
+}

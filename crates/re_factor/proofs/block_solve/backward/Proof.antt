@@ -1,0 +1,20 @@
+-- `re_factor::block_solve::backward`: the lent parts are the entries and the triangle.
+use native.Mathlib.Omega.{arith}
+use Rattle.rules.specs.Arithmetic.{ieee}
+use Rattle.rules.specs.Solves.{backward}
+use Rattle.re_lower.proofs.Back.{length-backward}
+use Rattle.re_factor.proofs.Lends.{lent-solve}
+use borrow.Author.Needs.{needs}
+use Rattle.re_factor.proofs.block_solve.backward.Statement.{statement}
+use Rattle.re_factor.proofs.block_solve.backward.Tie as tie
+
+returns : tie.Need-returns
+returns c = let a = c.before.before.before.before.before.before.before.before.args in
+    let p = c.before.before.backward in
+    lent-solve (λ b f. backward ieee b f a.n a.n) a.n (λ b f. length-backward ieee b f a.n a.n) a.v.now a.z (omega arith)
+    a.w.now a.off _ c.before.before.before.before.before.row-start.ensures p.last.0 p.ensures
+
+pub backward-spec : {M : Type 1} → statement M
+backward-spec = tie.close (tie.spec (λ c. search needs) (λ c κs. search needs) (λ c. search needs) (λ c. search needs)
+    (λ c. search needs) (λ c. search needs) (λ c. search needs) (λ c. search needs) (λ c. search needs)
+    (λ c. search needs) (λ c. search needs) (λ c κs. search needs) (λ c. search needs) returns)

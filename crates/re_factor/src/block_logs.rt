@@ -1,0 +1,42 @@
+// The logarithms that C adds to the running sum (document 01, Record 4), of a block that is read from the whole list.
+ghost use mathlib.Core.Path.{_≡_};
+ghost use Prim.Native.Nat.{_+_, _≤_};
+ghost use lib.ListN.{length};
+ghost use Rattle.storage.specs.Shape.{packed, diagonal, sizeOf};
+ghost use Rattle.re_factor.specs.Factor.{logsFirst, logsLater};
+use re_lower::pivot_logs;
+use re_lower::triangle_cells;
+
+// s and the logarithms of the n pivots of the packed factor at off, one by one.
+pub fn log_pivots(w: &[f64], off: usize, n: usize, s: f64) -> f64
+    requires { ⌜ (n ≤ 316) × (off + sizeOf (packed n) ≤ length (now w)) ⌝ }
+    ensures { λ r. ⌜ r ≡ logsFirst (packed n) off n s (now (w .entry)) ⌝ }
+{
+    let end = off + triangle_cells::row_start(n);
+    pivot_logs::log_pivots(&w[off..end], n, s)
+}
+
+// s and the logarithms of the n pivots of the diagonal at off, one by one.
+pub fn log_diagonal(w: &[f64], off: usize, n: usize, s: f64) -> f64
+    requires { ⌜ off + n ≤ length (now w) ⌝ }
+    ensures { λ r. ⌜ r ≡ logsFirst (diagonal n) off n s (now (w .entry)) ⌝ }
+{
+    let end = off + n;
+    pivot_logs::log_diagonal(&w[off..end], n, s)
+}
+
+// s and the sum of those logarithms, from 0.0: of a packed factor.
+pub fn logs_later(w: &[f64], off: usize, n: usize, s: f64) -> f64
+    requires { ⌜ (n ≤ 316) × (off + sizeOf (packed n) ≤ length (now w)) ⌝ }
+    ensures { λ r. ⌜ r ≡ logsLater (packed n) off n s (now (w .entry)) ⌝ }
+{
+    s + log_pivots(w, off, n, 0.0)
+}
+
+// And of a diagonal.
+pub fn logs_later_diagonal(w: &[f64], off: usize, n: usize, s: f64) -> f64
+    requires { ⌜ off + n ≤ length (now w) ⌝ }
+    ensures { λ r. ⌜ r ≡ logsLater (diagonal n) off n s (now (w .entry)) ⌝ }
+{
+    s + log_diagonal(w, off, n, 0.0)
+}

@@ -1,0 +1,3 @@
+pub mod finite
+pub mod write_rows
+pub mod list_faults

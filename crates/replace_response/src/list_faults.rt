@@ -1,0 +1,65 @@
+// What a list of a response is refused with (document 01, numbers 13 and 14).
+ghost use mathlib.Core.Path.{_≡_};
+ghost use lib.Dec.{eqb};
+ghost use Rattle.refusal.specs.Numbers.{refusal};
+ghost use Rattle.workspace.specs.Answers.{firstInfinite};
+ghost use Rattle.replace_response.specs.list_faults.Faults.{lengthFault, wordFault, firstOf};
+use crate::finite;
+use layout::Layout;
+use refusal::Refusal;
+
+// A number and its two places.
+pub fn refused(number: u64, first: u64, second: u64) -> Refusal
+    ensures { λ r. ⌜ r ≡ refusal number first second ⌝ }
+{
+    Refusal {
+        number,
+        first,
+        second,
+    }
+}
+
+// 13 of the first list that has another length than the layout says: Z'y, X'y, y'y. Number 0 where there is none.
+pub fn length_fault(y: Layout, zty: usize, xty: usize, yty: usize) -> Refusal
+    ensures { λ r. ⌜ r ≡ lengthFault (eqb zty (y .q)) (eqb xty (y .p)) (eqb yty 1) ⌝ }
+{
+    if zty as u64 == y.q {
+        if xty as u64 == y.p {
+            if yty == 1 {
+                return refused(0, 0, 0);
+            }
+            return refused(13, 2, 0);
+        }
+        return refused(13, 1, 0);
+    }
+    refused(13, 0, 0)
+}
+
+// 14 of the first infinity or NaN of the three lists: its list and its index. Number 0 where there is none.
+pub fn word_fault(zty: &[f64], xty: &[f64], yty: &[f64]) -> Refusal
+    ensures { λ r. ⌜ r ≡ wordFault (firstInfinite 0 (now (zty .entry))) (firstInfinite 0 (now (xty .entry))) (firstInfinite 0 (now (yty .entry))) ⌝ }
+{
+    let a = finite::first_infinite(zty);
+    if a < zty.len() {
+        return refused(14, 0, a as u64);
+    }
+    let b = finite::first_infinite(xty);
+    if b < xty.len() {
+        return refused(14, 1, b as u64);
+    }
+    let c = finite::first_infinite(yty);
+    if c < yty.len() {
+        return refused(14, 2, c as u64);
+    }
+    refused(0, 0, 0)
+}
+
+// The first of two refusals, where the first is none the second.
+pub fn first_of(a: Refusal, b: Refusal) -> Refusal
+    ensures { λ r. ⌜ r ≡ firstOf a b ⌝ }
+{
+    if a.number == 0 {
+        return b;
+    }
+    a
+}

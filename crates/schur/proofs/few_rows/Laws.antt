@@ -1,0 +1,98 @@
+-- Sums by rows of the target, and the target less them.
+use Prim.Native.Nat.{ℕ, _+_, _-_, _*_, _≤_, _<_}
+use mathlib.Core.Path.{_≡_, refl, ap, ap₂, subst, _∙_}
+use mathlib.Core.List.{List}
+use native.Mathlib.Nat.{mul-le-mul}
+use native.Mathlib.Omega.{arith}
+use borrow.Rule.Slice.PartMut.{putMid}
+use lib.ListN.{length, take, drop}
+use lib.Ieee.{Float, nan}
+use Rattle.storage.specs.Runs.{start, dense, cells}
+use Rattle.storage.specs.Shape.{columns, sizeOf, fill}
+use Rattle.storage.specs.Part.{store}
+use Rattle.storage.proofs.Starts.{start-dense, start-below}
+use Rattle.storage.proofs.Cells.{tab-ext, length-cells, getD-cells, cells-ext}
+use Rattle.storage.proofs.Parts.{store-in, store-lent, getD-part}
+use Rattle.rules.specs.Arithmetic.{ieee}
+use Rattle.rules.specs.Steps.{subtractDense}
+use Rattle.block_runs.specs.blocks.Blocks.{block}
+use Rattle.block_runs.proofs.blocks.Laws.{read-block, has-dense}
+use Rattle.block_runs.proofs.blocks.Runs.{Writing, writing-own, writing-more}
+use Rattle.block_runs.specs.axpy.Axpy.{at, run, products}
+use Rattle.block_runs.proofs.axpy.Sums.{sum-along, along-swap, summed}
+use Rattle.schur.specs.few_rows.Few.{rowSums, lessSum, lessSums}
+
+-- the sums of the products of one row of block a, made beside t and put there
+pub row-put : (w t t′ acc acc₁ acc₂ : List Float) (from k n a rows b r inner : ℕ) → n ≤ length acc → acc₁ ≡ run 0 n (λ i. ieee .zero) acc
+    → acc₂ ≡ products (ieee .plus) acc₁ n w b n w a rows r inner → k ≡ from → t′ ≡ run k n (at acc₂) t → t′ ≡ run from n (rowSums a rows b n inner w r) t
+row-put w t t′ acc acc₁ acc₂ from k n a rows b r inner room first then e so =
+    so
+    ∙ ap₂ (λ (x : ℕ) (l : List Float). store x l t) e
+    (tab-ext n _ _ (summed ieee.plus n w b n w a rows r inner acc acc₁ acc₂ (λ i. ieee .zero) room first then))
+
+-- two rows more
+pub two-rows : {end cols n : ℕ} {b : ℕ → ℕ → Float} {t₀ : List Float} {r from : ℕ} {t : List Float} {from′ : ℕ} {t′ : List Float}
+    → Writing 0 end (dense cols) n b t₀ r from t → r + 2 ≤ n → from′ ≡ from + 2 * cols → t′ ≡ run (from + cols) cols (b (r + 1)) (run from cols (b r) t)
+    → Writing 0 end (dense cols) n b t₀ (r + 2) from′ t′
+two-rows {end} {cols} {n} {b} {t₀} {r} {from} {t} {from′} {t′} e more next then =
+    let k : r + 1 + 1 ≡ r + 2 = omega arith in
+    subst (λ (x : ℕ). Writing 0 end (dense cols) n b t₀ x from′ t′) k
+    (writing-more (writing-more e (omega arith) from cols (b r) (omega arith) refl refl (λ i l. refl) refl) (omega arith) (from + cols) cols (b (r + 1)) (omega arith) refl (omega arith)
+    (λ i l. refl) then)
+
+-- one column more
+pub column-less : {end rows cols : ℕ} {t₀ : List Float} {c to : ℕ} {t t′ : List Float} {to′ : ℕ} (sums : List Float)
+    → Writing 0 end (dense rows) cols (lessSums rows cols sums t₀) t₀ c to t → c < cols → to′ ≡ to + rows → t′ ≡ run to rows (lessSum to cols sums c t) t
+    → Writing 0 end (dense rows) cols (lessSums rows cols sums t₀) t₀ (c + 1) to′ t′
+column-less {end} {rows} {cols} {t₀} {c} {to} {t} sums e more next then =
+    writing-more e more to rows _ (omega arith) refl next
+    (λ i l.
+    ap (λ (s : Float). ieee .minus s (at sums (start (dense cols) i + c)))
+    (writing-own e more (to + i) (omega arith) ∙ ap (λ (k : ℕ). at t₀ (k + i)) e.place))
+    then
+
+-- a sum that is read
+sum-read : (rows cols : ℕ) (rule : ℕ → ℕ → Float) (sums t : List Float) → sizeOf (columns cols rows) ≤ length t
+    → sums ≡ store 0 (cells (dense cols) rows rule) t → (r c : ℕ) → r < rows → c < cols → at sums (start (dense cols) r + c) ≡ rule r c
+sum-read rows cols rule sums t room made r c h l =
+    let L : List Float = cells (dense cols) rows rule in
+    let q : length L ≡ start (dense cols) rows = length-cells (dense cols) rows rule in
+    let k : start (dense cols) r + c ≡ 0 + (start (dense cols) r + c) = omega arith in
+    ap₂ (λ (x : List Float) (i : ℕ). at x i) made k
+    ∙ store-in 0 L t (omega arith) nan (start (dense cols) r + c) (omega (arith, start-below (dense cols) r rows h))
+    ∙ getD-cells (dense cols) rows rule r c nan h l
+
+-- the block at off, lent, less the sums
+pub few-less : (w y sums t : List Float) (off end rows cols a b inner : ℕ) → end ≡ off + sizeOf (columns rows cols) → end ≤ length w
+    → sizeOf (columns cols rows) ≤ length t → sums ≡ store 0 (cells (dense cols) rows (rowSums a rows b cols inner w)) t
+    → y ≡ store 0 (cells (dense rows) cols (lessSums rows cols sums (take (end - off) (drop off w)))) (take (end - off) (drop off w))
+    → putMid off (end - off) w y
+    ≡ store off
+    (fill (columns rows cols)
+    (subtractDense ieee (block off (columns rows cols) w) (block a (columns rows inner) w) (block b (columns cols inner) w) inner))
+    w
+unfolding fill
+few-less w y sums t off end rows cols a b inner e top room made so =
+    let P : List Float = take (end - off) (drop off w) in
+    let L : List Float = cells (dense rows) cols (lessSums rows cols sums P) in
+    let q : length L ≡ start (dense rows) cols = length-cells (dense rows) cols (lessSums rows cols sums P) in
+    let k : off + 0 ≡ off = omega arith in
+    ap (putMid off (end - off) w) so ∙ store-lent w off (end - off) 0 L (omega arith) (omega arith)
+    ∙ ap₂ (λ (x : ℕ) (l : List Float). store x l w) k
+    (cells-ext (dense rows) cols _ _
+    (λ c i h l.
+    let in-block : start (dense rows) c + rows ≤ start (dense rows) cols = start-below (dense rows) c cols h in
+    ap₂ ieee.minus
+    (getD-part off (end - off) w (start (dense rows) c + i) nan (omega arith)
+    ∙ read-block (columns rows cols) off w i c (off + (start (dense rows) c + i)) (has-dense rows cols i c l h) (omega arith) refl)
+    (sum-read rows cols (rowSums a rows b cols inner w) sums t room made i c l h
+    ∙ along-swap ieee.plus ieee.zero (block b (columns cols inner) w c) (block a (columns rows inner) w i) inner
+    ∙ sum-along ieee.zero (block a (columns rows inner) w i) (block b (columns cols inner) w c) inner)))
+
+-- the list of sums is long enough
+pub few-room : (rows cols : ℕ) → rows ≤ 12 → cols ≤ 316 → sizeOf (columns cols rows) ≤ 3792
+few-room rows cols h k = omega (arith, start-dense cols rows, mul-le-mul h k)
+
+-- where the block ends
+pub block-ends : (off rows cols : ℕ) → off + cols * rows ≡ off + sizeOf (columns rows cols)
+block-ends off rows cols = omega (arith, start-dense rows cols)

@@ -1,0 +1,27 @@
+-- `schur::rank_diagonal::rank_sub_diagonal`: the sums start at 0.0, and are over all columns where they are subtracted.
+use lib.ListN.{getD-replicate}
+use lib.Ieee.{nan}
+use native.Mathlib.Omega.{arith}
+use Rattle.storage.specs.Shape.{columns}
+use Rattle.storage.proofs.Starts.{start-single}
+use Rattle.rules.specs.Arithmetic.{ieee}
+use Rattle.schur.proofs.rank_diagonal.Chunks.{rows-once}
+use borrow.Author.Needs.{needs}
+use Rattle.schur.proofs.rank_diagonal.rank_sub_diagonal.Statement.{statement}
+use Rattle.schur.proofs.rank_diagonal.rank_sub_diagonal.Tie as tie
+
+sum-columns-requires : tie.Need-sum-columns-requires
+sum-columns-requires c κs = (search needs, λ i h. getD-replicate 316 i ieee.zero nan (omega arith))
+
+less-sums-requires : tie.Need-less-sums-requires
+less-sums-requires c κs = omega (arith, start-single c.before.before.before.before.before.before.before.args.n)
+
+returns : tie.Need-returns
+returns c = let p = c.before.before.before.before.before.before.before.before.before.before in let a = p.args in
+    let sums = c.before.before.before.before.before.before.sum-columns in
+    rows-once a.off a.n (columns a.n a.inner) a.a a.inner a.src a.w.now (omega arith) p.pre.1.0 p.pre.1.1
+    sums.last.0 sums.ensures c.before.before.less-sums.last.0 c.before.before.less-sums.ensures
+
+pub rank-sub-diagonal-spec : {M : Type 1} → statement M
+rank-sub-diagonal-spec = tie.close (tie.spec (λ c. search needs) sum-columns-requires (λ c. search needs)
+    less-sums-requires (λ c. search needs) returns)

@@ -1,0 +1,48 @@
+-- `schur::rank_diagonal_sparse::rank_sub_diagonal_sparse`: the rows before `from` are done.
+use Prim.Native.Nat.{_≤_, _-_}
+use mathlib.Core.Path.{_≡_, refl}
+use lib.ListN.{length}
+use native.Mathlib.Omega.{arith}
+use Rattle.storage.specs.Shape.{entries}
+use Rattle.storage.proofs.Starts.{start-single}
+use Rattle.block_runs.specs.blocks.Blocks.{rowFrom}
+use Rattle.schur.specs.rank_diagonal.Rows.{doneRows}
+use Rattle.schur.proofs.rank_diagonal.Chunks.{rows-none, rows-all, rows-more}
+use Rattle.schur.proofs.rank_diagonal_sparse.rank_sub_diagonal_sparse.Statement.{statement}
+use Rattle.schur.proofs.rank_diagonal_sparse.rank_sub_diagonal_sparse.Tie as tie
+
+abbrev Inv-loop : tie.InvT-loop
+Inv-loop w₀ off n a inner src h first from₀ w from =
+    (from ≤ n) × (length w ≡ length w₀) × (w ≡ doneRows off n (entries inner (rowFrom h first)) a inner src from w₀)
+
+abbrev μ-loop : tie.MeasureT-loop
+μ-loop w₀ off n a inner src h first from₀ w from = n - from
+
+loop-holds : tie.Need-loop-holds Inv-loop μ-loop
+loop-holds c = let a = c.before.before.args in
+    (omega arith, refl, rows-none a.off a.n (entries a.inner (rowFrom a.h.now a.first)) a.a a.inner a.src a.w.now)
+
+less-rows-requires : tie.Need-less-rows-requires Inv-loop μ-loop
+less-rows-requires c κs = omega (arith, start-single c.before.before.before.before.before.before.args.n)
+
+loop-less : tie.Need-loop-less Inv-loop μ-loop
+loop-less c = let q = c.before.before.before.before.chunk.ensures.2 (omega arith) in omega arith
+
+loop-again : tie.Need-loop-again Inv-loop μ-loop
+loop-again c = let p = c.before.before.before.before.before.before.before.before.before in let a = p.args in
+    let l = c.before.before.before.before.before.before.loop in let t = c.before.before.less-rows in (
+      omega arith,
+      omega arith,
+      rows-more a.off a.n (entries a.inner (rowFrom a.h.now a.first)) a.a a.inner a.src a.w.now (omega arith)
+          (rw (start-single a.inner) p.pre.1.0) (rw (start-single a.inner) p.pre.1.1)
+          l.from c.before.before.before.before.chunk.result (omega arith) l.w l.inv.2 t.last.0 t.ensures,
+    )
+
+returns : tie.Need-returns Inv-loop μ-loop
+returns c = let a = c.before.before.before.before.args in let l = c.before.loop in
+    let e : l .from ≡ a .n = omega arith in
+    rows-all a.off a.n (entries a.inner (rowFrom a.h.now a.first)) a.a a.inner a.src a.w.now l.w (rw e at l.inv.2)
+
+pub rank-sub-diagonal-sparse-spec : {M : Type 1} → statement M
+rank-sub-diagonal-sparse-spec = tie.close (tie.spec Inv-loop μ-loop loop-holds (λ c. omega arith) (λ c κs. tt)
+    less-rows-requires (λ c. omega arith) loop-less loop-again (λ c. omega arith) returns)

@@ -1,0 +1,20 @@
+-- S of a diagonal block (document 01, Record 4): each pivot less the sum of the squares of its row of the cross block, over the cells that were
+-- loaded non-zero, whatever they are now. The sum is taken from 0.0 by rising inner index and subtracted once; every other double stays.
+use Prim.Native.Nat.{ℕ}
+use mathlib.Core.Bool.{Bool, _&&_, not}
+use mathlib.Core.List.{List}
+use lib.Ieee.{Float}
+use Rattle.storage.specs.Shape.{Shape, diagonal, hasCell, fill}
+use Rattle.storage.specs.Part.{store}
+use Rattle.rules.specs.Arithmetic.{ieee}
+use Rattle.rules.specs.Steps.{subtractDiagonal}
+use Rattle.block_runs.specs.blocks.Blocks.{block}
+
+-- whether cell (r, x) of the block with shape s counts: it was loaded, from `src` on, and is not ±0
+abbrev pub loaded : (s : Shape) (src : ℕ) → List Float → ℕ → ℕ → Bool
+loaded s src w r x = hasCell s r x && not (ieee .null (block src s w r x))
+
+-- the diagonal of n pivots at off, less the working cross block at a, loaded from `src`, times itself transposed
+abbrev pub subtractedDiagonal : (off n : ℕ) (s : Shape) (a inner src : ℕ) → List Float → List Float
+subtractedDiagonal off n s a inner src w =
+    store off (fill (diagonal n) (subtractDiagonal ieee (loaded s src w) (block off (diagonal n) w) (block a s w) inner)) w

@@ -1,0 +1,61 @@
+-- How far S of a diagonal has come: the sums of some rows over the columns so far, and the rows that are done.
+use Prim.Native.Nat.{ℕ, _+_, _<_}
+use mathlib.Core.Path.{_≡_}
+use mathlib.Core.Bool.{Bool, _&&_, not, cond}
+use mathlib.Core.List.{List}
+use lib.Dec.{eqb}
+use lib.ListN.{getD}
+use lib.Ieee.{Float, nan}
+use Rattle.storage.specs.Runs.{tab}
+use Rattle.storage.specs.Shape.{Shape, diagonal, hasCell}
+use Rattle.storage.specs.Part.{store}
+use Rattle.rules.specs.Arithmetic.{ieee}
+use Rattle.rules.specs.Sums.{sumFrom}
+use Rattle.rules.specs.Steps.{subtractDiagonal}
+use Rattle.block_runs.specs.blocks.Blocks.{block}
+use Rattle.schur.specs.rank_diagonal.Diagonal.{loaded}
+
+-- y plus the square of v, if there is such a cell and it was not loaded as ±0
+abbrev pub plusSquare : (there : Bool) (cell v y : Float) → Float
+plusSquare there cell v y = cond (there && not (ieee .null cell)) (ieee .plus y (ieee .times v v)) y
+
+-- the sum of row r over the first x columns
+abbrev pub sumOf : (s : Shape) (a src : ℕ) → List Float → (r x : ℕ) → Float
+sumOf s a src w r x = sumFrom ieee (ieee .zero) (loaded s src w r) (block a s w r) (block a s w r) x
+
+-- t holds 0.0 for each of m rows
+abbrev pub Zeros : (m : ℕ) (t : List Float) → Type 0
+Zeros m t = (i : ℕ) → i < m → getD t i nan ≡ ieee .zero
+
+-- t holds the sums of m rows, row `from` first, over the first x columns
+abbrev pub Summed : (s : Shape) (a src : ℕ) (w : List Float) (from m x : ℕ) (t : List Float) → Type 0
+Summed s a src w from m x t = (i : ℕ) → i < m → getD t i nan ≡ sumOf s a src w (from + i) x
+
+-- y with cell (r, x) counted
+abbrev pub withCell : (s : Shape) (a src : ℕ) → List Float → (r x : ℕ) → Float → Float
+withCell s a src w r x y = plusSquare (hasCell s r x) (block src s w r x) (block a s w r x) y
+
+-- t′ has column x more than t
+abbrev pub Added : (s : Shape) (a src : ℕ) (w : List Float) (from m x : ℕ) (t t′ : List Float) → Type 0
+Added s a src w from m x t t′ = (i : ℕ) → i < m → getD t′ i nan ≡ withCell s a src w (from + i) x (getD t i nan)
+
+-- t′ has the square of v more than t in its row, if that is among the m rows and the loaded cell is not ±0
+abbrev pub AddedEntry : (from m row : ℕ) (cell v : Float) (t t′ : List Float) → Type 0
+AddedEntry from m row cell v t t′ = (i : ℕ) → i < m → getD t′ i nan ≡ plusSquare (eqb (from + i) row) cell v (getD t i nan)
+
+-- the m doubles at `at` less those of t
+abbrev pub lessEach : (at m : ℕ) (t : List Float) → List Float → List Float
+lessEach at m t w = store at (tab m (λ i. ieee .minus (getD w (at + i) nan) (getD t i nan))) w
+
+-- m pivots of the diagonal at off, row `from` first, less their sums over all columns
+abbrev pub lessRows : (off : ℕ) (s : Shape) (a inner src : ℕ) (from m : ℕ) → List Float → List Float
+lessRows off s a inner src from m w =
+    store (off + from) (tab m (λ i. ieee .minus (getD w (off + from + i) nan) (sumOf s a src w (from + i) inner))) w
+
+-- pivot r of the diagonal of n at off, once it is lessened
+abbrev pub pivot : (off n : ℕ) (s : Shape) (a inner src : ℕ) → List Float → ℕ → Float
+pivot off n s a inner src w r = subtractDiagonal ieee (loaded s src w) (block off (diagonal n) w) (block a s w) inner r r
+
+-- the first m rows are done, all else is as it was
+abbrev pub doneRows : (off n : ℕ) (s : Shape) (a inner src : ℕ) (m : ℕ) → List Float → List Float
+doneRows off n s a inner src m w = store off (tab m (pivot off n s a inner src w)) w

@@ -1,0 +1,113 @@
+// S of a diagonal by a sparse cross block (document 01, Record 4; the Rust's `rank_sub_diagonal`), on the whole list of doubles.
+ghost use mathlib.Core.Path.{_≡_};
+ghost use mathlib.Core.Logic.{_⊎_};
+ghost use Prim.Native.Nat.{_+_, _≤_, _<_};
+ghost use lib.ListN.{length};
+ghost use Rattle.storage.specs.Shape.{diagonal, entries, sizeOf};
+ghost use Rattle.block_runs.specs.blocks.Blocks.{rowFrom};
+ghost use Rattle.schur.specs.rank_diagonal.Diagonal.{subtractedDiagonal};
+ghost use Rattle.schur.specs.rank_diagonal.Rows.{Zeros, Summed, AddedEntry, lessRows};
+use crate::rank_diagonal;
+
+// A row's number as an index.
+fn wide(x: u32) -> usize
+    ensures { λ r. ⌜ r ≡ x ⌝ }
+{
+    x as usize
+}
+
+// The sums of m rows, row `from` first, with an entry of the sparse block that may lie in one of them.
+fn add_entry(sums: &mut [f64], from: usize, m: usize, row: usize, cell: f64, v: f64)
+    requires { ⌜ m ≤ length (now sums) ⌝ }
+    ensures { λ _. ⌜ AddedEntry from m row cell v (now (sums .entry)) (now (sums .exit)) ⌝ }
+{
+    if row < from {
+        return;
+    }
+    let i = row - from;
+    if i >= m {
+        return;
+    }
+    let y = sums[i];
+    sums[i] = rank_diagonal::plus_square(cell, v, y);
+}
+
+// The sums of m rows of the sparse block, row `from` first.
+fn sum_entries(
+    sums: &mut [f64],
+    from: usize,
+    m: usize,
+    w: &[f64],
+    a: usize,
+    inner: usize,
+    src: usize,
+    h: &[u32],
+    first: usize,
+)
+    requires { ⌜ (m ≤ length (now sums)) × (a + inner ≤ length (now w)) × (src + inner ≤ length (now w)) × (first + inner ≤ length (now h)) ⌝ }
+    requires { ⌜ Zeros m (now sums) ⌝ }
+    ensures { λ _. ⌜ Summed (entries inner (rowFrom (now (h .entry)) first)) a src (now (w .entry)) from m inner (now (sums .exit)) ⌝ }
+{
+    let mut x = 0;
+    while x < inner {
+        let row = wide(h[first + x]);
+        let cell = w[src + x];
+        let v = w[a + x];
+        add_entry(sums, from, m, row, cell, v);
+        x += 1;
+    }
+}
+
+// The m pivots from row `from` on, at most 8,192, less their sums over the sparse block.
+fn less_rows(
+    w: &mut [f64],
+    off: usize,
+    from: usize,
+    m: usize,
+    a: usize,
+    inner: usize,
+    src: usize,
+    h: &[u32],
+    first: usize,
+)
+    requires { ⌜ (m ≤ 8192) × (off + from + m ≤ length (now w)) × (a + inner ≤ length (now w)) × (src + inner ≤ length (now w)) × (first + inner ≤ length (now h)) ⌝ }
+    ensures { λ _. ⌜ now (w .exit) ≡ lessRows off (entries inner (rowFrom (now (h .entry)) first)) a inner src from m (now (w .entry)) ⌝ }
+{
+    let mut sums = [0.0; 8192];
+    sum_entries(&mut sums, from, m, w, a, inner, src, h, first);
+    rank_diagonal::less_sums(w, off + from, m, &sums);
+}
+
+// How many rows are summed at a time, of those that are left.
+fn chunk(left: usize) -> usize
+    ensures { λ m. ⌜ (m ≤ left) × (m ≤ 8192) × (0 < left → 0 < m) ⌝ }
+{
+    if left < 8192 {
+        return left;
+    }
+    8192
+}
+
+// S of the diagonal of n pivots at off, with a sparse cross block at a that was loaded from src.
+pub fn rank_sub_diagonal_sparse(
+    w: &mut [f64],
+    off: usize,
+    n: usize,
+    a: usize,
+    inner: usize,
+    src: usize,
+    h: &[u32],
+    first: usize,
+)
+    requires { ⌜ (off + sizeOf (diagonal n) ≤ length (now w)) × (a + inner ≤ length (now w)) × (src + inner ≤ length (now w)) × (first + inner ≤ length (now h)) ⌝ }
+    requires { ⌜ (off + sizeOf (diagonal n) ≤ a) ⊎ (a + inner ≤ off) ⌝ }
+    requires { ⌜ (off + sizeOf (diagonal n) ≤ src) ⊎ (src + inner ≤ off) ⌝ }
+    ensures { λ _. ⌜ now (w .exit) ≡ subtractedDiagonal off n (entries inner (rowFrom (now (h .entry)) first)) a inner src (now (w .entry)) ⌝ }
+{
+    let mut from = 0;
+    while from < n {
+        let m = chunk(n - from);
+        less_rows(w, off, from, m, a, inner, src, h, first);
+        from += m;
+    }
+}

@@ -1,0 +1,3 @@
+pub mod levels
+pub mod mirror_cursor
+pub mod mirror_scan

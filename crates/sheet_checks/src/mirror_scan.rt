@@ -1,0 +1,47 @@
+// One pass over the entries of a sheet for number 9, for a group of columns.
+ghost use mathlib.Core.Path.{_≡_};
+ghost use Prim.Native.Nat.{_+_, _<_};
+ghost use lib.ListN.{length, replicate};
+ghost use Rattle.sheet_checks.specs.mirror_cursor.Held.{held, placeOf, Given, Levelled};
+ghost use Rattle.sheet_checks.specs.mirror_cursor.Turns.{Pass};
+ghost use Rattle.sheet_checks.specs.mirror_scan.Mirror.{Judged, Closed};
+use crate::mirror_step;
+use sheet::Starts;
+use sheet_reader::pair_line;
+
+// At the end of a pass: the number of the line at a cursor whose mirror never came, or 0.
+fn unmet(s: &[u8], z: Starts, n: u64, base: u64, cur: &[usize], due: u64) -> u64
+    requires { ⌜ Given (now s) z n × Pass (now s) z base (now cur) due n (placeOf (now s) z n) × (base + length (now cur) < 1152921504606846976) ⌝ }
+    ensures { λ r. ⌜ Closed (held (now (s .entry))) base (length (now (cur .entry))) r ⌝ }
+{
+    let mut col = base;
+    while col < due {
+        let j = (col - base) as usize;
+        let o = pair_line::pair_line(b"zz\t", s, cur[j]);
+        if (o.first == col) & (col < o.second) {
+            return mirror_step::number_of(s, z, n, o.first, o.second);
+        }
+        col += 1;
+    }
+    0
+}
+
+// One pass over the lines, for the columns of `cur` from `base` on. Every cursor starts at the first zz line.
+pub fn pass(s: &[u8], z: Starts, m: [u64; 8], n: u64, base: u64, cur: &mut [usize]) -> u64
+    requires { ⌜ Given (now s) z n × Levelled (now s) m × (0 < n) × (base + length (now cur) < 1152921504606846976) × (now cur ≡ replicate (length (now cur)) (z .zz)) ⌝ }
+    ensures { λ r. ⌜ Judged (held (now (s .entry))) base (length (now (cur .entry))) r ⌝ }
+{
+    let mut due: u64 = 0;
+    let mut at = z.zz;
+    let mut i: u64 = 0;
+    while i < n {
+        let t = mirror_step::turn(s, z, m, n, base, cur, due, i, at);
+        if 0 < t.fault {
+            return t.fault;
+        }
+        due = t.due;
+        at = t.next;
+        i += 1;
+    }
+    unmet(s, z, n, base, cur, due)
+}

@@ -1,0 +1,2 @@
+pub mod line_verdict
+pub mod sheet_lines

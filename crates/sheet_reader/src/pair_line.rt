@@ -1,0 +1,25 @@
+// Reads a line of a sheet with two numbers and a word (document 01, Record 1), at any position of any bytes: each field stands where the one before
+// it ends. What it answers is defined in the crate sheet, specs/Line.antt.
+ghost use mathlib.Core.Path.{_≡_};
+ghost use Rattle.sheet.specs.Line.{pairLine};
+use crate::field;
+use crate::field::TAB;
+use crate::tag_field;
+use crate::word_field;
+use sheet::Line;
+
+// A tag, two numbers and a word.
+pub fn pair_line(t: &[u8], s: &[u8], at: usize) -> Line
+    ensures { λ r. ⌜ r ≡ pairLine (now (t .entry)) (now (s .entry)) at ⌝ }
+{
+    let o = tag_field::tag(s, at, t);
+    let a = field::number(s, o.next, TAB);
+    let b = field::number(s, a.next, TAB);
+    let w = word_field::word(s, b.next);
+    Line {
+        first: a.value,
+        second: b.value,
+        word: w.value,
+        next: w.next,
+    }
+}

@@ -1,0 +1,17 @@
+-- A result list once X'X - V'W has a factor (document 01, Record 7): w of every row, L_X, and the right side in the place of beta.
+use Prim.Native.Nat.{ℕ, _+_}
+use mathlib.Core.Path.{_≡_}
+use mathlib.Core.List.{List}
+use lib.ListN.{length}
+use lib.Ieee.{Float}
+use Rattle.storage.specs.Runs.{start, triangle, tab}
+use Rattle.storage.specs.Part.{part}
+use Rattle.layout.specs.declared.Layout.{Layout}
+use Rattle.profile.specs.Finish.{joined, fixedFactor, fixedRhs}
+use Rattle.solution_vectors.specs.result_places.Places.{factorAt, wholeLength, Solved}
+
+pub record Ready (h : List ℕ) (w : List Float) (y : Layout) (v : List Float) : Type 0 where
+  pub long : length v ≡ wholeLength y
+  pub solved : Solved h w y (y .p + 1) v
+  pub factor : part (factorAt y) (start triangle (y .p)) v ≡ joined (fixedFactor h w)
+  pub right : part 0 (y .p) v ≡ tab (y .p) (fixedRhs h w)

@@ -1,0 +1,4 @@
+pub mod Root
+pub mod Nearest
+pub mod whole_root
+pub mod parts

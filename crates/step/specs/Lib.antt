@@ -1,0 +1,2 @@
+pub mod step_check
+pub mod step_result

@@ -1,0 +1,105 @@
+// A step's name against the progress of an update (document 01, Records 4 and 5; refusals 22, 21, 23 and 24): whether there is such a step, whether
+// it is done, whether its forerunners are, and which refusal comes first. Any numbers may be asked for.
+use heading_format::Progress;
+use heading_format::State;
+use update::Name;
+ghost use mathlib.Core.Path.{_≡_};
+ghost use Prim.Native.Nat.{_+_, _≤_, _<_};
+ghost use Rattle.storage.specs.Runs.{start, triangle};
+ghost use Rattle.step_order.specs.Steps.{Named, named, after};
+ghost use Rattle.step_order.specs.Progress.{all, done};
+ghost use Rattle.heading_format.specs.Heading.{stageOf};
+ghost use Rattle.update.specs.Names.{stepOfName};
+ghost use Rattle.step.specs.step_check.Faults.{nameFault, faultOf};
+
+// The place of target (i, j) among the 45, which stand by rows.
+pub fn target_place(i: u64, j: u64) -> usize
+    requires { ⌜ (j ≤ i) × (i ≤ 8) ⌝ }
+    ensures { λ r. ⌜ (r ≡ start triangle i + j) × (r < 45) ⌝ }
+{
+    (i * (i + 1) / 2 + j) as usize
+}
+
+// The stage of target (i, j): how many of its steps are done.
+fn stage(g: Progress, i: u64, j: u64) -> u64
+    requires { ⌜ (j ≤ i) × (i ≤ 8) ⌝ }
+    ensures { λ r. ⌜ r ≡ stageOf g i j ⌝ }
+{
+    let at = target_place(i, j);
+    let stages = g.stages;
+    stages[at]
+}
+
+// Whether a step of this name is one of the steps of k blocks and the last: 21 where it is not.
+pub fn is_named(k: u64, name: Name) -> bool
+    ensures { λ r. ⌜ r ≡ named k (stepOfName name) ⌝ }
+{
+    match name {
+        Name::S(i, j, h) => (h < j) & ((j <= i) & (i <= k)),
+        Name::C(j) => j <= k,
+        Name::T(i, j) => (j < i) & (i <= k),
+    }
+}
+
+// Whether the step is done: 23 where it is.
+pub fn is_done(g: Progress, name: Name) -> bool
+    requires { ⌜ Named 8 (stepOfName name) ⌝ }
+    ensures { λ r. ⌜ r ≡ done (stageOf g) (stepOfName name) ⌝ }
+{
+    match name {
+        Name::S(i, j, h) => h < stage(g, i, j),
+        Name::C(j) => j < stage(g, j, j),
+        Name::T(i, j) => j < stage(g, i, j),
+    }
+}
+
+// Whether its forerunners are: 24 where they are not. The subtraction before it is, or there is none, where the target's stage is at least its number.
+pub fn is_forerun(g: Progress, name: Name) -> bool
+    requires { ⌜ Named 8 (stepOfName name) ⌝ }
+    ensures { λ r. ⌜ r ≡ all (done (stageOf g)) (after (stepOfName name)) ⌝ }
+{
+    match name {
+        Name::S(i, j, h) => {
+            let s = stage(g, i, j);
+            let a = stage(g, i, h);
+            let b = stage(g, j, h);
+            (h <= s) & ((h < a) & (h < b))
+        }
+        Name::C(j) => j <= stage(g, j, j),
+        Name::T(i, j) => {
+            let d = stage(g, j, j);
+            let s = stage(g, i, j);
+            (j < d) & (j <= s)
+        }
+    }
+}
+
+// The first of 21, 23 and 24 that a name meets, 0 where the step is ready.
+fn name_fault(k: u64, g: Progress, name: Name) -> u64
+    requires { ⌜ k ≤ 8 ⌝ }
+    ensures { λ r. ⌜ r ≡ nameFault (named k (stepOfName name)) (done (stageOf g) (stepOfName name)) (all (done (stageOf g)) (after (stepOfName name))) ⌝ }
+{
+    if is_named(k, name) {
+        if is_done(g, name) {
+            return 23;
+        }
+        if is_forerun(g, name) {
+            return 0;
+        }
+        return 24;
+    }
+    21
+}
+
+// The same after 22: no update is under way.
+pub fn fault(k: u64, g: Progress, name: Name) -> u64
+    requires { ⌜ k ≤ 8 ⌝ }
+    ensures { λ r. ⌜ r ≡ faultOf k g (stepOfName name) ⌝ }
+{
+    let state = g.state;
+    match state {
+        State::Idle => 22,
+        State::UnderWay => name_fault(k, g, name),
+        State::Finished => 22,
+    }
+}

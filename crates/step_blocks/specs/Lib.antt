@@ -1,0 +1,2 @@
+pub mod solve_block
+pub mod factor_logs

@@ -1,0 +1,198 @@
+-- What a ready step does to a progress: one stage, one step left fewer, and lawful as before.
+use Prim.Native.Nat.{ℕ, suc, _+_, _-_, _<_, _≤_}
+use mathlib.Core.Path.{_≡_, refl, sym, ap, ap₂, _∙_}
+use mathlib.Core.Bool.{Bool, true, not, _&&_, _||_, cond, and-eq-true-iff}
+use mathlib.Core.Logic.{⊎-elim, by-cases}
+use mathlib.Core.List.{List, [], _∷_, _++_, List·Memᴰ, List·Memᴰ·head, List·Memᴰ·tail, List·Memᴰ·cases-cons, List·Memᴰ·not-nil}
+use native.Mathlib.Decide.{decLt}
+use native.Mathlib.Nat.{mul-le-mul}
+use native.Mathlib.Omega.{arith}
+use lib.Dec.{leb, eqb}
+use lib.ListN.{length, getD, length-set}
+use lib.Seq.{getD-set-same, getD-set-other}
+use borrow.Author.Tests.{lt-ltb, le-leb, ltb-true, leb-true, eq-eqb, ne-eqb, eqb-true}
+use Rattle.storage.specs.Runs.{start, triangle}
+use Rattle.storage.proofs.Starts.{start-triangle, same-run, same-cell}
+use Rattle.step_order.specs.Steps.{Step, Named, row, col, index, after, rustOrder}
+use Rattle.step_order.specs.Progress.{all, stepsLeft, done, advance, Bounded, Ready, Represents}
+use Rattle.step_order.proofs.Tables.{at, put-here, put-else, in-range, step-unique}
+use Rattle.step_order.proofs.Invariant.{bounded-moved}
+use Rattle.step_order.proofs.Sets.{ready-after, represents-same}
+use Rattle.step_order.proofs.Listing.{rust-named, rust-has}
+use Rattle.step_order.proofs.Left.{left-moved, left-represents}
+use Rattle.layout.specs.declared.Layout.{Layout}
+use Rattle.heading_format.specs.declared.Progress.{Progress}
+use Rattle.heading_format.specs.declared.State.{State}
+use Rattle.heading_format.specs.declared.State.the-variants.{UnderWay, Finished}
+use Rattle.layout.specs.Shapes.{levels, numbersNeeded, doublesNeeded}
+use Rattle.heading_format.specs.Heading.{stageOf, written, every, forerun, stateLawful, lawful, progressLawful, headed}
+use Rattle.heading_format.proofs.Lawful.{both, unless, unless-at, every-of, every-at}
+use Rattle.heading_format.proofs.Heading.{never-20}
+use Rattle.update.specs.Calls.{advanced}
+use Rattle.step_order.proofs.Next.{all-grows}
+
+-- ---- no step is done without its forerunners, as a fact
+-- the test passes where it holds of every step of the list
+forerun-of : (g : ℕ → ℕ → ℕ) (l : List Step) → ((s : Step) → List·Memᴰ s l → done g s ≡ true → all (done g) (after s) ≡ true) → forerun g l ≡ true
+forerun-of g [] h = refl
+forerun-of g (s ∷ l) h =
+    both (not (done g s) || all (done g) (after s)) (forerun g l) (unless (done g s) (all (done g) (after s)) (h s (List·Memᴰ·head refl)))
+    (forerun-of g l (λ t m. h t (List·Memᴰ·tail m)))
+
+-- and where it passes, it holds of every step
+forerun-at : (g : ℕ → ℕ → ℕ) (l : List Step) → forerun g l ≡ true → (s : Step) → List·Memᴰ s l → done g s ≡ true → all (done g) (after s) ≡ true
+forerun-at g [] e s m = absurd (List·Memᴰ·not-nil m)
+forerun-at g (t ∷ l) e s m =
+    let k = and-eq-true-iff (not (done g t) || all (done g) (after t)) (forerun g l) .0 e in
+    ⊎-elim (λ q. rw q (unless-at (done g t) (all (done g) (after t)) k.0)) (forerun-at g l k.1 s) (List·Memᴰ·cases-cons m)
+
+-- ---- a lawful progress, taken apart
+pub record Lawfully (k : ℕ) (g : Progress) : Type 0 where
+  pub most : Bounded k (stageOf g)
+  pub left : g .left ≡ stepsLeft k (done (stageOf g))
+
+-- the parts of a true conjunction
+four : (a b c d : Bool) → (a && b && c && d) ≡ true → (a ≡ true) × (b ≡ true) × (c ≡ true) × (d ≡ true)
+four a b c d t =
+    let t₃ = and-eq-true-iff (a && b && c) d .0 t in
+    let t₂ = and-eq-true-iff (a && b) c .0 t₃.0 in
+    let t₁ = and-eq-true-iff a b .0 t₂.0 in
+    (t₁.0, t₁.1, t₂.1, t₃.1)
+
+-- the bound of every stage, as a test
+abbrev bounded : ℕ → Progress → Bool
+bounded k g = every (λ i. every (λ j. leb (stageOf g i j) (suc j)) (suc i)) (suc k)
+
+-- the four tests of a lawful progress
+tests : (k : ℕ) (g : Progress) → progressLawful k g ≡ true
+    → (bounded k g ≡ true) × (eqb (g .left) (stepsLeft k (done (stageOf g))) ≡ true) × (forerun (stageOf g) (rustOrder k) ≡ true) × (stateLawful (g .state) (g .left) (length (rustOrder k)) ≡ true)
+unfolding progressLawful
+tests k g = four (bounded k g) (eqb g.left (stepsLeft k (done (stageOf g)))) (forerun (stageOf g) (rustOrder k)) (stateLawful g.state g.left (length (rustOrder k)))
+
+-- no stage is past its target's last step, and the steps left are those outside the set
+pub lawfully : (k : ℕ) (g : Progress) → progressLawful k g ≡ true → Lawfully k g
+lawfully k g e =
+    let t = tests k g e in
+    record {
+      most =
+          λ i j l m.
+          leb-true (stageOf g i j) (suc j)
+          (every-at (λ c. leb (stageOf g i c) (suc c)) (suc i) (every-at (λ r. every (λ c. leb (stageOf g r c) (suc c)) (suc r)) (suc k) t.0 i (omega arith)) j (omega arith));
+      left = eqb-true g.left (stepsLeft k (done (stageOf g))) t.1;
+    }
+
+-- every done step of a lawful progress has its forerunners done
+pub lawfully-after : (k : ℕ) (g : Progress) → progressLawful k g ≡ true → (s : Step) → Named k s → done (stageOf g) s ≡ true → all (done (stageOf g)) (after s) ≡ true
+lawfully-after k g e s n = forerun-at (stageOf g) (rustOrder k) (tests k g e .2) s (rust-has k s n)
+
+-- and facts put together
+lawful-of : (k : ℕ) (g : Progress) → Bounded k (stageOf g) → g .left ≡ stepsLeft k (done (stageOf g))
+    → ((s : Step) → Named k s → done (stageOf g) s ≡ true → all (done (stageOf g)) (after s) ≡ true) → stateLawful (g .state) (g .left) (length (rustOrder k)) ≡ true → progressLawful k g ≡ true
+unfolding progressLawful
+lawful-of k g most left fore state =
+    both _ _
+    (both _ _
+    (both _ _
+    (every-of (λ i. every (λ j. leb (stageOf g i j) (suc j)) (suc i)) (suc k)
+    (λ i l. every-of (λ j. leb (stageOf g i j) (suc j)) (suc i) (λ j m. le-leb (stageOf g i j) (suc j) (most i j (omega arith) (omega arith)))))
+    (eq-eqb g.left (stepsLeft k (done (stageOf g))) left))
+    (forerun-of (stageOf g) (rustOrder k) (λ s m. fore s (rust-named k s m))))
+    state
+
+-- a state under way is lawful after a step more: under way, or finished with the last
+state-advanced : (s : State) (left every-step : ℕ) → s ≡ UnderWay → stateLawful s left every-step ≡ true
+    → (0 < left) × (stateLawful (cond (eqb left 1) Finished UnderWay) (left - 1) every-step ≡ true)
+state-advanced s left every-step u e =
+    let going : 0 < left = ltb-true 0 left (rw u at e) in (
+      going,
+      by-cases (decLt 1 left) (λ m. rw (ne-eqb left 1 (λ q. omega arith)) (lt-ltb 0 (left - 1) (omega arith)))
+          (λ m. let q : left ≡ 1 = omega arith in rw q refl),
+    )
+
+-- target (i, j) of nine rows at most lies among 45
+below-45 : (i j : ℕ) → j ≤ i → i ≤ 8 → start triangle i + j < 45
+below-45 i j l m = let g : i + 1 ≤ 9 = omega arith in omega (arith, start-triangle i, mul-le-mul m g)
+
+module _ (k : ℕ) (few : k ≤ 8) (g : Progress) (many : length (g .stages) ≡ 45) (s : Step) (n : Named k s) where
+  -- the place of its target is one of the 45
+  pub place-below : start triangle (row s) + col s < 45
+  place-below = below-45 (row s) (col s) (in-range k s n .1) (omega (arith, in-range k s n))
+
+  -- the stages stay 45
+  pub length-advanced : length (advanced g s .stages) ≡ 45
+  length-advanced = length-set g.stages (start triangle (row s) + col s) (suc (index s)) ∙ many
+
+  -- its stage alone moves
+  pub stage-advanced : (i j : ℕ) → j ≤ i → i ≤ k → stageOf (advanced g s) i j ≡ advance (stageOf g) s i j
+  stage-advanced i j l m =
+      ⊎-elim
+      (λ w. rw (w.0, w.1)
+      (getD-set-same g.stages (start triangle (row s) + col s) (suc (index s)) 0 (omega (arith, place-below))
+      ∙ sym (put-here (stageOf g) (row s) (col s) (suc (index s)))))
+      (λ w. getD-set-other g.stages (start triangle (row s) + col s) (start triangle i + j) (suc (index s)) 0 (other w.1)
+      ∙ sym (put-else (stageOf g) (row s) (col s) (suc (index s)) i j w.1))
+      (at i j (row s) (col s))
+    where
+      other : (i ≡ row s → j ≡ col s → ⊥) → start triangle i + j ≡ start triangle (row s) + col s → ⊥
+      other f e =
+          let a : j < triangle i = omega arith in
+          let b : col s < triangle (row s) = omega (arith, in-range k s n) in
+          f (same-run triangle i j (row s) (col s) a b e) (same-cell triangle i j (row s) (col s) a b e)
+
+  -- no stage falls
+  stage-rises : stageOf g (row s) (col s) ≡ index s → (i j : ℕ) → stageOf g i j ≤ stageOf (advanced g s) i j
+  stage-rises r i j =
+      ⊎-elim
+      (λ w. let e : start triangle i + j ≡ start triangle (row s) + col s = w.0 in
+      omega (
+        arith,
+        ap (λ (x : ℕ). getD g.stages x 0) e,
+        ap (λ (x : ℕ). getD (advanced g s .stages) x 0) e,
+        getD-set-same g.stages (start triangle (row s) + col s) (suc (index s)) 0 (omega (arith, place-below)),
+      ))
+      (λ w. omega (arith, getD-set-other g.stages (start triangle (row s) + col s) (start triangle i + j) (suc (index s)) 0 (λ e. w .1 e refl)))
+      (at (start triangle i + j) 0 (start triangle (row s) + col s) 0)
+
+  -- a ready step of an update under way leaves a lawful progress
+  pub lawful-advanced : progressLawful k g ≡ true → g .state ≡ UnderWay → Ready (stageOf g) s → progressLawful k (advanced g s) ≡ true
+  lawful-advanced e u r =
+      let f = lawfully k g e in
+      let state = state-advanced g.state g.left (length (rustOrder k)) u (tests k g e .3) in
+      let d : Represents k (stageOf (advanced g s)) (done (advance (stageOf g) s)) =
+      represents-same k (advance (stageOf g) s) (stageOf (advanced g s)) (done (advance (stageOf g) s)) (λ i j l m. sym (stage-advanced i j l m)) (λ t o. refl) in
+      lawful-of k (advanced g s)
+      (λ i j l m. rw (stage-advanced i j l m) (bounded-moved k (stageOf g) f.most s n i j l m))
+      (omega (arith, f.left, left-moved k (stageOf g) f.most s n r, left-represents k (stageOf (advanced g s)) (done (advance (stageOf g) s)) d))
+      fore
+      state.1
+    where
+      more : (t : Step) → done (stageOf g) t ≡ true → done (stageOf (advanced g s)) t ≡ true
+      more t q = lt-ltb (index t) (stageOf (advanced g s) (row t) (col t)) (omega (arith, ltb-true (index t) (stageOf g (row t) (col t)) q, stage-rises r.0 (row t) (col t)))
+
+      fore : (t : Step) → Named k t → done (stageOf (advanced g s)) t ≡ true → all (done (stageOf (advanced g s))) (after t) ≡ true
+      fore t o q =
+          all-grows (done (stageOf g)) (done (stageOf (advanced g s))) more (after t)
+          (by-cases (decLt (index t) (stageOf g (row t) (col t))) (λ m. lawfully-after k g e t o (lt-ltb (index t) (stageOf g (row t) (col t)) m)) (λ m. rw (new m) (ready-after k (stageOf g) (lawfully k g e .most) (done (stageOf g)) (λ x y. refl) s n .0 r .1)))
+        where
+          new : (index t < stageOf g (row t) (col t) → ⊥) → t ≡ s
+          new m =
+              let b : index t < advance (stageOf g) s (row t) (col t) =
+              rw (stage-advanced (row t) (col t) (in-range k t o .1) (in-range k t o .2)) at (ltb-true (index t) (stageOf (advanced g s) (row t) (col t)) q) in
+              ⊎-elim
+              (λ w. let c : index t < suc (index s) = rw (w.0, w.1, put-here (stageOf g) (row s) (col s) (suc (index s))) at b in
+              let a : stageOf g (row t) (col t) ≡ stageOf g (row s) (col s) = ap₂ (stageOf g) w.0 w.1 in
+              step-unique k t s o n w.0 w.1 (omega (arith, r.0)))
+              (λ w. absurd (m (rw (put-else (stageOf g) (row s) (col s) (suc (index s)) (row t) (col t) w.1) at b)))
+              (at (row t) (col t) (row s) (col s))
+
+-- ---- a heading is never refused with 20 where layout and progress are lawful, and numbers and doubles are enough
+module _ (y : Layout) (lawful-layout : lawful y ≡ true) (eight : length (y .m) ≡ 8) (eight′ : length (y .order) ≡ 8)
+    (rest : List ℕ) (numbers : numbersNeeded y ≤ 128 + length rest) (rows : y .sparse ≡ true → (c : ℕ) → c < levels y 0 → getD rest c 0 < levels y 1)
+    (g : Progress) (many : length (g .stages) ≡ 45) (lawful-progress : progressLawful (y .k) g ≡ true) where
+  -- whatever number of doubles is lent, if they are enough
+  pub headed-written : (doubles : ℕ) → doublesNeeded y ≤ doubles → headed (written y g ++ rest) doubles ≡ true
+  headed-written doubles room =
+      never-20 y g rest doubles lawful-layout lawful-progress eight eight′ many (λ s. (long y.sparse s numbers, rows s)) room
+    where
+      long : (b : Bool) → b ≡ true → 128 + cond b (levels y 0) 0 ≤ 128 + length rest → levels y 0 ≤ length rest
+      long b e h = let z : 128 + levels y 0 ≤ 128 + length rest = rw e at h in omega arith
