@@ -29,10 +29,10 @@ mod husk {
         fn husk_scale_twice(w: *mut f64, n: usize, off: usize, src: usize, cells: usize, column: f64, row: f64);
         fn husk_rank_sub_diagonal(w: *mut f64, m: usize, off: usize, n: usize, a: usize, inner: usize, src: usize);
         fn husk_rank_sub_diagonal_sparse(w: *mut f64, m: usize, off: usize, n: usize, a: usize, inner: usize, src: usize, h: *const u32, k: usize, first: usize);
-        fn husk_less_product(v: *mut f64, n: usize, off: usize, rows: usize, z: usize, cols: usize, w: *const f64, m: usize, a: usize);
-        fn husk_less_product_t(v: *mut f64, n: usize, off: usize, cols: usize, z: usize, rows: usize, w: *const f64, m: usize, a: usize);
-        fn husk_less_sparse(v: *mut f64, n: usize, off: usize, rows: usize, z: usize, cols: usize, w: *const f64, m: usize, x: usize, h: *const u32, k: usize, first: usize);
-        fn husk_less_sparse_t(v: *mut f64, n: usize, off: usize, cols: usize, z: usize, rows: usize, w: *const f64, m: usize, x: usize, h: *const u32, k: usize, first: usize);
+        fn husk_matvec_sub(v: *mut f64, n: usize, off: usize, rows: usize, z: usize, cols: usize, w: *const f64, m: usize, a: usize);
+        fn husk_matvec_t_sub(v: *mut f64, n: usize, off: usize, cols: usize, z: usize, rows: usize, w: *const f64, m: usize, a: usize);
+        fn husk_sparse_matvec_sub(v: *mut f64, n: usize, off: usize, rows: usize, z: usize, cols: usize, w: *const f64, m: usize, x: usize, h: *const u32, k: usize, first: usize);
+        fn husk_sparse_matvec_t_sub(v: *mut f64, n: usize, off: usize, cols: usize, z: usize, rows: usize, w: *const f64, m: usize, x: usize, h: *const u32, k: usize, first: usize);
         fn husk_chol(t: *mut f64, m: usize, n: usize) -> usize;
         fn husk_chol_diagonal(t: *mut f64, m: usize, n: usize) -> usize;
         fn husk_log_pivots(t: *const f64, m: usize, n: usize, s: f64) -> f64;
@@ -109,26 +109,26 @@ mod husk {
     }
 
     /// v holds the vector that is changed, then the other.
-    pub fn less_product(v: &mut [f64], rows: usize, cols: usize, w: &[f64]) {
+    pub fn matvec_sub(v: &mut [f64], rows: usize, cols: usize, w: &[f64]) {
         assert!(rows <= 316 && v.len() == rows + cols && w.len() == rows * cols);
-        unsafe { husk_less_product(v.as_mut_ptr(), v.len(), 0, rows, rows, cols, w.as_ptr(), w.len(), 0) }
+        unsafe { husk_matvec_sub(v.as_mut_ptr(), v.len(), 0, rows, rows, cols, w.as_ptr(), w.len(), 0) }
     }
 
-    pub fn less_product_t(v: &mut [f64], rows: usize, cols: usize, w: &[f64]) {
+    pub fn matvec_t_sub(v: &mut [f64], rows: usize, cols: usize, w: &[f64]) {
         assert!(v.len() == rows + cols && w.len() == rows * cols);
-        unsafe { husk_less_product_t(v.as_mut_ptr(), v.len(), 0, cols, cols, rows, w.as_ptr(), w.len(), 0) }
+        unsafe { husk_matvec_t_sub(v.as_mut_ptr(), v.len(), 0, cols, cols, rows, w.as_ptr(), w.len(), 0) }
     }
 
-    pub fn less_sparse(v: &mut [f64], rows: usize, w: &[f64], h: &Rows) {
+    pub fn sparse_matvec_sub(v: &mut [f64], rows: usize, w: &[f64], h: &Rows) {
         let cols = h.rows.len();
         assert!(v.len() == rows + cols && w.len() == cols && h.below <= rows);
-        unsafe { husk_less_sparse(v.as_mut_ptr(), v.len(), 0, rows, rows, cols, w.as_ptr(), w.len(), 0, h.rows.as_ptr(), cols, 0) }
+        unsafe { husk_sparse_matvec_sub(v.as_mut_ptr(), v.len(), 0, rows, rows, cols, w.as_ptr(), w.len(), 0, h.rows.as_ptr(), cols, 0) }
     }
 
-    pub fn less_sparse_t(v: &mut [f64], rows: usize, w: &[f64], h: &Rows) {
+    pub fn sparse_matvec_t_sub(v: &mut [f64], rows: usize, w: &[f64], h: &Rows) {
         let cols = h.rows.len();
         assert!(v.len() == rows + cols && w.len() == cols && h.below <= rows);
-        unsafe { husk_less_sparse_t(v.as_mut_ptr(), v.len(), 0, cols, cols, rows, w.as_ptr(), w.len(), 0, h.rows.as_ptr(), cols, 0) }
+        unsafe { husk_sparse_matvec_t_sub(v.as_mut_ptr(), v.len(), 0, cols, cols, rows, w.as_ptr(), w.len(), 0, h.rows.as_ptr(), cols, 0) }
     }
 
     /// The factor and the sum of the logarithms of its pivots.
@@ -523,7 +523,7 @@ fn main() {
             format!("{rows} x {cols}"),
             rows * cols,
             side(target.clone(), |v| v.copy_from_slice(&target), |v| block.matvec(&other, v), |v| v.clone()),
-            side(v, |v| v[..rows].copy_from_slice(&target), |v| husk::less_product(v, rows, cols, &cells), |v| v[..rows].to_vec()),
+            side(v, |v| v[..rows].copy_from_slice(&target), |v| husk::matvec_sub(v, rows, cols, &cells), |v| v[..rows].to_vec()),
         );
         let (target, other) = (other, target);
         let (v, _) = joined([&target, &other]);
@@ -532,7 +532,7 @@ fn main() {
             format!("{rows} x {cols}"),
             rows * cols,
             side(target.clone(), |v| v.copy_from_slice(&target), |v| block.matvec_t(&other, v), |v| v.clone()),
-            side(v, |v| v[..cols].copy_from_slice(&target), |v| husk::less_product_t(v, rows, cols, &cells), |v| v[..cols].to_vec()),
+            side(v, |v| v[..cols].copy_from_slice(&target), |v| husk::matvec_t_sub(v, rows, cols, &cells), |v| v[..cols].to_vec()),
         );
     }
 
@@ -547,7 +547,7 @@ fn main() {
             format!("{rows} x {cols}"),
             cols,
             side(target.clone(), |v| v.copy_from_slice(&target), |v| block.matvec(&other, v), |v| v.clone()),
-            side(v, |v| v[..rows].copy_from_slice(&target), |v| husk::less_sparse(v, rows, &entries, &h), |v| v[..rows].to_vec()),
+            side(v, |v| v[..rows].copy_from_slice(&target), |v| husk::sparse_matvec_sub(v, rows, &entries, &h), |v| v[..rows].to_vec()),
         );
         let (target, other) = (other, target);
         let (v, _) = joined([&target, &other]);
@@ -556,7 +556,7 @@ fn main() {
             format!("{rows} x {cols}"),
             cols,
             side(target.clone(), |v| v.copy_from_slice(&target), |v| block.matvec_t(&other, v), |v| v.clone()),
-            side(v, |v| v[..cols].copy_from_slice(&target), |v| husk::less_sparse_t(v, rows, &entries, &h), |v| v[..cols].to_vec()),
+            side(v, |v| v[..cols].copy_from_slice(&target), |v| husk::sparse_matvec_t_sub(v, rows, &entries, &h), |v| v[..cols].to_vec()),
         );
     }
 

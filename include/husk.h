@@ -14,7 +14,8 @@ double husk_sqrt(double x);
 
 /*
  * A double r with |r - ln x| <= 2^-50 + 2^-52 |r|, which is +0 at 1. Of either zero it is -infinity; of a number below zero and of a
- * NaN it is a NaN; of +infinity it is +infinity.
+ * NaN it is a NaN; of +infinity it is +infinity. The bits are fixed by a whole-number definition (crates/logarithm/specs), the same on
+ * every machine, but for those of a NaN.
  */
 double husk_ln(double x);
 

@@ -1,5 +1,5 @@
 #!/usr/bin/env python3
-"""Sheets of several blocks, the pivots that `factor` prints for them and the solution's list, as crates/starred has them.
+"""Sheets of several blocks, the pivots that `factor` prints for them and the solution's list, as crates/worked_cases has them.
 
 Written from document 01 with Python's doubles (call_list.py has the arithmetic); no line of it comes from the definitions that it is compared with.
 Prints each sheet's lines, its output lines and the words of its solution. Numbers are drawn by a fixed generator, so that a run prints the same again.

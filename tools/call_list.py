@@ -5,7 +5,7 @@
     call_list.py --pivots SHEET
     call_list.py --original DRIVER [SHEETS]
 
-STDIN gets the calls, and STDOUT what the program `calls` must print of them.  ACCEPTED are files with a sheet and its theta lines, as
+STDIN gets the calls, and STDOUT what the program `call_tests` must print of them.  ACCEPTED are files with a sheet and its theta lines, as
 the generator of the Rust original makes them (sheet_list.py says which the stored list was made with); each becomes a sheet that must load.
 The second form prints the pivots, or the refusal, of a file with a sheet and its theta lines, as the program `factor` of document 01 does.
 The third compares what is computed here with the driver of the Rust original: pivots, refused places, deviances and solutions of each sheet of

@@ -6,7 +6,7 @@
     factor_list.py --run PROGRAM
     factor_list.py --print INPUT
 
-STDIN gets the inputs, which the program `factors` reads, and STDOUT what that program must print: for each input a line with its number, and
+STDIN gets the inputs, which the program `factor_tests` reads, and STDOUT what that program must print: for each input a line with its number, and
 then what `factor` must print.  The second form holds the pivots, and the refused pivots' places, of every case to the Rust original's driver; it
 names those that differ because the original leaves out a diagonal subtraction, and ends with 1 where another differs; call_list.py says what the
 original is, and that it is kept apart from this repository.  The third form gives each input to PROGRAM and compares.  The last form prints what

@@ -1,5 +1,5 @@
 #!/usr/bin/env python3
-"""Prints the rows of `line` and `curve`, two functions of the crate `root_digits`.
+"""Prints the rows of `line` and `curve`, two functions of the crate `square_root`, module inverse_table.
 
 The inverse root of u, for u from 1 to 4, in units of 2^-31, as a polynomial of degree 4 on each of 16 equal stretches from 1 to 2 and 16 from
 2 to 4: the one that has the inverse root's values at the Chebyshev nodes.  Its constant is 5 lower, so that the estimate lies below the root.

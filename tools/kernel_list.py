@@ -3,7 +3,7 @@
 
     kernel_list.py STDIN STDOUT
 
-STDIN gets the cases that the program `kernels` reads, and STDOUT what it must print of them.
+STDIN gets the cases that the program `kernel_tests` reads, and STDOUT what it must print of them.
 
 How the list is made.  Written from document 01, Records 4 and 7, with Python's doubles, which are IEEE 754's, one operation at a time in the
 paper's order; no line of it comes from the kernels or from the definitions that they are proved equal to.  A root is math.sqrt.  The
@@ -468,7 +468,7 @@ def rank_cases(cell):
     return cases
 
 
-def less_product_cases(draws):
+def matvec_sub_cases(draws):
     for rows, cols in two_sizes():
         draw = next(draws)
         y, z, x = draw.numbers(rows), draw.numbers(cols), draw.block(rows, cols)
@@ -477,7 +477,7 @@ def less_product_cases(draws):
         yield Case(w, stored(w, at["y"], [y[r] - dot(x[r], z) for r in range(rows)]), [at["y"], rows, at["z"], cols, l["x"]], v)
 
 
-def less_product_t_cases(draws):
+def matvec_t_sub_cases(draws):
     for rows, cols in two_sizes():
         draw = next(draws)
         y, z, x = draw.numbers(cols), draw.numbers(rows), draw.block(rows, cols)
@@ -486,7 +486,7 @@ def less_product_t_cases(draws):
         yield Case(w, stored(w, at["y"], [y[c] - dot([row[c] for row in x], z) for c in range(cols)]), [at["y"], cols, at["z"], rows, l["x"]], v)
 
 
-def less_sparse_cases(draws):
+def sparse_matvec_sub_cases(draws):
     for rows, cols in two_sizes():
         if rows == 0:
             continue
@@ -502,7 +502,7 @@ def less_sparse_cases(draws):
         yield Case(w, stored(w, at["y"], after), [at["y"], rows, at["z"], cols, l["x"], first], v, h)
 
 
-def less_sparse_t_cases(draws):
+def sparse_matvec_t_sub_cases(draws):
     for rows, cols in two_sizes():
         if rows == 0:
             continue
@@ -579,12 +579,12 @@ KERNELS = [
     ("scaling::scale_once", scale_cases(False)),
     ("cross_block::solve_rows", solve_rows_cases),
     ("schur_dense::subtract_dense", subtract_dense_cases),
-    ("rank_dense::rank_sub", rank_cases(lambda t, a, b: t - dot(a, b))),
-    ("schur_last::subtract_last", rank_cases(chain)),
-    ("matvec::less_product", less_product_cases),
-    ("matvec_t::less_product_t", less_product_t_cases),
-    ("sparse_matvec::less_sparse", less_sparse_cases),
-    ("sparse_matvec_t::less_sparse_t", less_sparse_t_cases),
+    ("dense_triangle::rank_sub", rank_cases(lambda t, a, b: t - dot(a, b))),
+    ("last_triangle::subtract_last", rank_cases(chain)),
+    ("cross_matvec::matvec_sub", matvec_sub_cases),
+    ("matvec_t::matvec_t_sub", matvec_t_sub_cases),
+    ("sparse_matvec::sparse_matvec_sub", sparse_matvec_sub_cases),
+    ("sparse_matvec_t::sparse_matvec_t_sub", sparse_matvec_t_sub_cases),
     ("triangle_init::init", init_cases(False)),
     ("diagonal_init::init_diagonal", init_cases(True)),
     ("re_factor::chol", chol_cases),
@@ -614,9 +614,11 @@ LENT = {
 }
 
 
-# The draws of these kernels are named after the crate that first held them, so that the list stays as it was.
+# The draws of these kernels are named after their first names, so that the list stays as it was.
 FIRST_NAMES = {
-    "matvec_t::less_product_t": "matvec::less_product_t",
+    "cross_matvec::matvec_sub": "matvec::less_product",
+    "matvec_t::matvec_t_sub": "matvec::less_product_t",
+    "sparse_matvec::sparse_matvec_sub": "sparse_matvec::less_sparse",
     "diagonal_chol::chol_diagonal": "re_lower::chol_diagonal",
     "pivot_logs::log_pivots": "substitution::log_pivots",
     "pivot_logs::log_diagonal": "substitution::log_diagonal",
@@ -625,9 +627,9 @@ FIRST_NAMES = {
     "triangle_cells::set": "re_lower::set",
     "divide_columns::divide_columns": "cross_block::divide_columns",
     "schur_dense::subtract_dense": "schur::subtract_dense",
-    "rank_dense::rank_sub": "schur::rank_sub",
-    "schur_last::subtract_last": "schur::subtract_last",
-    "sparse_matvec_t::less_sparse_t": "sparse_matvec::less_sparse_t",
+    "dense_triangle::rank_sub": "schur::rank_sub",
+    "last_triangle::subtract_last": "schur::subtract_last",
+    "sparse_matvec_t::sparse_matvec_t_sub": "sparse_matvec::less_sparse_t",
     "triangle_init::init": "diagonal_init::init",
     "block_logs::log_pivots": "re_factor::log_pivots",
     "block_logs::log_diagonal": "re_factor::log_diagonal",

@@ -3,7 +3,7 @@
 
     number_list.py STDIN STDOUT
 
-STDIN gets the vectors, and STDOUT what the program `numbers` must print where every vector agrees: a line for each group, with the group's number and
+STDIN gets the vectors, and STDOUT what the program `number_tests` must print where every vector agrees: a line for each group, with the group's number and
 how many vectors it has.
 
 How the list is made.  A double is its 64-bit word, and every number here is a whole number or a fraction of whole numbers: no

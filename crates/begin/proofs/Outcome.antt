@@ -14,15 +14,15 @@ use Rattle.storage.specs.Part.{store}
 use Rattle.rules.specs.Arithmetic.{ieee}
 use Rattle.layout.specs.declared.Layout.{Layout}
 use Rattle.layout.specs.Shapes.{sumAt, doublesNeeded}
-use Rattle.heading_format.specs.Heading.{layoutOf, entryRow, lawful, underWay, headed}
+use Rattle.heading_format.specs.Heading.{layoutOf, entryRow, validLayout, underWay, validHeading}
 use Rattle.workspace.specs.Memory.{headingWith}
-use Rattle.workspace.specs.Answers.{space, accept, firstInfinite}
+use Rattle.workspace.specs.Answers.{workspace, accept, firstInfinite}
 use Rattle.heading_format.proofs.Fits.{fits}
 use Rattle.heading.specs.writer.Small.{SmallProgress}
 use Rattle.heading.proofs.writer.Idle.{idle-small}
 use Rattle.replace_response.specs.finite.Found.{foundAt}
 use Rattle.update.specs.Calls.{begun, beginOf}
-use Rattle.begin.specs.scaled_blocks.Started.{sortedTheta}
+use Rattle.begin.specs.scaled_blocks.Scaled.{sortedTheta}
 use Rattle.begin.specs.write_begin.Begun.{DoublesBegun}
 use Rattle.begin.proofs.write_begin.Stored.{blocks-stored}
 
@@ -35,14 +35,14 @@ under-way-small k h = let i = idle-small k h in record { left = i.left; stages =
 
 module _ (h : List ℕ) (w theta : List Float) where
   -- 20
-  pub not-headed : headed h (length w) ≡ false → (f : Refusal) → f ≡ refusal 20 0 0 → record { answer = Refused f; left = space h w } ≡ beginOf h w theta
+  pub not-valid-heading : validHeading h (length w) ≡ false → (f : Refusal) → f ≡ refusal 20 0 0 → record { answer = Refused f; left = workspace h w } ≡ beginOf h w theta
   unfolding beginOf
-  not-headed e f q = rw (e, q) refl
+  not-valid-heading e f q = rw (e, q) refl
 
   -- the layout that was read
-  module _ (ok : headed h (length w) ≡ true) (y : Layout) (is : y ≡ layoutOf h) where
+  module _ (ok : validHeading h (length w) ≡ true) (y : Layout) (is : y ≡ layoutOf h) where
     -- 13
-    pub wrong-length : (length theta ≡ y .k → ⊥) → (f : Refusal) → f ≡ refusal 13 0 0 → record { answer = Refused f; left = space h w } ≡ beginOf h w theta
+    pub wrong-length : (length theta ≡ y .k → ⊥) → (f : Refusal) → f ≡ refusal 13 0 0 → record { answer = Refused f; left = workspace h w } ≡ beginOf h w theta
     unfolding beginOf
     wrong-length n f q = rw (ok, ne-eqb (length theta) (layoutOf h .k) (λ e. n (e ∙ ap (λ (z : Layout). z .k) (sym is))), q) refl
 
@@ -51,14 +51,14 @@ module _ (h : List ℕ) (w theta : List Float) where
       same-long = long ∙ ap (λ (z : Layout). z .k) is
 
       -- 14
-      pub not-finite : i < length theta → (f : Refusal) → f ≡ refusal 14 0 i → record { answer = Refused f; left = space h w } ≡ beginOf h w theta
+      pub not-finite : i < length theta → (f : Refusal) → f ≡ refusal 14 0 i → record { answer = Refused f; left = workspace h w } ≡ beginOf h w theta
       unfolding beginOf
       not-finite l f q =
           let e : firstInfinite 0 theta ≡ some i = rw (lt-ltb i (length theta) l) at found in
           rw (ok, eq-eqb (length theta) (layoutOf h .k) same-long, e, q) refl
 
       -- what is written to
-      pub ready : (128 ≤ length h) × (lawful y ≡ true) × (length theta ≡ y .k) × (doublesNeeded y ≤ length w)
+      pub ready : (128 ≤ length h) × (validLayout y ≡ true) × (length theta ≡ y .k) × (doublesNeeded y ≤ length w)
       ready =
           let k = fits h (length w) ok in
           (k.long, rw is k.layout, long, rw is k.room)

@@ -5,8 +5,8 @@ ghost use Prim.Native.Nat.{_+_, _≤_, _<_};
 ghost use lib.ListN.{length};
 ghost use Rattle.storage.specs.Part.{part, store};
 ghost use Rattle.layout.specs.Shapes.{levels, factors, across, pairs, targets, doublesNeeded};
-ghost use Rattle.heading_format.specs.Heading.{lawful};
-ghost use Rattle.begin.specs.scaled_blocks.Started.{sortedTheta, BlockStarted, BlocksStarted};
+ghost use Rattle.heading_format.specs.Heading.{validLayout};
+ghost use Rattle.begin.specs.scaled_blocks.Scaled.{sortedTheta, BlockScaled, BlocksScaled};
 use crate::scaled_blocks;
 use block_places::block_kinds;
 use block_places::block_sizes;
@@ -16,97 +16,97 @@ use re_factor::diagonal_init;
 use re_factor::triangle_init;
 
 // The levels of sorted block j.
-fn levels_of(y: Layout, j: u64) -> usize
+fn levels_of(layout: Layout, j: u64) -> usize
     requires { ⌜ j < 8 ⌝ }
-    ensures { λ r. ⌜ r ≡ levels y j ⌝ }
+    ensures { λ r. ⌜ r ≡ levels layout j ⌝ }
 {
-    y.m[j as usize] as usize
+    layout.m[j as usize] as usize
 }
 
 // The n doubles at src are copied to off.
-fn copy(w: &mut [f64], off: usize, src: usize, n: usize)
-    requires { ⌜ (off + n ≤ length (now w)) × (src + n ≤ off) ⌝ }
-    ensures { λ _. ⌜ now (w .exit) ≡ store off (part src n (now (w .entry))) (now (w .entry)) ⌝ }
+fn copy(doubles: &mut [f64], off: usize, src: usize, n: usize)
+    requires { ⌜ (off + n ≤ length (now doubles)) × (src + n ≤ off) ⌝ }
+    ensures { λ _. ⌜ now (doubles .exit) ≡ store off (part src n (now (doubles .entry))) (now (doubles .entry)) ⌝ }
 {
     let mut i = 0;
     while i < n {
-        w[off + i] = w[src + i];
+        doubles[off + i] = doubles[src + i];
         i += 1;
     }
 }
 
-// Factor j begun: (t·t)·a + 1 on its diagonal, 0 beside it.
-fn start_factor(y: Layout, w: &mut [f64], theta: &[f64], j: u64)
-    requires { ⌜ (lawful y ≡ true) × (length (now theta) ≡ y .k) × (doublesNeeded y ≤ length (now w)) × (j < y .k) ⌝ }
-    ensures { λ _. ⌜ BlockStarted y (sortedTheta y (now (theta .entry))) j j (now (w .entry)) (now (w .exit)) ⌝ }
+// Factor j, scaled: (t·t)·a + 1 on its diagonal, 0 off it.
+fn init_factor(layout: Layout, doubles: &mut [f64], theta: &[f64], j: u64)
+    requires { ⌜ (validLayout layout ≡ true) × (length (now theta) ≡ layout .k) × (doublesNeeded layout ≤ length (now doubles)) × (j < layout .k) ⌝ }
+    ensures { λ _. ⌜ BlockScaled layout (sortedTheta layout (now (theta .entry))) j j (now (doubles .entry)) (now (doubles .exit)) ⌝ }
 {
-    let off = places::working_at(y, j, j);
-    let src = places::loaded_at(y, j, j);
-    let n = levels_of(y, j);
-    let t = scaled_blocks::theta_of(y, theta, j);
-    if block_kinds::is_diagonal(y, j) {
-        diagonal_init::init_diagonal(w, off, n, src, t);
+    let off = places::working_at(layout, j, j);
+    let src = places::loaded_at(layout, j, j);
+    let n = levels_of(layout, j);
+    let t = scaled_blocks::theta_of(layout, theta, j);
+    if block_kinds::is_diagonal(layout, j) {
+        diagonal_init::init_diagonal(doubles, off, n, src, t);
         return;
     }
-    triangle_init::init(w, off, n, src, t);
+    triangle_init::init(doubles, off, n, src, t);
 }
 
-// The last triangle begun: as it was loaded.
-fn start_last(y: Layout, w: &mut [f64], theta: &[f64])
-    requires { ⌜ (lawful y ≡ true) × (doublesNeeded y ≤ length (now w)) ⌝ }
-    ensures { λ _. ⌜ BlockStarted y (sortedTheta y (now (theta .entry))) (y .k) (y .k) (now (w .entry)) (now (w .exit)) ⌝ }
+// The last triangle: as it was loaded.
+fn init_last(layout: Layout, doubles: &mut [f64], theta: &[f64])
+    requires { ⌜ (validLayout layout ≡ true) × (doublesNeeded layout ≤ length (now doubles)) ⌝ }
+    ensures { λ _. ⌜ BlockScaled layout (sortedTheta layout (now (theta .entry))) (layout .k) (layout .k) (now (doubles .entry)) (now (doubles .exit)) ⌝ }
 {
-    let off = places::working_at(y, y.k, y.k);
-    let src = places::loaded_at(y, y.k, y.k);
-    let n = block_sizes::size_of(y, true, y.k, y.k) as usize;
-    copy(w, off, src, n);
+    let off = places::working_at(layout, layout.k, layout.k);
+    let src = places::loaded_at(layout, layout.k, layout.k);
+    let n = block_sizes::size_of(layout, true, layout.k, layout.k) as usize;
+    copy(doubles, off, src, n);
 }
 
-// All factors begun.
-fn start_factors(y: Layout, w: &mut [f64], theta: &[f64])
-    requires { ⌜ (lawful y ≡ true) × (length (now theta) ≡ y .k) × (doublesNeeded y ≤ length (now w)) ⌝ }
-    ensures { λ _. ⌜ BlocksStarted y (sortedTheta y (now (theta .entry))) (factors (y .k)) (now (w .entry)) (now (w .exit)) ⌝ }
+// All factors, scaled.
+fn init_factors(layout: Layout, doubles: &mut [f64], theta: &[f64])
+    requires { ⌜ (validLayout layout ≡ true) × (length (now theta) ≡ layout .k) × (doublesNeeded layout ≤ length (now doubles)) ⌝ }
+    ensures { λ _. ⌜ BlocksScaled layout (sortedTheta layout (now (theta .entry))) (factors (layout .k)) (now (doubles .entry)) (now (doubles .exit)) ⌝ }
 {
-    let k = y.k;
+    let k = layout.k;
     let mut j: u64 = 0;
     while j < k {
-        start_factor(y, w, theta, j);
+        init_factor(layout, doubles, theta, j);
         j += 1;
     }
 }
 
-// The blocks of row i beside the factors begun.
-fn start_row(y: Layout, w: &mut [f64], theta: &[f64], i: u64)
-    requires { ⌜ (lawful y ≡ true) × (length (now theta) ≡ y .k) × (doublesNeeded y ≤ length (now w)) × (i ≤ y .k) ⌝ }
-    ensures { λ _. ⌜ BlocksStarted y (sortedTheta y (now (theta .entry))) (across i i) (now (w .entry)) (now (w .exit)) ⌝ }
+// The blocks of row i left of its factor, scaled.
+fn init_row(layout: Layout, doubles: &mut [f64], theta: &[f64], i: u64)
+    requires { ⌜ (validLayout layout ≡ true) × (length (now theta) ≡ layout .k) × (doublesNeeded layout ≤ length (now doubles)) × (i ≤ layout .k) ⌝ }
+    ensures { λ _. ⌜ BlocksScaled layout (sortedTheta layout (now (theta .entry))) (across i i) (now (doubles .entry)) (now (doubles .exit)) ⌝ }
 {
     let mut j: u64 = 0;
     while j < i {
-        scaled_blocks::start_beside(y, w, theta, i, j);
+        scaled_blocks::init_off_diagonal(layout, doubles, theta, i, j);
         j += 1;
     }
 }
 
-// All pairs begun.
-fn start_pairs(y: Layout, w: &mut [f64], theta: &[f64])
-    requires { ⌜ (lawful y ≡ true) × (length (now theta) ≡ y .k) × (doublesNeeded y ≤ length (now w)) ⌝ }
-    ensures { λ _. ⌜ BlocksStarted y (sortedTheta y (now (theta .entry))) (pairs (y .k)) (now (w .entry)) (now (w .exit)) ⌝ }
+// All pairs, scaled.
+fn init_pairs(layout: Layout, doubles: &mut [f64], theta: &[f64])
+    requires { ⌜ (validLayout layout ≡ true) × (length (now theta) ≡ layout .k) × (doublesNeeded layout ≤ length (now doubles)) ⌝ }
+    ensures { λ _. ⌜ BlocksScaled layout (sortedTheta layout (now (theta .entry))) (pairs (layout .k)) (now (doubles .entry)) (now (doubles .exit)) ⌝ }
 {
-    let k = y.k;
+    let k = layout.k;
     let mut i: u64 = 0;
     while i < k {
-        start_row(y, w, theta, i);
+        init_row(layout, doubles, theta, i);
         i += 1;
     }
 }
 
-// Every working block begun; no other double is touched.
-pub fn start_blocks(y: Layout, w: &mut [f64], theta: &[f64])
-    requires { ⌜ (lawful y ≡ true) × (length (now theta) ≡ y .k) × (doublesNeeded y ≤ length (now w)) ⌝ }
-    ensures { λ _. ⌜ BlocksStarted y (sortedTheta y (now (theta .entry))) (targets (y .k)) (now (w .entry)) (now (w .exit)) ⌝ }
+// Every working block, scaled; no other double is touched.
+pub fn init_blocks(layout: Layout, doubles: &mut [f64], theta: &[f64])
+    requires { ⌜ (validLayout layout ≡ true) × (length (now theta) ≡ layout .k) × (doublesNeeded layout ≤ length (now doubles)) ⌝ }
+    ensures { λ _. ⌜ BlocksScaled layout (sortedTheta layout (now (theta .entry))) (targets (layout .k)) (now (doubles .entry)) (now (doubles .exit)) ⌝ }
 {
-    start_factors(y, w, theta);
-    start_pairs(y, w, theta);
-    start_row(y, w, theta, y.k);
-    start_last(y, w, theta);
+    init_factors(layout, doubles, theta);
+    init_pairs(layout, doubles, theta);
+    init_row(layout, doubles, theta, layout.k);
+    init_last(layout, doubles, theta);
 }

@@ -4,7 +4,7 @@ ghost use mathlib.Core.Bool.{true};
 ghost use Prim.Native.Nat.{_≤_};
 ghost use lib.ListN.{length};
 ghost use Rattle.layout.specs.Shapes.{doublesNeeded};
-ghost use Rattle.heading_format.specs.Heading.{lawful, underWay};
+ghost use Rattle.heading_format.specs.Heading.{validLayout, underWay};
 ghost use Rattle.begin.specs.write_begin.Begun.{DoublesBegun};
 use crate::init_blocks;
 use block_places::places;
@@ -28,14 +28,14 @@ pub fn under_way(k: u64) -> Progress
 }
 
 // Theta, the working blocks and the sum.
-pub fn write_doubles(y: Layout, w: &mut [f64], theta: &[f64])
-    requires { ⌜ (lawful y ≡ true) × (length (now theta) ≡ y .k) × (doublesNeeded y ≤ length (now w)) ⌝ }
-    ensures { λ _. ⌜ DoublesBegun y (now (theta .entry)) (now (w .entry)) (now (w .exit)) ⌝ }
+pub fn write_doubles(layout: Layout, doubles: &mut [f64], theta: &[f64])
+    requires { ⌜ (validLayout layout ≡ true) × (length (now theta) ≡ layout .k) × (doublesNeeded layout ≤ length (now doubles)) ⌝ }
+    ensures { λ _. ⌜ DoublesBegun layout (now (theta .entry)) (now (doubles .entry)) (now (doubles .exit)) ⌝ }
 {
-    let at = places::theta_at(y);
-    let sum = places::sum_at(y);
+    let at = places::theta_at(layout);
+    let sum = places::sum_at(layout);
     let k = theta.len();
-    run_copies::put(w, at, at + k, 0, k, theta);
-    init_blocks::start_blocks(y, w, theta);
-    w[sum] = 0.0;
+    run_copies::put(doubles, at, at + k, 0, k, theta);
+    init_blocks::init_blocks(layout, doubles, theta);
+    doubles[sum] = 0.0;
 }

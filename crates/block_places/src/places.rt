@@ -4,38 +4,42 @@ ghost use mathlib.Core.Path.{_≡_};
 ghost use mathlib.Core.Bool.{true, false};
 ghost use Prim.Native.Nat.{_≤_};
 ghost use Rattle.layout.specs.Shapes.{loadedAt, thetaAt, workingAt, sumAt};
-ghost use Rattle.heading_format.specs.Heading.{lawful};
+ghost use Rattle.heading_format.specs.Heading.{validLayout};
 use crate::block_sizes;
 use layout::Layout;
 
 // Where loaded block (i, j) starts.
-pub fn loaded_at(y: Layout, i: u64, j: u64) -> usize
-    requires { ⌜ (lawful y ≡ true) × (j ≤ i) × (i ≤ y .k) ⌝ }
-    ensures { λ r. ⌜ r ≡ loadedAt y i j ⌝ }
+pub fn loaded_at(layout: Layout, i: u64, j: u64) -> usize
+    requires { ⌜ (validLayout layout ≡ true) × (j ≤ i) × (i ≤ layout .k) ⌝ }
+    ensures { λ r. ⌜ r ≡ loadedAt layout i j ⌝ }
 {
-    block_sizes::cells_before(y, true, i, j) as usize
+    block_sizes::cells_before(layout, true, i, j) as usize
 }
 
 // Where theta starts, one double for each block in sheet order: right behind the loaded blocks.
-pub fn theta_at(y: Layout) -> usize
-    requires { ⌜ lawful y ≡ true ⌝ }
-    ensures { λ r. ⌜ r ≡ thetaAt y ⌝ }
+pub fn theta_at(layout: Layout) -> usize
+    requires { ⌜ validLayout layout ≡ true ⌝ }
+    ensures { λ r. ⌜ r ≡ thetaAt layout ⌝ }
 {
-    block_sizes::all_cells(y, true) as usize
+    block_sizes::all_cells(layout, true) as usize
 }
 
 // Where working block (i, j) starts.
-pub fn working_at(y: Layout, i: u64, j: u64) -> usize
-    requires { ⌜ (lawful y ≡ true) × (j ≤ i) × (i ≤ y .k) ⌝ }
-    ensures { λ r. ⌜ r ≡ workingAt y i j ⌝ }
+pub fn working_at(layout: Layout, i: u64, j: u64) -> usize
+    requires { ⌜ (validLayout layout ≡ true) × (j ≤ i) × (i ≤ layout .k) ⌝ }
+    ensures { λ r. ⌜ r ≡ workingAt layout i j ⌝ }
 {
-    (block_sizes::all_cells(y, true) + y.k + block_sizes::cells_before(y, false, i, j)) as usize
+    (block_sizes::all_cells(layout, true)
+        + layout.k
+        + block_sizes::cells_before(layout, false, i, j)) as usize
 }
 
 // Where the logarithms' sum stands, the last double.
-pub fn sum_at(y: Layout) -> usize
-    requires { ⌜ lawful y ≡ true ⌝ }
-    ensures { λ r. ⌜ r ≡ sumAt y ⌝ }
+pub fn sum_at(layout: Layout) -> usize
+    requires { ⌜ validLayout layout ≡ true ⌝ }
+    ensures { λ r. ⌜ r ≡ sumAt layout ⌝ }
 {
-    (block_sizes::all_cells(y, true) + y.k + block_sizes::all_cells(y, false)) as usize
+    (block_sizes::all_cells(layout, true)
+        + layout.k
+        + block_sizes::all_cells(layout, false)) as usize
 }

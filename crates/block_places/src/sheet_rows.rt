@@ -1,9 +1,9 @@
-// Which sorted block has a row of the sheet (document 01, Record 3: rows keep sheet order, blocks are sorted). Definitions are in specs/Blocks.antt.
+// Which sorted block has a row of the sheet (document 01, Record 3: rows keep sheet order, blocks are sorted). Definitions are in specs/sheet_rows/Blocks.antt.
 ghost use mathlib.Core.Path.{_≡_};
 ghost use mathlib.Core.Bool.{true, cond, _&&_};
 ghost use lib.Dec.{ltb, leb};
 ghost use Prim.Native.Nat.{_+_, _≤_, _<_};
-ghost use Rattle.heading_format.specs.Heading.{lawful, sheetLevels};
+ghost use Rattle.heading_format.specs.Heading.{validLayout, sheetLevels};
 ghost use Rattle.workspace.specs.Loaded.{rowStart};
 use layout::Layout;
 
@@ -24,30 +24,30 @@ pub fn choose(b: bool, x: u64, other: u64) -> u64
 }
 
 // Levels of the block that has sheet index i.
-fn sheet_levels(y: Layout, i: u64) -> u64
-    requires { ⌜ lawful y ≡ true ⌝ }
-    ensures { λ r. ⌜ r ≡ sheetLevels y (y .k) i ⌝ }
+fn sheet_levels(layout: Layout, i: u64) -> u64
+    requires { ⌜ validLayout layout ≡ true ⌝ }
+    ensures { λ r. ⌜ r ≡ sheetLevels layout (layout .k) i ⌝ }
 {
-    let k = y.k as usize;
+    let k = layout.k as usize;
     let mut m: u64 = 0;
     let mut s: usize = 0;
     while s < k {
-        m = choose(y.order[s] == i, y.m[s], m);
+        m = choose(layout.order[s] == i, layout.m[s], m);
         s += 1;
     }
     m
 }
 
 // The first row of sorted block j: the levels of the blocks before it in the sheet.
-pub fn first_row(y: Layout, j: usize) -> u64
-    requires { ⌜ (lawful y ≡ true) × (j < y .k) ⌝ }
-    ensures { λ r. ⌜ r ≡ rowStart y j ⌝ }
+pub fn first_row(layout: Layout, j: usize) -> u64
+    requires { ⌜ (validLayout layout ≡ true) × (j < layout .k) ⌝ }
+    ensures { λ r. ⌜ r ≡ rowStart layout j ⌝ }
 {
-    let before = y.order[j];
+    let before = layout.order[j];
     let mut sum: u64 = 0;
     let mut i: u64 = 0;
     while i < before {
-        sum += sheet_levels(y, i);
+        sum += sheet_levels(layout, i);
         i += 1;
     }
     sum

@@ -14,7 +14,7 @@ fn add_four_pair(
     acc: &mut [f64],
     acc2: &mut [f64],
     n: usize,
-    w: &[f64],
+    doubles: &[f64],
     p: usize,
     p1: usize,
     p2: usize,
@@ -28,16 +28,16 @@ fn add_four_pair(
     g2: f64,
     g3: f64,
 )
-    requires { ⌜ (n ≤ length (now acc)) × (n ≤ length (now acc2)) × (p + n ≤ length (now w)) × (p1 + n ≤ length (now w)) × (p2 + n ≤ length (now w)) × (p3 + n ≤ length (now w)) ⌝ }
-    ensures { λ _. ⌜ now (acc .exit) ≡ run 0 n (four (now (w .entry)) p p1 p2 p3 f f1 f2 f3 (at (now (acc .entry)))) (now (acc .entry)) ⌝ }
-    ensures { λ _. ⌜ now (acc2 .exit) ≡ run 0 n (four (now (w .entry)) p p1 p2 p3 g g1 g2 g3 (at (now (acc2 .entry)))) (now (acc2 .entry)) ⌝ }
+    requires { ⌜ (n ≤ length (now acc)) × (n ≤ length (now acc2)) × (p + n ≤ length (now doubles)) × (p1 + n ≤ length (now doubles)) × (p2 + n ≤ length (now doubles)) × (p3 + n ≤ length (now doubles)) ⌝ }
+    ensures { λ _. ⌜ now (acc .exit) ≡ run 0 n (four (now (doubles .entry)) p p1 p2 p3 f f1 f2 f3 (at (now (acc .entry)))) (now (acc .entry)) ⌝ }
+    ensures { λ _. ⌜ now (acc2 .exit) ≡ run 0 n (four (now (doubles .entry)) p p1 p2 p3 g g1 g2 g3 (at (now (acc2 .entry)))) (now (acc2 .entry)) ⌝ }
 {
     let mut i = 0;
     while i < n {
-        let x = w[p + i];
-        let x1 = w[p1 + i];
-        let x2 = w[p2 + i];
-        let x3 = w[p3 + i];
+        let x = doubles[p + i];
+        let x1 = doubles[p1 + i];
+        let x2 = doubles[p2 + i];
+        let x3 = doubles[p3 + i];
         acc[i] = acc[i] + x * f + x1 * f1 + x2 * f2 + x3 * f3;
         acc2[i] = acc2[i] + x * g + x1 * g1 + x2 * g2 + x3 * g3;
         i += 1;
@@ -49,16 +49,16 @@ fn add_columns_pair(
     acc: &mut [f64],
     acc2: &mut [f64],
     n: usize,
-    w: &[f64],
+    doubles: &[f64],
     p: usize,
     rows: usize,
     v: &[f64],
     q: usize,
     step: usize,
 )
-    requires { ⌜ (n ≤ rows) × (n ≤ length (now acc)) × (n ≤ length (now acc2)) × (p + rows + rows + rows + rows ≤ length (now w)) × (q + 1 + step + step + step < length (now v)) ⌝ }
-    ensures { λ _. ⌜ now (acc .exit) ≡ fourMore (ieee .plus) (now (acc .entry)) n (now (w .entry)) p rows (now (v .entry)) q step ⌝ }
-    ensures { λ _. ⌜ now (acc2 .exit) ≡ fourMore (ieee .plus) (now (acc2 .entry)) n (now (w .entry)) p rows (now (v .entry)) (q + 1) step ⌝ }
+    requires { ⌜ (n ≤ rows) × (n ≤ length (now acc)) × (n ≤ length (now acc2)) × (p + rows + rows + rows + rows ≤ length (now doubles)) × (q + 1 + step + step + step < length (now v)) ⌝ }
+    ensures { λ _. ⌜ now (acc .exit) ≡ fourMore (ieee .plus) (now (acc .entry)) n (now (doubles .entry)) p rows (now (v .entry)) q step ⌝ }
+    ensures { λ _. ⌜ now (acc2 .exit) ≡ fourMore (ieee .plus) (now (acc2 .entry)) n (now (doubles .entry)) p rows (now (v .entry)) (q + 1) step ⌝ }
 {
     let p1 = p + rows;
     let p2 = p1 + rows;
@@ -74,7 +74,7 @@ fn add_columns_pair(
         acc,
         acc2,
         n,
-        w,
+        doubles,
         p,
         p1,
         p2,
@@ -95,7 +95,7 @@ fn add_fours_pair(
     acc: &mut [f64],
     acc2: &mut [f64],
     n: usize,
-    w: &[f64],
+    doubles: &[f64],
     a: usize,
     rows: usize,
     v: &[f64],
@@ -104,16 +104,16 @@ fn add_fours_pair(
     r: usize,
     inner: usize,
 ) -> usize
-    requires { ⌜ (n ≤ rows) × (n ≤ length (now acc)) × (n ≤ length (now acc2)) × (r + 1 < step) × (a + sizeOf (columns rows inner) ≤ length (now w)) × (b + sizeOf (columns step inner) ≤ length (now v)) ⌝ }
+    requires { ⌜ (n ≤ rows) × (n ≤ length (now acc)) × (n ≤ length (now acc2)) × (r + 1 < step) × (a + sizeOf (columns rows inner) ≤ length (now doubles)) × (b + sizeOf (columns step inner) ≤ length (now v)) ⌝ }
     ensures { λ x. ⌜ x ≤ inner ⌝ }
-    ensures { λ x. ⌜ now (acc .exit) ≡ products (ieee .plus) (now (acc .entry)) n (now (w .entry)) a rows (now (v .entry)) b step r x ⌝ }
-    ensures { λ x. ⌜ now (acc2 .exit) ≡ products (ieee .plus) (now (acc2 .entry)) n (now (w .entry)) a rows (now (v .entry)) b step (r + 1) x ⌝ }
+    ensures { λ x. ⌜ now (acc .exit) ≡ products (ieee .plus) (now (acc .entry)) n (now (doubles .entry)) a rows (now (v .entry)) b step r x ⌝ }
+    ensures { λ x. ⌜ now (acc2 .exit) ≡ products (ieee .plus) (now (acc2 .entry)) n (now (doubles .entry)) a rows (now (v .entry)) b step (r + 1) x ⌝ }
 {
     let mut x = 0;
     let mut p = a;
     let mut q = b;
     while inner - x >= 4 {
-        add_columns_pair(acc, acc2, n, w, p, rows, v, q + r, step);
+        add_columns_pair(acc, acc2, n, doubles, p, rows, v, q + r, step);
         p += 4 * rows;
         q += 4 * step;
         x += 4;
@@ -121,12 +121,12 @@ fn add_fours_pair(
     x
 }
 
-// n sums of either list, each with the products of row i of block a of w and of row r, or row r + 1, of block b of v, by rising inner index.
+// n sums of either list, each with the products of row i of block a of `doubles` and of row r, or row r + 1, of block b of v, by rising inner index.
 pub fn add_products_pair(
     acc: &mut [f64],
     acc2: &mut [f64],
     n: usize,
-    w: &[f64],
+    doubles: &[f64],
     a: usize,
     rows: usize,
     v: &[f64],
@@ -135,13 +135,13 @@ pub fn add_products_pair(
     r: usize,
     inner: usize,
 )
-    requires { ⌜ (n ≤ rows) × (n ≤ length (now acc)) × (n ≤ length (now acc2)) × (r + 1 < step) × (a + sizeOf (columns rows inner) ≤ length (now w)) × (b + sizeOf (columns step inner) ≤ length (now v)) ⌝ }
-    ensures { λ _. ⌜ now (acc .exit) ≡ products (ieee .plus) (now (acc .entry)) n (now (w .entry)) a rows (now (v .entry)) b step r inner ⌝ }
-    ensures { λ _. ⌜ now (acc2 .exit) ≡ products (ieee .plus) (now (acc2 .entry)) n (now (w .entry)) a rows (now (v .entry)) b step (r + 1) inner ⌝ }
+    requires { ⌜ (n ≤ rows) × (n ≤ length (now acc)) × (n ≤ length (now acc2)) × (r + 1 < step) × (a + sizeOf (columns rows inner) ≤ length (now doubles)) × (b + sizeOf (columns step inner) ≤ length (now v)) ⌝ }
+    ensures { λ _. ⌜ now (acc .exit) ≡ products (ieee .plus) (now (acc .entry)) n (now (doubles .entry)) a rows (now (v .entry)) b step r inner ⌝ }
+    ensures { λ _. ⌜ now (acc2 .exit) ≡ products (ieee .plus) (now (acc2 .entry)) n (now (doubles .entry)) a rows (now (v .entry)) b step (r + 1) inner ⌝ }
 {
-    let x = add_fours_pair(acc, acc2, n, w, a, rows, v, b, step, r, inner);
+    let x = add_fours_pair(acc, acc2, n, doubles, a, rows, v, b, step, r, inner);
     let p = a + x * rows;
     let q = b + x * step;
-    axpy_products::add_products(acc, n, w, p, rows, v, q, step, r, inner - x);
-    axpy_products::add_products(acc2, n, w, p, rows, v, q, step, r + 1, inner - x);
+    axpy_products::add_products(acc, n, doubles, p, rows, v, q, step, r, inner - x);
+    axpy_products::add_products(acc2, n, doubles, p, rows, v, q, step, r + 1, inner - x);
 }

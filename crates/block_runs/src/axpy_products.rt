@@ -4,14 +4,14 @@ ghost use Prim.Native.Nat.{_+_, _≤_, _<_};
 ghost use lib.ListN.{length};
 ghost use Rattle.storage.specs.Shape.{columns, sizeOf};
 ghost use Rattle.rules.specs.Arithmetic.{ieee};
-ghost use Rattle.block_runs.specs.axpy.Axpy.{taking, products};
+ghost use Rattle.block_runs.specs.axpy.Axpy.{addOrSubtract, products};
 use crate::axpy;
 
-// n sums, each with the products of row i of block a of w and row r of block b of v, added or taken off one by one by rising inner index.
-fn take_products(
+// n sums, each with the products of row i of block a of `doubles` and row r of block b of v, added or subtracted one by one by rising inner index.
+fn apply_products(
     acc: &mut [f64],
     n: usize,
-    w: &[f64],
+    doubles: &[f64],
     a: usize,
     rows: usize,
     v: &[f64],
@@ -19,27 +19,27 @@ fn take_products(
     step: usize,
     r: usize,
     inner: usize,
-    less: bool,
+    subtract: bool,
 )
-    requires { ⌜ (n ≤ rows) × (n ≤ length (now acc)) × (r < step) × (a + sizeOf (columns rows inner) ≤ length (now w)) × (b + sizeOf (columns step inner) ≤ length (now v)) ⌝ }
-    ensures { λ _. ⌜ now (acc .exit) ≡ products (taking less) (now (acc .entry)) n (now (w .entry)) a rows (now (v .entry)) b step r inner ⌝ }
+    requires { ⌜ (n ≤ rows) × (n ≤ length (now acc)) × (r < step) × (a + sizeOf (columns rows inner) ≤ length (now doubles)) × (b + sizeOf (columns step inner) ≤ length (now v)) ⌝ }
+    ensures { λ _. ⌜ now (acc .exit) ≡ products (addOrSubtract subtract) (now (acc .entry)) n (now (doubles .entry)) a rows (now (v .entry)) b step r inner ⌝ }
 {
     let mut x = 0;
     let mut p = a;
     let mut q = b;
     while x < inner {
-        let k = axpy::add_some(acc, n, w, p, rows, v, q, step, r, inner - x, less);
+        let k = axpy::add_some(acc, n, doubles, p, rows, v, q, step, r, inner - x, subtract);
         p += k * rows;
         q += k * step;
         x += k;
     }
 }
 
-// n sums, each with the products of row i of block a of w and row r of block b of v.
+// n sums, each with the products of row i of block a of `doubles` and row r of block b of v.
 pub fn add_products(
     acc: &mut [f64],
     n: usize,
-    w: &[f64],
+    doubles: &[f64],
     a: usize,
     rows: usize,
     v: &[f64],
@@ -48,17 +48,17 @@ pub fn add_products(
     r: usize,
     inner: usize,
 )
-    requires { ⌜ (n ≤ rows) × (n ≤ length (now acc)) × (r < step) × (a + sizeOf (columns rows inner) ≤ length (now w)) × (b + sizeOf (columns step inner) ≤ length (now v)) ⌝ }
-    ensures { λ _. ⌜ now (acc .exit) ≡ products (ieee .plus) (now (acc .entry)) n (now (w .entry)) a rows (now (v .entry)) b step r inner ⌝ }
+    requires { ⌜ (n ≤ rows) × (n ≤ length (now acc)) × (r < step) × (a + sizeOf (columns rows inner) ≤ length (now doubles)) × (b + sizeOf (columns step inner) ≤ length (now v)) ⌝ }
+    ensures { λ _. ⌜ now (acc .exit) ≡ products (ieee .plus) (now (acc .entry)) n (now (doubles .entry)) a rows (now (v .entry)) b step r inner ⌝ }
 {
-    take_products(acc, n, w, a, rows, v, b, step, r, inner, false);
+    apply_products(acc, n, doubles, a, rows, v, b, step, r, inner, false);
 }
 
-// n doubles, each less the products of row i of block a of w and row r of block b of v.
-pub fn less_products(
+// n doubles, each less the products of row i of block a of `doubles` and row r of block b of v.
+pub fn subtract_products(
     acc: &mut [f64],
     n: usize,
-    w: &[f64],
+    doubles: &[f64],
     a: usize,
     rows: usize,
     v: &[f64],
@@ -67,8 +67,8 @@ pub fn less_products(
     r: usize,
     inner: usize,
 )
-    requires { ⌜ (n ≤ rows) × (n ≤ length (now acc)) × (r < step) × (a + sizeOf (columns rows inner) ≤ length (now w)) × (b + sizeOf (columns step inner) ≤ length (now v)) ⌝ }
-    ensures { λ _. ⌜ now (acc .exit) ≡ products (ieee .minus) (now (acc .entry)) n (now (w .entry)) a rows (now (v .entry)) b step r inner ⌝ }
+    requires { ⌜ (n ≤ rows) × (n ≤ length (now acc)) × (r < step) × (a + sizeOf (columns rows inner) ≤ length (now doubles)) × (b + sizeOf (columns step inner) ≤ length (now v)) ⌝ }
+    ensures { λ _. ⌜ now (acc .exit) ≡ products (ieee .minus) (now (acc .entry)) n (now (doubles .entry)) a rows (now (v .entry)) b step r inner ⌝ }
 {
-    take_products(acc, n, w, a, rows, v, b, step, r, inner, true);
+    apply_products(acc, n, doubles, a, rows, v, b, step, r, inner, true);
 }

@@ -17,14 +17,14 @@ pub fn clear(acc: &mut [f64], n: usize)
     }
 }
 
-// They become the n doubles of w from `from` on.
-pub fn read(acc: &mut [f64], n: usize, w: &[f64], from: usize)
-    requires { ⌜ (n ≤ length (now acc)) × (from + n ≤ length (now w)) ⌝ }
-    ensures { λ _. ⌜ now (acc .exit) ≡ run 0 n (λ i. at (now (w .entry)) (from + i)) (now (acc .entry)) ⌝ }
+// They become the n doubles of the list from `from` on.
+pub fn read(acc: &mut [f64], n: usize, doubles: &[f64], from: usize)
+    requires { ⌜ (n ≤ length (now acc)) × (from + n ≤ length (now doubles)) ⌝ }
+    ensures { λ _. ⌜ now (acc .exit) ≡ run 0 n (λ i. at (now (doubles .entry)) (from + i)) (now (acc .entry)) ⌝ }
 {
     let mut i = 0;
     while i < n {
-        acc[i] = w[from + i];
+        acc[i] = doubles[from + i];
         i += 1;
     }
 }
@@ -41,10 +41,10 @@ fn put_part(t: &mut [f64], to: usize, n: usize, acc: &[f64])
     }
 }
 
-// The same on the block that lies from off to end in w: the run starts at `to` within it.
-pub fn put(w: &mut [f64], off: usize, end: usize, to: usize, n: usize, acc: &[f64])
-    requires { ⌜ (off + (to + n) ≤ end) × (end ≤ length (now w)) × (n ≤ length (now acc)) ⌝ }
-    ensures { λ _. ⌜ now (w .exit) ≡ run (off + to) n (at (now (acc .entry))) (now (w .entry)) ⌝ }
+// The same on the block that lies from off to end in `doubles`: the run starts at `to` within it.
+pub fn put(doubles: &mut [f64], off: usize, end: usize, to: usize, n: usize, acc: &[f64])
+    requires { ⌜ (off + (to + n) ≤ end) × (end ≤ length (now doubles)) × (n ≤ length (now acc)) ⌝ }
+    ensures { λ _. ⌜ now (doubles .exit) ≡ run (off + to) n (at (now (acc .entry))) (now (doubles .entry)) ⌝ }
 {
-    put_part(&mut w[off..end], to, n, acc);
+    put_part(&mut doubles[off..end], to, n, acc);
 }

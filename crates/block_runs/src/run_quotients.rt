@@ -29,17 +29,17 @@ fn divide_part(t: &mut [f64], to: usize, n: usize, p: f64)
     }
 }
 
-// The same on the block that lies from off to end in w: the run starts at `to` within it.
-pub fn over(w: &mut [f64], off: usize, end: usize, to: usize, n: usize, acc: &[f64], p: f64)
-    requires { ⌜ (off + (to + n) ≤ end) × (end ≤ length (now w)) × (n ≤ length (now acc)) ⌝ }
-    ensures { λ _. ⌜ now (w .exit) ≡ run (off + to) n (λ i. ieee .over (at (now (acc .entry)) i) p) (now (w .entry)) ⌝ }
+// The same on the block that lies from off to end in `doubles`: the run starts at `to` within it.
+pub fn over(doubles: &mut [f64], off: usize, end: usize, to: usize, n: usize, acc: &[f64], p: f64)
+    requires { ⌜ (off + (to + n) ≤ end) × (end ≤ length (now doubles)) × (n ≤ length (now acc)) ⌝ }
+    ensures { λ _. ⌜ now (doubles .exit) ≡ run (off + to) n (λ i. ieee .over (at (now (acc .entry)) i) p) (now (doubles .entry)) ⌝ }
 {
-    over_part(&mut w[off..end], to, n, acc, p);
+    over_part(&mut doubles[off..end], to, n, acc, p);
 }
 
-pub fn divide(w: &mut [f64], off: usize, end: usize, to: usize, n: usize, p: f64)
-    requires { ⌜ (off + (to + n) ≤ end) × (end ≤ length (now w)) ⌝ }
-    ensures { λ _. ⌜ now (w .exit) ≡ run (off + to) n (λ i. ieee .over (at (now (w .entry)) (off + to + i)) p) (now (w .entry)) ⌝ }
+pub fn divide(doubles: &mut [f64], off: usize, end: usize, to: usize, n: usize, p: f64)
+    requires { ⌜ (off + (to + n) ≤ end) × (end ≤ length (now doubles)) ⌝ }
+    ensures { λ _. ⌜ now (doubles .exit) ≡ run (off + to) n (λ i. ieee .over (at (now (doubles .entry)) (off + to + i)) p) (now (doubles .entry)) ⌝ }
 {
-    divide_part(&mut w[off..end], to, n, p);
+    divide_part(&mut doubles[off..end], to, n, p);
 }

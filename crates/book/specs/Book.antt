@@ -6,7 +6,7 @@ use mathlib.Core.Option.{Option, none, some}
 use lib.Dec.{eqb}
 use lib.ListN.{length, getD}
 use lib.Ieee.{Float}
-use Rattle.step_order.specs.Steps.{Step, S, C, T, named, after, rustOrder}
+use Rattle.step_order.specs.Steps.{Step, S, C, T, isStep, forerunners, rustOrder}
 use Rattle.step_order.specs.Progress.{all, join, stepsLeft}
 use Rattle.rules.specs.Arithmetic.{ieee}
 use Rattle.sheet.specs.Sheet.{Sheet}
@@ -17,8 +17,8 @@ use Rattle.refusal.specs.declared.Answer.{Answer}
 use Rattle.refusal.specs.declared.Answer.the-variants.{Accepted, Refused}
 use Rattle.refusal.specs.Numbers.{noRefusal, refuse}
 use Rattle.layout.specs.Shapes.{pick}
-use Rattle.workspace.specs.Memory.{Workspace, noughts}
-use Rattle.workspace.specs.Answers.{Outcome, space, firstInfinite, unlessAt}
+use Rattle.workspace.specs.Memory.{Workspace, zeros}
+use Rattle.workspace.specs.Answers.{Outcome, workspace, firstInfinite, unlessAt}
 use Rattle.workspace.specs.Loaded.{layoutOfSheet, loadedNumbers}
 use Rattle.workspace.specs.Load.{headingOf}
 use Rattle.workspace.specs.Response.{responded}
@@ -58,7 +58,7 @@ module _ (sheet : Sheet) where
 
   -- a freshly loaded workspace with these loaded numbers
   abbrev pub fresh : List Float → Workspace
-  fresh loaded = space (headingOf sheet layout) (loaded ++ noughts layout)
+  fresh loaded = workspace (headingOf sheet layout) (loaded ++ zeros layout)
 
   -- begin and the Rust's order on it, to their end or to the refused pivot
   abbrev pub rust : List Float → List Float → Outcome
@@ -112,13 +112,13 @@ module _ (sheet : Sheet) where
   onSet s (some d) b =
       let no : ℕ → Entry = λ n. entry (plain (refuse n 0 0)) b in
       pick (eqb (stepsLeft last d) 0) (no 22)
-      (pick (named last s)
-      (pick (d s) (no 23) (pick (all d (after s)) (onReady (inStep s (rust (b .loaded) (b .theta) .answer)) s d b) (no 24)))
+      (pick (isStep last s)
+      (pick (d s) (no 23) (pick (all d (forerunners s)) (onReady (inStep s (rust (b .loaded) (b .theta) .answer)) s d b) (no 24)))
       (no 21))
 
   -- `profile_deviance`: begin, then the Rust's order to its end or its refused pivot
   abbrev pub afterAll : Answer → Option (Step → Bool)
-  afterAll Accepted = some (named last)
+  afterAll Accepted = some (isStep last)
   afterAll (Refused r) = none
 
   abbrev pub onProfile : List Float → Bool → Book → Entry

@@ -1,4 +1,3 @@
 pub mod Calls
 pub mod Book
 pub mod Values
-pub mod Demand

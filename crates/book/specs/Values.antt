@@ -1,4 +1,4 @@
--- The value of every block at a stage, at the rules of a loaded sheet (document 01, Record 4): what the order theorem of crate `order` speaks of.
+-- The value of every block at a stage, at the rules of a loaded sheet (document 01, Record 4): what the order theorem of crate `step_order` speaks of.
 use Prim.Native.Nat.{ℕ}
 use mathlib.Core.List.{List}
 use mathlib.Core.Option.{Option}
@@ -9,7 +9,7 @@ use Rattle.rules.specs.Arithmetic.{ieee}
 use Rattle.sheet.specs.Sheet.{Sheet}
 use Rattle.heading_format.specs.Heading.{layoutOf, entryRow}
 use Rattle.workspace.specs.Memory.{loadedBlock, loadedSome}
-use Rattle.update.specs.Working.{rulesOf, started}
+use Rattle.update.specs.Working.{rulesOf, scaled}
 use Rattle.book.specs.Book.{fresh, last}
 
 module _ (sheet : Sheet) (loaded theta : List Float) where
@@ -23,7 +23,7 @@ module _ (sheet : Sheet) (loaded theta : List Float) where
   startHere i j =
       let v = fresh sheet loaded in
       let t : ℕ → Float = λ b. getD theta (getD (layoutOf (v .heading) .order) b 0) (ieee .zero) in
-      started (layoutOf (v .heading)) (entryRow (v .heading)) (loadedSome (v .heading) (v .doubles)) t i j (loadedBlock (v .heading) (v .doubles) i j)
+      scaled (layoutOf (v .heading)) (entryRow (v .heading)) (loadedSome (v .heading) (v .doubles)) t i j (loadedBlock (v .heading) (v .doubles) i j)
 
   -- block (i, j) after n of its steps, and after all of them; the logarithms' sum after C(0), .., C(n - 1); the pivot that the Rust's order refuses
   abbrev pub valueAt : ℕ → ℕ → ℕ → List Float

@@ -55,19 +55,19 @@ fn double(i: usize) -> f64 {
 }
 
 // Fills the heading.
-pub fn fill_heading(h: &mut [u32]) {
+pub fn fill_heading(heading: &mut [u32]) {
     let mut i: usize = 0;
-    while i < h.len() {
-        h[i] = number(i);
+    while i < heading.len() {
+        heading[i] = number(i);
         i += 1;
     }
 }
 
 // Fills the doubles.
-pub fn fill_doubles(w: &mut [f64]) {
+pub fn fill_doubles(doubles: &mut [f64]) {
     let mut i: usize = 0;
-    while i < w.len() {
-        w[i] = double(i);
+    while i < doubles.len() {
+        doubles[i] = double(i);
         i += 1;
     }
 }
@@ -83,22 +83,22 @@ fn wide(x: u32) -> u64 {
 }
 
 // The sum over a heading.
-fn sum_numbers(h: &[u32]) -> u64 {
+fn sum_numbers(heading: &[u32]) -> u64 {
     let mut sum: u64 = 0;
     let mut i: usize = 0;
-    while i < h.len() {
-        sum = more(sum, wide(h[i]));
+    while i < heading.len() {
+        sum = more(sum, wide(heading[i]));
         i += 1;
     }
     sum
 }
 
 // The sum over doubles, from a sum on: the upper half of each word, then the lower.
-fn sum_doubles(w: &[f64], from: u64) -> u64 {
+fn sum_doubles(doubles: &[f64], from: u64) -> u64 {
     let mut sum = from;
     let mut i: usize = 0;
-    while i < w.len() {
-        let x = words::word_of(w[i]);
+    while i < doubles.len() {
+        let x = words::word_of(doubles[i]);
         sum = more(more(sum, x / 0x100000000), x);
         i += 1;
     }
@@ -106,6 +106,6 @@ fn sum_doubles(w: &[f64], from: u64) -> u64 {
 }
 
 // The sum over heading and doubles.
-pub fn sum_words(h: &[u32], w: &[f64]) -> u64 {
-    sum_doubles(w, sum_numbers(h))
+pub fn sum_words(heading: &[u32], doubles: &[f64]) -> u64 {
+    sum_doubles(doubles, sum_numbers(heading))
 }

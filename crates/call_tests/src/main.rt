@@ -1,105 +1,116 @@
-// Replays a list of calls: load, begin, steps, replace_response, profile_deviance, deviance_from_factor and solve_profile_blocked, each given what
-// the last left. Of each it prints the answer, and every number and double that it leaves other than it was; behind them, calls on a workspace that is too
-// large for a list (crate large_list), with a sum over every number and double. The file stdout has what must be printed (tools/call_list.py).
+// Test program: replays a list of calls and prints what each answers and changes. Each call is given what the last left; printed are the answer, and
+// every number and double that is other than before; behind them, calls on a workspace that is too large for a list (module large_list), with a sum
+// over every number and double. The file stdout has what must be printed; tools/call_list.py made both.
 mod call_list;
 mod large_list;
 
 use call_list::memory;
-use call_list::told;
-use call_list::told::Told;
+use call_list::report;
+use call_list::report::Reported;
 use test_words::size;
-use update::Name;
+use update::StepName;
 
 // begin on the list of the call, which is the first of l.
-fn begun(m: &[u64; 65536], h: &mut [u32], w: &mut [f64], l: &[f64]) -> Told {
+fn begun(m: &[u64; 65536], heading: &mut [u32], doubles: &mut [f64], l: &[f64]) -> Reported {
     let n = size(m[4], l.len());
-    told::of_answer(begin::begin(h, w, &l[..n]))
+    report::of_answer(begin::begin(heading, doubles, &l[..n]))
 }
 
 // replace_response on the three lists, which l has one behind the other.
-fn responded(m: &[u64; 65536], h: &mut [u32], w: &mut [f64], l: &[f64]) -> Told {
+fn responded(m: &[u64; 65536], heading: &mut [u32], doubles: &mut [f64], l: &[f64]) -> Reported {
     let x = size(m[4], l.len());
     let y = x + size(m[5], l.len() - x);
     let z = y + size(m[6], l.len() - y);
-    told::of_answer(replace_response::replace_response(h, w, &l[..x], &l[x..y], &l[y..z]))
+    report::of_answer(replace_response::replace_response(
+        heading,
+        doubles,
+        &l[..x],
+        &l[x..y],
+        &l[y..z],
+    ))
 }
 
 // profile_deviance on the list of the call.
-fn profiled(m: &[u64; 65536], h: &mut [u32], w: &mut [f64], l: &[f64]) -> Told {
+fn profiled(m: &[u64; 65536], heading: &mut [u32], doubles: &mut [f64], l: &[f64]) -> Reported {
     let n = size(m[4], l.len());
-    told::of_deviance(profile_deviance::profile_deviance(h, w, &l[..n], m[1] == 1))
+    report::of_deviance(profile_deviance::profile_deviance(heading, doubles, &l[..n], m[1] == 1))
 }
 
 // The step that a call names.
-fn name(m: &[u64; 65536]) -> Name {
+fn name(m: &[u64; 65536]) -> StepName {
     match m[0] {
-        2 => Name::S(m[1], m[2], m[3]),
-        3 => Name::C(m[1]),
-        _ => Name::T(m[1], m[2]),
+        2 => StepName::S(m[1], m[2], m[3]),
+        3 => StepName::C(m[1]),
+        _ => StepName::T(m[1], m[2]),
     }
 }
 
 // A call other than load on a workspace.
-fn called(m: &[u64; 65536], h: &mut [u32], w: &mut [f64]) -> Told {
+fn called(m: &[u64; 65536], heading: &mut [u32], doubles: &mut [f64]) -> Reported {
     let mut l = [0f64; 40960];
     memory::fill_doubles(&mut l, m);
     match m[0] {
-        1 => begun(m, h, w, &l),
-        5 => responded(m, h, w, &l),
-        6 => profiled(m, h, w, &l),
-        7 => told::of_deviance(deviance::deviance_from_factor(h, w, m[1] == 1)),
-        _ => told::of_answer(step::step(h, w, name(m))),
+        1 => begun(m, heading, doubles, &l),
+        5 => responded(m, heading, doubles, &l),
+        6 => profiled(m, heading, doubles, &l),
+        7 => report::of_deviance(deviance::deviance_from_factor(heading, doubles, m[1] == 1)),
+        _ => report::of_answer(step::step(heading, doubles, name(m))),
     }
 }
 
 // load of the sheet that the call has.
-fn loaded(m: &[u64; 65536], h: &mut [u32], w: &mut [f64]) -> Told {
+fn loaded(m: &[u64; 65536], heading: &mut [u32], doubles: &mut [f64]) -> Reported {
     let mut s = [0u8; 131072];
     memory::fill_bytes(&mut s, m);
     let n = size(m[1], 131072);
-    told::of_answer(load::load(&s[..n], h, w))
+    report::of_answer(load::load(&s[..n], heading, doubles))
 }
 
 // A call on the first numbers and doubles, as many as it is lent.
-fn lent(m: &[u64; 65536], h: &mut [u32], w: &mut [f64]) -> Told {
-    let n = size(m[7], h.len());
-    let d = size(m[8], w.len());
+fn lent(m: &[u64; 65536], heading: &mut [u32], doubles: &mut [f64]) -> Reported {
+    let n = size(m[7], heading.len());
+    let d = size(m[8], doubles.len());
     if m[0] == 8 {
-        return loaded(m, &mut h[..n], &mut w[..d]);
+        return loaded(m, &mut heading[..n], &mut doubles[..d]);
     }
-    called(m, &mut h[..n], &mut w[..d])
+    called(m, &mut heading[..n], &mut doubles[..d])
 }
 
 // solve_profile_blocked on the first numbers and doubles and the first of a result list, and the lines of its answer.
-fn solved(m: &[u64; 65536], h: &[u32], w: &[f64], v: &mut [f64]) {
-    let n = size(m[7], h.len());
-    let d = size(m[8], w.len());
+fn solved(m: &[u64; 65536], heading: &[u32], doubles: &[f64], v: &mut [f64]) {
+    let n = size(m[7], heading.len());
+    let d = size(m[8], doubles.len());
     let r = size(m[4], v.len());
-    let s = solve_profile::solve_profile_blocked(&h[..n], &w[..d], m[1] == 1, &mut v[..r]);
-    told::print_solve(m, s);
+    let s = solve_profile::solve_profile_blocked(
+        &heading[..n],
+        &doubles[..d],
+        m[1] == 1,
+        &mut v[..r],
+    );
+    report::print_solve(m, s);
 }
 
 // The same with the lines of the result list, which stands in m.
-fn result_lines(m: &mut [u64; 65536], h: &[u32; 1024], w: &[f64; 8192]) {
+fn result_lines(m: &mut [u64; 65536], heading: &[u32; 1024], doubles: &[f64; 8192]) {
     let mut v = [0f64; 4096];
     memory::fill_results(&mut v, m);
-    solved(m, h, w, &mut v);
+    solved(m, heading, doubles, &mut v);
     memory::print_results(m, &v);
 }
 
 // A call, or an alteration, and its lines. load begins anew on memory that no call has written.
-fn line(m: &mut [u64; 65536], h: &mut [u32; 1024], w: &mut [f64; 8192]) {
+fn line(m: &mut [u64; 65536], heading: &mut [u32; 1024], doubles: &mut [f64; 8192]) {
     if m[0] == 8 {
-        memory::reset(m, h, w);
+        memory::reset(m, heading, doubles);
     }
     if m[0] == 0 {
-        memory::alter(m, h, w);
+        memory::alter(m, heading, doubles);
     } else if m[0] == 9 {
-        result_lines(m, h, w);
+        result_lines(m, heading, doubles);
     } else {
-        told::print(m, lent(m, h, w));
+        report::print(m, lent(m, heading, doubles));
     }
-    memory::print_changes(m, h, w);
+    memory::print_changes(m, heading, doubles);
 }
 
 // Reads a call into m. Whether there is one more; a kind above 9 ends a part of the list.
@@ -127,27 +138,27 @@ fn replay(m: &mut [u64; 65536]) {
 }
 
 // solve_profile_blocked on the large workspace: its answer, and a sum over the heading and the result list.
-fn large_solved(m: &[u64; 65536], h: &[u32], w: &[f64]) {
+fn large_solved(m: &[u64; 65536], heading: &[u32], doubles: &[f64]) {
     let mut v = [0f64; 133350];
-    solved(m, h, w, &mut v);
-    test_words::print_word(large_list::sum_words(h, &v));
+    solved(m, heading, doubles, &mut v);
+    test_words::print_word(large_list::sum_words(heading, &v));
 }
 
 // A call on the large workspace, and a sum over every number and double.
-fn large_line(m: &[u64; 65536], h: &mut [u32], w: &mut [f64]) {
+fn large_line(m: &[u64; 65536], heading: &mut [u32], doubles: &mut [f64]) {
     if m[0] == 9 {
-        large_solved(m, h, w);
+        large_solved(m, heading, doubles);
         return;
     }
-    told::print(m, called(m, h, w));
-    test_words::print_word(large_list::sum_words(h, w));
+    report::print(m, called(m, heading, doubles));
+    test_words::print_word(large_list::sum_words(heading, doubles));
 }
 
 // The list's second part, on the large workspace.
-fn large_lines(m: &mut [u64; 65536], h: &mut [u32], w: &mut [f64]) {
+fn large_lines(m: &mut [u64; 65536], heading: &mut [u32], doubles: &mut [f64]) {
     let mut n: u64 = 0;
     while n < 1000000 && read_call(m) {
-        large_line(m, h, w);
+        large_line(m, heading, doubles);
         n += 1;
     }
 }

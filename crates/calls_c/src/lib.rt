@@ -1,10 +1,10 @@
-// The calls under C's conventions, as bench/load.rs and bench/profile.rs call them: each is its call, with the call's contract.
+// The calls under C's conventions, for bench/load.rs and bench/profile.rs: each is its call, with the call's contract.
 ghost use mathlib.Core.Path.{_≡_};
 ghost use Prim.Native.Nat.{_≤_};
 ghost use lib.Dec.{eqb};
 ghost use lib.ListN.{length};
 ghost use Rattle.refusal.specs.Numbers.{refusalOf};
-ghost use Rattle.workspace.specs.Answers.{Outcome, space};
+ghost use Rattle.workspace.specs.Answers.{Outcome, workspace};
 ghost use Rattle.workspace.specs.Load.{Loads};
 ghost use Rattle.update.specs.Calls.{beginOf, stepOf};
 ghost use Rattle.update.specs.Names.{stepOfName};
@@ -14,7 +14,7 @@ ghost use Rattle.calls_c.specs.Answers.{stepNamed, numberOf, valued, sca
 use profile::Deviance;
 use profile::Solve;
 use refusal::Answer;
-use update::Name;
+use update::StepName;
 
 // A refusal's number, and 0 where the call is accepted.
 fn number(a: Answer) -> u64
@@ -27,7 +27,7 @@ fn number(a: Answer) -> u64
 }
 
 // The number of a deviance's answer, 26 for a refused pivot, and in value[0] the Rust's value, where it has one.
-fn tell(d: Deviance, value: &mut [f64]) -> u64
+fn report(d: Deviance, value: &mut [f64]) -> u64
     requires { ⌜ 1 ≤ length (now value) ⌝ }
     ensures { λ r. ⌜ (r ≡ numberOf d) × (now (value .exit) ≡ valued d (now (value .entry))) ⌝ }
 {
@@ -49,7 +49,7 @@ fn tell(d: Deviance, value: &mut [f64]) -> u64
 }
 
 // The number of a solve's answer, and in the first places of a list the two scalars of a solution.
-fn tell_solve(s: Solve, scalars: &mut [f64]) -> u64
+fn report_solve(s: Solve, scalars: &mut [f64]) -> u64
     requires { ⌜ 2 ≤ length (now scalars) ⌝ }
     ensures { λ r. ⌜ (r ≡ solveRefusal s .number) × (now (scalars .exit) ≡ scaled s (now (scalars .entry))) ⌝ }
 {
@@ -64,24 +64,24 @@ fn tell_solve(s: Solve, scalars: &mut [f64]) -> u64
 }
 
 // The step of a kind: 0 is S, 1 is C, any other T.
-fn name(kind: u64, i: u64, j: u64, x: u64) -> Name
+fn name(kind: u64, i: u64, j: u64, x: u64) -> StepName
     ensures { λ r. ⌜ stepOfName r ≡ stepNamed kind i j x ⌝ }
 {
     if kind == 0 {
-        return Name::S(i, j, x);
+        return StepName::S(i, j, x);
     }
     if kind == 1 {
-        return Name::C(i);
+        return StepName::C(i);
     }
-    Name::T(i, j)
+    StepName::T(i, j)
 }
 
 // load::load: a refusal's number, and 0 where the sheet is loaded.
 #[no_mangle]
-pub extern "C" fn husk_load(s: &[u8], h: &mut [u32], w: &mut [f64]) -> u64
-    ensures { λ r. ⌜ ((o : Outcome) × (Loads (now (s .entry)) (now (h .entry)) (now (w .entry)) o) × (r ≡ refusalOf (o .answer) .number) × (o .left ≡ space (now (h .exit)) (now (w .exit)))) ⌝ }
+pub extern "C" fn husk_load(bytes: &[u8], heading: &mut [u32], doubles: &mut [f64]) -> u64
+    ensures { λ r. ⌜ ((o : Outcome) × (Loads (now (bytes .entry)) (now (heading .entry)) (now (doubles .entry)) o) × (r ≡ refusalOf (o .answer) .number) × (o .left ≡ workspace (now (heading .exit)) (now (doubles .exit)))) ⌝ }
 {
-    match load::load(s, h, w) {
+    match load::load(bytes, heading, doubles) {
         Answer::Accepted => 0,
         Answer::Refused(r) => r.number,
     }
@@ -89,34 +89,41 @@ pub extern "C" fn husk_load(s: &[u8], h: &mut [u32], w: &mut [f64]) -> u64
 
 // begin::begin.
 #[no_mangle]
-pub extern "C" fn husk_begin(h: &mut [u32], w: &mut [f64], theta: &[f64]) -> u64
-    ensures { λ r. ⌜ (r ≡ refusalOf (beginOf (now (h .entry)) (now (w .entry)) (now (theta .entry)) .answer) .number) × (beginOf (now (h .entry)) (now (w .entry)) (now (theta .entry)) .left ≡ space (now (h .exit)) (now (w .exit))) ⌝ }
+pub extern "C" fn husk_begin(heading: &mut [u32], doubles: &mut [f64], theta: &[f64]) -> u64
+    ensures { λ r. ⌜ (r ≡ refusalOf (beginOf (now (heading .entry)) (now (doubles .entry)) (now (theta .entry)) .answer) .number) × (beginOf (now (heading .entry)) (now (doubles .entry)) (now (theta .entry)) .left ≡ workspace (now (heading .exit)) (now (doubles .exit))) ⌝ }
 {
-    number(begin::begin(h, w, theta))
+    number(begin::begin(heading, doubles, theta))
 }
 
 // step::step.
 #[no_mangle]
-pub extern "C" fn husk_step(h: &mut [u32], w: &mut [f64], kind: u64, i: u64, j: u64, x: u64) -> u64
-    ensures { λ r. ⌜ (r ≡ refusalOf (stepOf (now (h .entry)) (now (w .entry)) (stepNamed kind i j x) .answer) .number) × (stepOf (now (h .entry)) (now (w .entry)) (stepNamed kind i j x) .left ≡ space (now (h .exit)) (now (w .exit))) ⌝ }
+pub extern "C" fn husk_step(
+    heading: &mut [u32],
+    doubles: &mut [f64],
+    kind: u64,
+    i: u64,
+    j: u64,
+    x: u64,
+) -> u64
+    ensures { λ r. ⌜ (r ≡ refusalOf (stepOf (now (heading .entry)) (now (doubles .entry)) (stepNamed kind i j x) .answer) .number) × (stepOf (now (heading .entry)) (now (doubles .entry)) (stepNamed kind i j x) .left ≡ workspace (now (heading .exit)) (now (doubles .exit))) ⌝ }
 {
-    number(step::step(h, w, name(kind, i, j, x)))
+    number(step::step(heading, doubles, name(kind, i, j, x)))
 }
 
 // profile_deviance::profile_deviance, REML where reml is 1.
 #[no_mangle]
 pub extern "C" fn husk_profile_deviance(
-    h: &mut [u32],
-    w: &mut [f64],
+    heading: &mut [u32],
+    doubles: &mut [f64],
     theta: &[f64],
     reml: u64,
     value: &mut [f64],
 ) -> u64
     requires { ⌜ 1 ≤ length (now value) ⌝ }
-    ensures { λ r. ⌜ (r ≡ numberOf (profileOf (now (h .entry)) (now (w .entry)) (now (theta .entry)) (eqb reml 1) .answer)) × (profileOf (now (h .entry)) (now (w .entry)) (now (theta .entry)) (eqb reml 1) .left ≡ space (now (h .exit)) (now (w .exit))) × (now (value .exit) ≡ valued (profileOf (now (h .entry)) (now (w .entry)) (now (theta .entry)) (eqb reml 1) .answer) (now (value .entry))) ⌝ }
+    ensures { λ r. ⌜ (r ≡ numberOf (profileOf (now (heading .entry)) (now (doubles .entry)) (now (theta .entry)) (eqb reml 1) .answer)) × (profileOf (now (heading .entry)) (now (doubles .entry)) (now (theta .entry)) (eqb reml 1) .left ≡ workspace (now (heading .exit)) (now (doubles .exit))) × (now (value .exit) ≡ valued (profileOf (now (heading .entry)) (now (doubles .entry)) (now (theta .entry)) (eqb reml 1) .answer) (now (value .entry))) ⌝ }
 {
-    tell(
-        profile_deviance::profile_deviance(h, w, theta, reml == 1),
+    report(
+        profile_deviance::profile_deviance(heading, doubles, theta, reml == 1),
         value,
     )
 }
@@ -124,31 +131,34 @@ pub extern "C" fn husk_profile_deviance(
 // deviance::deviance_from_factor, REML where reml is 1.
 #[no_mangle]
 pub extern "C" fn husk_deviance_from_factor(
-    h: &[u32],
-    w: &[f64],
+    heading: &[u32],
+    doubles: &[f64],
     reml: u64,
     value: &mut [f64],
 ) -> u64
     requires { ⌜ 1 ≤ length (now value) ⌝ }
-    ensures { λ r. ⌜ (r ≡ numberOf (devianceFromFactor (now (h .entry)) (now (w .entry)) (eqb reml 1))) × (now (value .exit) ≡ valued (devianceFromFactor (now (h .entry)) (now (w .entry)) (eqb reml 1)) (now (value .entry))) ⌝ }
+    ensures { λ r. ⌜ (r ≡ numberOf (devianceFromFactor (now (heading .entry)) (now (doubles .entry)) (eqb reml 1))) × (now (value .exit) ≡ valued (devianceFromFactor (now (heading .entry)) (now (doubles .entry)) (eqb reml 1)) (now (value .entry))) ⌝ }
 {
-    tell(deviance::deviance_from_factor(h, w, reml == 1), value)
+    report(
+        deviance::deviance_from_factor(heading, doubles, reml == 1),
+        value,
+    )
 }
 
 // solve_profile::solve_profile_blocked, REML where reml is 1.
 #[no_mangle]
 pub extern "C" fn husk_solve_profile_blocked(
-    h: &[u32],
-    w: &[f64],
+    heading: &[u32],
+    doubles: &[f64],
     reml: u64,
     out: &mut [f64],
     scalars: &mut [f64],
 ) -> u64
     requires { ⌜ 2 ≤ length (now scalars) ⌝ }
-    ensures { λ r. ⌜ (r ≡ solveRefusal (solveOf (now (h .entry)) (now (w .entry)) (eqb reml 1) (now (out .entry)) .answer) .number) × (now (out .exit) ≡ solveOf (now (h .entry)) (now (w .entry)) (eqb reml 1) (now (out .entry)) .result) × (now (scalars .exit) ≡ scaled (solveOf (now (h .entry)) (now (w .entry)) (eqb reml 1) (now (out .entry)) .answer) (now (scalars .entry))) ⌝ }
+    ensures { λ r. ⌜ (r ≡ solveRefusal (solveOf (now (heading .entry)) (now (doubles .entry)) (eqb reml 1) (now (out .entry)) .answer) .number) × (now (out .exit) ≡ solveOf (now (heading .entry)) (now (doubles .entry)) (eqb reml 1) (now (out .entry)) .result) × (now (scalars .exit) ≡ scaled (solveOf (now (heading .entry)) (now (doubles .entry)) (eqb reml 1) (now (out .entry)) .answer) (now (scalars .entry))) ⌝ }
 {
-    tell_solve(
-        solve_profile::solve_profile_blocked(h, w, reml == 1, out),
+    report_solve(
+        solve_profile::solve_profile_blocked(heading, doubles, reml == 1, out),
         scalars,
     )
 }

@@ -19,12 +19,12 @@ use Rattle.storage.proofs.Cells.{length-tab, getD-tab, tab-ext, any-default}
 use Rattle.storage.proofs.Parts.{length-part, length-store, getD-part, part-else, store-left, store-right, store-in, store-else, store-part}
 use Rattle.storage.proofs.Blocks.{length-fill, cell-fill, is-fill, fill-cell, cell-stored}
 use Rattle.rules.specs.Arithmetic.{ieee}
-use Rattle.rules.specs.Sums.{lessFrom}
+use Rattle.rules.specs.Sums.{subtractFrom}
 use Rattle.block_runs.specs.blocks.Blocks.{block, entry}
 use Rattle.block_runs.proofs.blocks.Laws.{read-block, has-dense}
 use Rattle.block_runs.specs.axpy.Axpy.{at, run}
 use Rattle.block_runs.proofs.axpy.Sums.{read-run}
-use Rattle.cross_block.specs.Blocks.{lessSparseCell, lessColumn}
+use Rattle.cross_block.specs.Blocks.{subtractSparseCell, subtractColumn}
 
 -- a list stored inside what is stored
 pub store-inside : {A : Type 0} (off : ℕ) (L w : List A) (j : ℕ) (l : List A) → off + length L ≤ length w → j + length l ≤ length L
@@ -74,10 +74,10 @@ module _ (off rows cols a v inner : ℕ) (row : ℕ → ℕ) (w₀ : List Float)
   s = columns rows cols
 
   abbrev rule : ℕ → ℕ → ℕ → Float
-  rule x = lessSparseCell off rows cols a v inner row w₀ x
+  rule x = subtractSparseCell off rows cols a v inner row w₀ x
 
   pub sparse-none : w₀ ≡ store off (fill s (rule 0)) w₀
-  unfolding lessFrom
+  unfolding subtractFrom
   sparse-none =
       sym
       (ap (λ (l : List Float). store off l w₀) (fill-cell ieee.zero s (part off (sizeOf s) w₀) (length-part off (sizeOf s) w₀ fits))
@@ -105,7 +105,7 @@ module _ (off rows cols a v inner : ℕ) (row : ℕ → ℕ) (w₀ : List Float)
       made r = sub binary64 (getD w (to + r) nan) (mul binary64 (getD w (ax + r) nan) (getD w (v + x) nan))
 
       new : (r : ℕ) → r < rows → made r ≡ rule (suc x) r c
-      unfolding lessFrom
+      unfolding subtractFrom
       new r h =
           ap₂ (sub binary64)
           (ap₂ (λ (l : List Float) (i : ℕ). getD l i nan) so (omega arith) ∙ cell-stored nan s (rule x) off w₀ fits r c (has-dense rows cols r c h here))
@@ -117,7 +117,7 @@ module _ (off rows cols a v inner : ℕ) (row : ℕ → ℕ) (w₀ : List Float)
           (sym (eq-eqb (row x) c (sym e)))
 
       old : (r y : ℕ) → (y ≡ c → ⊥) → rule x r y ≡ rule (suc x) r y
-      unfolding lessFrom
+      unfolding subtractFrom
       old r y h =
           ap (λ (b : Bool). cond b (ieee.minus (rule x r y) (ieee.times (block a (columns rows inner) w₀ r x) (entry v inner w₀ x))) (rule x r y))
           (sym (ne-eqb (row x) y (λ k. h (sym k ∙ sym e))))
@@ -130,9 +130,9 @@ module _ (off rows cols a v inner : ℕ) (row : ℕ → ℕ) (w₀ : List Float)
           ∙ ap (λ (l : List Float). store off l w₀) (column-stored rows cols c (rule x) (rule (suc x)) made here new old)
 
 -- a column less a multiple of another, whose doubles are read first
-pub column-less : (w w′ acc acc₁ : List Float) (to rows ax : ℕ) (f : Float) → rows ≤ length acc → acc₁ ≡ run 0 rows (λ i. at w (ax + i)) acc
-    → w′ ≡ run to rows (λ i. ieee .minus (at w (to + i)) (ieee .times (at acc₁ i) f)) w → w′ ≡ lessColumn to rows ax f w
-column-less w w′ acc acc₁ to rows ax f room first so =
+pub column-subtracted : (w w′ acc acc₁ : List Float) (to rows ax : ℕ) (f : Float) → rows ≤ length acc → acc₁ ≡ run 0 rows (λ i. at w (ax + i)) acc
+    → w′ ≡ run to rows (λ i. ieee .minus (at w (to + i)) (ieee .times (at acc₁ i) f)) w → w′ ≡ subtractColumn to rows ax f w
+column-subtracted w w′ acc acc₁ to rows ax f room first so =
     so
     ∙ ap (λ (l : List Float). store to l w)
     (tab-ext rows _ _

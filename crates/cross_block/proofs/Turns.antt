@@ -23,7 +23,7 @@ use Rattle.block_runs.specs.blocks.Blocks.{block, EachShape}
 use Rattle.block_runs.proofs.blocks.Laws.{read-block, has-dense, has-packed, has-diagonal, written}
 use Rattle.block_runs.proofs.blocks.Runs.{Writing, writing-same, writing-cell, writing-more}
 use Rattle.block_runs.specs.axpy.Axpy.{at, run, products}
-use Rattle.block_runs.proofs.axpy.Sums.{along-ext, less-along, summed}
+use Rattle.block_runs.proofs.axpy.Sums.{along-ext, subtract-along, summed}
 use Rattle.cross_block.specs.Blocks.{dividedColumns, solvedColumn}
 
 -- ---- a run of n doubles, each made of one that is loaded
@@ -86,7 +86,7 @@ solve-turn {off} {end} {rows} {cols} {w₀} {c} {to} {w} l row e more fits′ ap
     writing-more e more (off + to) rows _ refl refl next
     (λ i h.
     ap₂ ieee.over
-    (less-along (at w (off + to + i)) (block off (columns rows c) w i) (block row (columns 1 c) w 0) c
+    (subtract-along (at w (off + to + i)) (block off (columns rows c) w i) (block row (columns 1 c) w 0) c
     ∙ chain-same (writing-cell (columns rows cols) e more i h)
     (λ y k.
     sym (read-block (columns rows c) off w i y (off + (start (dense rows) y + i)) (has-dense rows c i y h k) (omega (arith, start-le (dense rows) c cols (omega arith))) refl)
@@ -103,7 +103,7 @@ solve-turn {off} {end} {rows} {cols} {w₀} {c} {to} {w} l row e more fits′ ap
     chain-same : {s s′ : Float} {a a′ b b′ : ℕ → Float} → s ≡ s′ → ((y : ℕ) → y < c → a y ≡ a′ y) → ((y : ℕ) → y < c → b y ≡ b′ y)
         → chain ieee s a b c ≡ chain ieee s′ a′ b′ c
     chain-same {s} {s′} {a} {a′} {b} {b′} p q r =
-        sym (less-along s a b c) ∙ along-ext ieee.minus s s′ a a′ b b′ c p q r ∙ less-along s′ a′ b′ c
+        sym (subtract-along s a b c) ∙ along-ext ieee.minus s s′ a a′ b b′ c p q r ∙ subtract-along s′ a′ b′ c
 
 -- T of a sparse block by a diagonal: its entries are a dense block of one row
 pub divided-entries : (off cols pivots : ℕ) (row : ℕ → ℕ) (w : List Float)

@@ -50,10 +50,10 @@ solvedColumn to off rows row c w =
     w
 
 -- cell (r, c) of a sparse S after n of the inner columns
-abbrev pub lessSparseCell : (off rows cols a v inner : ℕ) (row : ℕ → ℕ) → List Float → ℕ → ℕ → ℕ → Float
-lessSparseCell off rows cols a v inner row w n =
+abbrev pub subtractSparseCell : (off rows cols a v inner : ℕ) (row : ℕ → ℕ) → List Float → ℕ → ℕ → ℕ → Float
+subtractSparseCell off rows cols a v inner row w n =
     subtractSparse ieee row (block off (columns rows cols) w) (block a (columns rows inner) w) (entry v inner w) n
 
 -- the `rows` doubles from `to` on less f times those from ax on
-abbrev pub lessColumn : (to rows ax : ℕ) (f : Float) → List Float → List Float
-lessColumn to rows ax f w = run to rows (λ r. ieee .minus (double w (to + r)) (ieee .times (double w (ax + r)) f)) w
+abbrev pub subtractColumn : (to rows ax : ℕ) (f : Float) → List Float → List Float
+subtractColumn to rows ax f w = run to rows (λ r. ieee .minus (double w (to + r)) (ieee .times (double w (ax + r)) f)) w

@@ -8,17 +8,17 @@ ghost use Rattle.cross_block.specs.Blocks.{dividedColumns};
 use block_runs::run_quotients;
 
 // T by a diagonal factor: each column of the dense block at off divided by its pivot.
-pub fn divide_columns(w: &mut [f64], off: usize, rows: usize, cols: usize, pivots: usize)
-    requires { ⌜ (off + sizeOf (columns rows cols) ≤ length (now w)) × (pivots + sizeOf (diagonal cols) ≤ length (now w)) ⌝ }
+pub fn divide_columns(doubles: &mut [f64], off: usize, rows: usize, cols: usize, pivots: usize)
+    requires { ⌜ (off + sizeOf (columns rows cols) ≤ length (now doubles)) × (pivots + sizeOf (diagonal cols) ≤ length (now doubles)) ⌝ }
     requires { ⌜ (off + sizeOf (columns rows cols) ≤ pivots) ⊎ (pivots + sizeOf (diagonal cols) ≤ off) ⌝ }
-    ensures { λ _. ⌜ now (w .exit) ≡ dividedColumns off rows cols pivots (now (w .entry)) ⌝ }
+    ensures { λ _. ⌜ now (doubles .exit) ≡ dividedColumns off rows cols pivots (now (doubles .entry)) ⌝ }
 {
     let end = off + cols * rows;
     let mut c = 0;
     let mut to = 0;
     while c < cols {
-        let p = w[pivots + c];
-        run_quotients::divide(w, off, end, to, rows, p);
+        let p = doubles[pivots + c];
+        run_quotients::divide(doubles, off, end, to, rows, p);
         c += 1;
         to += rows;
     }

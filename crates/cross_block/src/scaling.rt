@@ -7,27 +7,27 @@ ghost use Rattle.block_runs.specs.blocks.Blocks.{EachShape};
 ghost use Rattle.cross_block.specs.Blocks.{scaledTwice, scaledOnce};
 
 // Begin, a cross block of n doubles: the loaded ones times theta of the column block, then times theta of the row block.
-pub fn scale_twice(w: &mut [f64], off: usize, src: usize, n: usize, column: f64, row: f64)
-    requires { ⌜ (off + n ≤ length (now w)) × (src + n ≤ length (now w)) ⌝ }
+pub fn scale_twice(doubles: &mut [f64], off: usize, src: usize, n: usize, column: f64, row: f64)
+    requires { ⌜ (off + n ≤ length (now doubles)) × (src + n ≤ length (now doubles)) ⌝ }
     requires { ⌜ (off + n ≤ src) ⊎ (src + n ≤ off) ⌝ }
-    ensures { λ _. ⌜ EachShape n (λ s. now (w .exit) ≡ scaledTwice s off src column row (now (w .entry))) ⌝ }
+    ensures { λ _. ⌜ EachShape n (λ s. now (doubles .exit) ≡ scaledTwice s off src column row (now (doubles .entry))) ⌝ }
 {
     let mut i = 0;
     while i < n {
-        w[off + i] = w[src + i] * column * row;
+        doubles[off + i] = doubles[src + i] * column * row;
         i += 1;
     }
 }
 
 // Begin, fixed rows of n doubles: the loaded ones times theta of the column block.
-pub fn scale_once(w: &mut [f64], off: usize, src: usize, n: usize, t: f64)
-    requires { ⌜ (off + n ≤ length (now w)) × (src + n ≤ length (now w)) ⌝ }
+pub fn scale_once(doubles: &mut [f64], off: usize, src: usize, n: usize, t: f64)
+    requires { ⌜ (off + n ≤ length (now doubles)) × (src + n ≤ length (now doubles)) ⌝ }
     requires { ⌜ (off + n ≤ src) ⊎ (src + n ≤ off) ⌝ }
-    ensures { λ _. ⌜ EachShape n (λ s. now (w .exit) ≡ scaledOnce s off src t (now (w .entry))) ⌝ }
+    ensures { λ _. ⌜ EachShape n (λ s. now (doubles .exit) ≡ scaledOnce s off src t (now (doubles .entry))) ⌝ }
 {
     let mut i = 0;
     while i < n {
-        w[off + i] = w[src + i] * t;
+        doubles[off + i] = doubles[src + i] * t;
         i += 1;
     }
 }

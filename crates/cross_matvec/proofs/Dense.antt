@@ -18,7 +18,7 @@ use Rattle.block_runs.specs.blocks.Blocks.{block, entry}
 use Rattle.block_runs.proofs.blocks.Laws.{read-block, has-dense}
 use Rattle.block_runs.specs.axpy.Axpy.{at, run, along, products}
 use Rattle.block_runs.proofs.axpy.Sums.{sum-along, along-ext, start-add, summed}
-use Rattle.cross_matvec.specs.Products.{lessProduct, lessProductT, columnSum, columnLess, lessColumns}
+use Rattle.cross_matvec.specs.Products.{subtractedProduct, subtractedProductT, columnSum, minusColumn, subtractColumns}
 use Rattle.cross_matvec.proofs.Vectors.{read-entry}
 
 -- the vector at z is the one row of a block
@@ -29,9 +29,9 @@ one-row z n v fits x l =
 
 -- ---- going forward
 module _ (off rows z cols a : ℕ) (w v v′ acc acc₁ acc₂ : List Float) (room : rows ≤ length acc) (fits : off + rows ≤ length v) (fits-z : z + cols ≤ length v) where
-  pub sums-less : acc₁ ≡ run 0 rows (λ i. ieee .zero) acc → acc₂ ≡ products (ieee .plus) acc₁ rows w a rows v z 1 0 cols
-      → (to : ℕ) → to ≡ off → v′ ≡ run to rows (λ i. ieee .minus (at v (to + i)) (at acc₂ i)) v → v′ ≡ lessProduct off rows z cols a w v
-  sums-less first then to e so =
+  pub sums-subtracted : acc₁ ≡ run 0 rows (λ i. ieee .zero) acc → acc₂ ≡ products (ieee .plus) acc₁ rows w a rows v z 1 0 cols
+      → (to : ℕ) → to ≡ off → v′ ≡ run to rows (λ i. ieee .minus (at v (to + i)) (at acc₂ i)) v → v′ ≡ subtractedProduct off rows z cols a w v
+  sums-subtracted first then to e so =
       so
       ∙ ap (λ (k : ℕ). run k rows (λ i. ieee .minus (at v (k + i)) (at acc₂ i)) v) e
       ∙ ap (λ (l : List Float). store off l v)
@@ -55,24 +55,24 @@ unfolding along
 sum-more w p v z r s so = ap (λ (x : Float). ieee .plus x (ieee.times (at w (p + r)) (at v (z + r)))) so
 
 -- one entry more less a number
-pub entry-less : {to n : ℕ} {v v₁ : List Float} {i : ℕ} (f : ℕ → Float) → Filling (λ x. ieee .minus (at v (to + x)) (f x)) to n v v₁ i → i < n → (k : ℕ) → k ≡ to + i
+pub entry-subtracted : {to n : ℕ} {v v₁ : List Float} {i : ℕ} (f : ℕ → Float) → Filling (λ x. ieee .minus (at v (to + x)) (f x)) to n v v₁ i → i < n → (k : ℕ) → k ≡ to + i
     → (s : Float) → s ≡ f i → Filling (λ x. ieee .minus (at v (to + x)) (f x)) to n v (set v₁ k (ieee .minus (at v₁ k) s)) (i + 1)
-entry-less {to} {n} {v} f h more k e s is = filling-next h (λ (x : Float). ieee .minus x s) nan e more (ap₂ ieee.minus (ap (at v) e) is)
+entry-subtracted {to} {n} {v} f h more k e s is = filling-next h (λ (x : Float). ieee .minus x s) nan e more (ap₂ ieee.minus (ap (at v) e) is)
 
 -- one entry less the product of its column
-pub column-less : (to p rows z : ℕ) (w v : List Float) → to + 1 ≤ length v → (s : Float) → s ≡ columnSum w p v z rows
-    → set v to (ieee .minus (at v to) s) ≡ lessColumns to 1 p rows z w v
-column-less to p rows z w v fits s is =
+pub column-subtracted : (to p rows z : ℕ) (w v : List Float) → to + 1 ≤ length v → (s : Float) → s ≡ columnSum w p v z rows
+    → set v to (ieee .minus (at v to) s) ≡ subtractColumns to 1 p rows z w v
+column-subtracted to p rows z w v fits s is =
     filling-done
-    (entry-less (λ i. columnSum w (p + start (dense rows) i) v z rows) (filling-none _ to 1 v fits) (omega arith) to (omega arith) s
+    (entry-subtracted (λ i. columnSum w (p + start (dense rows) i) v z rows) (filling-none _ to 1 v fits) (omega arith) to (omega arith) s
     (is ∙ ap (λ (x : ℕ). columnSum w x v z rows) (omega (arith, start-dense rows 0))))
     (omega arith)
 
 -- four entries less the products of four columns
-pub four-less : (to p rows z : ℕ) (w v v′ : List Float) (s s1 s2 s3 : Float) → s ≡ columnSum w p v z rows → s1 ≡ columnSum w (p + rows) v z rows
+pub four-subtracted : (to p rows z : ℕ) (w v v′ : List Float) (s s1 s2 s3 : Float) → s ≡ columnSum w p v z rows → s1 ≡ columnSum w (p + rows) v z rows
     → s2 ≡ columnSum w (p + rows + rows) v z rows → s3 ≡ columnSum w (p + rows + rows + rows) v z rows
-    → ((f : ℕ → Float) → s ≡ f 0 → s1 ≡ f 1 → s2 ≡ f 2 → s3 ≡ f 3 → v′ ≡ run to 4 (λ i. ieee .minus (at v (to + i)) (f i)) v) → v′ ≡ lessColumns to 4 p rows z w v
-four-less to p rows z w v v′ s s1 s2 s3 is is1 is2 is3 so =
+    → ((f : ℕ → Float) → s ≡ f 0 → s1 ≡ f 1 → s2 ≡ f 2 → s3 ≡ f 3 → v′ ≡ run to 4 (λ i. ieee .minus (at v (to + i)) (f i)) v) → v′ ≡ subtractColumns to 4 p rows z w v
+four-subtracted to p rows z w v v′ s s1 s2 s3 is is1 is2 is3 so =
     so (λ i. columnSum w (p + start (dense rows) i) v z rows)
     (is ∙ place (omega (arith, start-dense rows 0)))
     (is1 ∙ place (omega (arith, start-dense rows 1)))
@@ -84,12 +84,12 @@ four-less to p rows z w v v′ s s1 s2 s3 is is1 is2 is3 so =
 
 module _ (off cols z rows a : ℕ) (w v₀ : List Float) (fits : off + cols ≤ length v₀) where
   -- c columns and k more; the block may lie in the list that is written, if it stays as it was
-  pub columns-more : {c : ℕ} {v₁ v₂ : List Float} (w₁ : List Float) (k : ℕ) → Filling (columnLess off a rows z w v₀) off cols v₀ v₁ c → c + k ≤ cols
+  pub columns-more : {c : ℕ} {v₁ v₂ : List Float} (w₁ : List Float) (k : ℕ) → Filling (minusColumn off a rows z w v₀) off cols v₀ v₁ c → c + k ≤ cols
       → (off + cols ≤ z) ⊎ (z + rows ≤ off) → ((i : ℕ) → i < sizeOf (columns rows cols) → at w₁ (a + i) ≡ at w (a + i))
-      → (to p : ℕ) → to ≡ off + c → p ≡ a + start (dense rows) c → v₂ ≡ lessColumns to k p rows z w₁ v₁
-      → Filling (columnLess off a rows z w v₀) off cols v₀ v₂ (c + k)
+      → (to p : ℕ) → to ≡ off + c → p ≡ a + start (dense rows) c → v₂ ≡ subtractColumns to k p rows z w₁ v₁
+      → Filling (minusColumn off a rows z w v₀) off cols v₀ v₂ (c + k)
   columns-more {c} {v₁} {v₂} w₁ k h top apart same to p e d then =
-      filling-run h k (columnLess to p rows z w₁ v₁) to v₂ e top
+      filling-run h k (minusColumn to p rows z w₁ v₁) to v₂ e top
       (λ i l.
       ap₂ ieee.minus (filling-else h nan (to + i) (inr (omega arith)) ∙ ap (at v₀) (omega arith))
       (along-ext ieee.plus _ _ _ _ _ _ rows refl
@@ -99,7 +99,7 @@ module _ (off cols z rows a : ℕ) (w v₀ : List Float) (fits : off + cols ≤ 
       then
 
   -- each entry is the rule's
-  pub columns-done : a + sizeOf (columns rows cols) ≤ length w → z + rows ≤ length v₀ → lessColumns off cols a rows z w v₀ ≡ lessProductT off cols z rows a w v₀
+  pub columns-done : a + sizeOf (columns rows cols) ≤ length w → z + rows ≤ length v₀ → subtractColumns off cols a rows z w v₀ ≡ subtractedProductT off cols z rows a w v₀
   columns-done room fits-z =
       ap (λ (l : List Float). store off l v₀)
       (tab-ext cols _ _

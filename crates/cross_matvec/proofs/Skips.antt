@@ -16,12 +16,12 @@ use Rattle.storage.specs.Part.{part, store}
 use Rattle.storage.proofs.Cells.{length-tab, take-tab, tab-ext}
 use Rattle.storage.proofs.Parts.{length-part, length-store, store-part}
 use Rattle.rules.specs.Arithmetic.{ieee}
-use Rattle.rules.specs.Sums.{lessFrom}
-use Rattle.rules.specs.Solves.{lessSparse}
+use Rattle.rules.specs.Sums.{subtractFrom}
+use Rattle.rules.specs.Solves.{sparseMatvecSub}
 use Rattle.block_runs.specs.blocks.Blocks.{entry}
 use Rattle.block_runs.specs.axpy.Axpy.{at, run}
 use Rattle.block_runs.proofs.axpy.Sums.{read-run}
-use Rattle.cross_matvec.specs.Products.{lessEntry}
+use Rattle.cross_matvec.specs.Products.{subtractEntry}
 use Rattle.cross_matvec.proofs.Vectors.{run-else, same-entry}
 
 -- one cell of a run written anew
@@ -59,10 +59,10 @@ skipped false p q = refl
 module _ (off rows z cols : ℕ) (row : ℕ → ℕ) (X : ℕ → Float) (w₀ : List Float)
     (fits : off + rows ≤ length w₀) (fits-z : z + cols ≤ length w₀) (apart : (off + rows ≤ z) ⊎ (z + cols ≤ off)) where
   abbrev rule : ℕ → ℕ → Float
-  rule c = lessSparse ieee row X (entry z cols w₀) (entry off rows w₀) c
+  rule c = sparseMatvecSub ieee row X (entry z cols w₀) (entry off rows w₀) c
 
   pub skip-none : w₀ ≡ run off rows (rule 0) w₀
-  unfolding lessFrom
+  unfolding subtractFrom
   skip-none =
       sym
       (ap (λ (l : List Float). store off l w₀)
@@ -82,7 +82,7 @@ module _ (off rows z cols : ℕ) (row : ℕ → ℕ) (X : ℕ → Float) (w₀ :
     -- what the turn makes of the list, by whether the source is ±0
     made : (b : Bool) → ieee .null source ≡ b
         → cond b w (set w (off + r) (ieee .minus (at w (off + r)) (ieee .times (X c) source))) ≡ run off rows (rule (suc c)) w₀
-    unfolding lessFrom
+    unfolding subtractFrom
     made true h =
         so
         ∙ ap (λ (l : List Float). store off l w₀)
@@ -96,12 +96,12 @@ module _ (off rows z cols : ℕ) (row : ℕ → ℕ) (X : ℕ → Float) (w₀ :
         (ap (λ (x : Float). ieee .minus x (ieee.times (X c) source)) (read-run off rows (rule c) w₀ fits r (off + r) here refl)
         ∙ ap₂ (λ (b d : Bool). less (b && not d) r) (sym (eq-eqb (row c) r (sym e))) (sym h))
 
-    pub skip-more : (x : Float) → x ≡ X c → (w′ : List Float) → w′ ≡ lessEntry (off + r) x (at w (z + c)) w → w′ ≡ run off rows (rule (suc c)) w₀
+    pub skip-more : (x : Float) → x ≡ X c → (w′ : List Float) → w′ ≡ subtractEntry (off + r) x (at w (z + c)) w → w′ ≡ run off rows (rule (suc c)) w₀
     skip-more x f w′ g =
         g
-        ∙ ap₂ (λ (y s : Float). lessEntry (off + r) y s w) f (same-entry off rows (rule c) w₀ fits rows (omega arith) w so z cols apart c more fits-z)
+        ∙ ap₂ (λ (y s : Float). subtractEntry (off + r) y s w) f (same-entry off rows (rule c) w₀ fits rows (omega arith) w so z cols apart c more fits-z)
         ∙ made (ieee.null source) refl
 
 -- the test of the code is the rule's
-pub by-test : (k : ℕ) (x e : Float) (v : List Float) (b : Bool) → ieee .null e ≡ b → cond b v (set v k (ieee .minus (at v k) (ieee .times x e))) ≡ lessEntry k x e v
+pub by-test : (k : ℕ) (x e : Float) (v : List Float) (b : Bool) → ieee .null e ≡ b → cond b v (set v k (ieee .minus (at v k) (ieee .times x e))) ≡ subtractEntry k x e v
 by-test k x e v b h = ap (λ (d : Bool). cond d v (set v k (ieee.minus (at v k) (ieee.times x e)))) (sym h)

@@ -11,7 +11,7 @@ use Rattle.storage.proofs.Cells.{length-tab, any-default}
 use Rattle.storage.proofs.Parts.{getD-part, store-else}
 use Rattle.storage.proofs.Filling.{Filling, filling-apart, filling-next}
 use Rattle.rules.specs.Arithmetic.{ieee}
-use Rattle.rules.specs.Solves.{lessSparseT}
+use Rattle.rules.specs.Solves.{sparseMatvecTSub}
 use Rattle.block_runs.specs.blocks.Blocks.{entry}
 use Rattle.block_runs.specs.axpy.Axpy.{at, run}
 
@@ -40,11 +40,11 @@ module _ (off n : ℕ) (g : ℕ → Float) (w₀ : List Float) (fits : off + n �
 module _ (off cols z rows x : ℕ) (row : ℕ → ℕ) (w v₀ : List Float) (fits : off + cols ≤ length v₀) (fits-z : z + rows ≤ length v₀)
     (fits-x : x + cols ≤ length w) (apart : (off + cols ≤ z) ⊎ (z + rows ≤ off)) where
   abbrev rule : ℕ → Float
-  rule = lessSparseT ieee row (entry x cols w) (entry z rows v₀) (entry off cols v₀)
+  rule = sparseMatvecTSub ieee row (entry x cols w) (entry z rows v₀) (entry off cols v₀)
 
-  pub sparse-less : {c : ℕ} {v : List Float} → Filling rule off cols v₀ v c → c < cols → (r : ℕ) → r < rows → r ≡ row c
+  pub sparse-subtracted : {c : ℕ} {v : List Float} → Filling rule off cols v₀ v c → c < cols → (r : ℕ) → r < rows → r ≡ row c
       → Filling rule off cols v₀ (set v (off + c) (ieee .minus (at v (off + c)) (ieee .plus (ieee .zero) (ieee .times (at w (x + c)) (at v (z + r)))))) (c + 1)
-  sparse-less {c} {v} h more r below e =
+  sparse-subtracted {c} {v} h more r below e =
       filling-next h (λ (s : Float). ieee .minus s (ieee.plus ieee.zero (ieee.times (at w (x + c)) (at v (z + r))))) nan refl more
       (ap₂ (λ (s t : Float). ieee .minus s (ieee.plus ieee.zero t)) (read-entry off cols v₀ c more fits)
       (ap₂ ieee.times (read-entry x cols w c more fits-x)

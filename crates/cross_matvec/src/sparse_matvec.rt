@@ -4,7 +4,7 @@ ghost use mathlib.Core.Logic.{_⊎_};
 ghost use Prim.Native.Nat.{_+_, _≤_, _<_};
 ghost use lib.ListN.{length};
 ghost use Rattle.block_runs.specs.blocks.Blocks.{rowFrom, RowsBelow};
-ghost use Rattle.cross_matvec.specs.Products.{lessSparseProduct, lessEntry};
+ghost use Rattle.cross_matvec.specs.Products.{subtractedSparseProduct, subtractEntry};
 
 // A row's number as an index.
 pub fn wide(x: u32) -> usize
@@ -14,9 +14,9 @@ pub fn wide(x: u32) -> usize
 }
 
 // v[at] less x times e, unless e is ±0.
-fn less_entry(v: &mut [f64], at: usize, x: f64, e: f64)
+fn subtract_entry(v: &mut [f64], at: usize, x: f64, e: f64)
     requires { ⌜ at < length (now v) ⌝ }
-    ensures { λ _. ⌜ now (v .exit) ≡ lessEntry at x e (now (v .entry)) ⌝ }
+    ensures { λ _. ⌜ now (v .exit) ≡ subtractEntry at x e (now (v .entry)) ⌝ }
 {
     if e == 0.0 {
         return;
@@ -24,29 +24,29 @@ fn less_entry(v: &mut [f64], at: usize, x: f64, e: f64)
     v[at] = v[at] - x * e;
 }
 
-// Going forward: the vector at off less a sparse block, whose entries are at x of w, times the vector at z, product by product.
-pub fn less_sparse(
+// Going forward: the vector at off less a sparse block, whose entries are at x of `doubles`, times the vector at z, product by product.
+pub fn sparse_matvec_sub(
     v: &mut [f64],
     off: usize,
     rows: usize,
     z: usize,
     cols: usize,
-    w: &[f64],
+    doubles: &[f64],
     x: usize,
-    h: &[u32],
+    heading: &[u32],
     first: usize,
 )
-    requires { ⌜ (off + rows ≤ length (now v)) × (z + cols ≤ length (now v)) × (x + cols ≤ length (now w)) × (first + cols ≤ length (now h)) ⌝ }
+    requires { ⌜ (off + rows ≤ length (now v)) × (z + cols ≤ length (now v)) × (x + cols ≤ length (now doubles)) × (first + cols ≤ length (now heading)) ⌝ }
     requires { ⌜ (off + rows ≤ z) ⊎ (z + cols ≤ off) ⌝ }
-    requires { ⌜ RowsBelow (now h) first cols rows ⌝ }
-    ensures { λ _. ⌜ now (v .exit) ≡ lessSparseProduct off rows z cols x (rowFrom (now (h .entry)) first) (now (w .entry)) (now (v .entry)) ⌝ }
+    requires { ⌜ RowsBelow (now heading) first cols rows ⌝ }
+    ensures { λ _. ⌜ now (v .exit) ≡ subtractedSparseProduct off rows z cols x (rowFrom (now (heading .entry)) first) (now (doubles .entry)) (now (v .entry)) ⌝ }
 {
     let mut c = 0;
     while c < cols {
-        let r = wide(h[first + c]);
-        let y = w[x + c];
+        let r = wide(heading[first + c]);
+        let y = doubles[x + c];
         let e = v[z + c];
-        less_entry(v, off + r, y, e);
+        subtract_entry(v, off + r, y, e);
         c += 1;
     }
 }

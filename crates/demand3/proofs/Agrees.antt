@@ -8,7 +8,7 @@ use native.Mathlib.Omega.{arith}
 use lib.Ieee.{Float}
 use borrow.Author.Tests.{le-ltb}
 use Rattle.storage.specs.Runs.{start, triangle}
-use Rattle.step_order.specs.Steps.{Step, Named, row, col, index}
+use Rattle.step_order.specs.Steps.{Step, IsStep, row, col, index}
 use Rattle.step_order.specs.Progress.{stepsLeft, done}
 use Rattle.step_order.proofs.Left.{left-represents}
 use Rattle.sheet.specs.Sheet.{Sheet}
@@ -16,9 +16,9 @@ use Rattle.heading_format.specs.declared.Progress.{Progress}
 use Rattle.heading_format.specs.Heading.{progressOf, stageOf, idle}
 use Rattle.workspace.specs.Memory.{Workspace}
 use Rattle.book.specs.Book.{Book, last, bookLeft, bookState, bookSet}
-use Rattle.book.specs.Demand.{Agrees}
-use Rattle.update.proofs.progress_laws.Moves.{lawfully}
-use Rattle.demand3.proofs.invariant.Stands.{Site, Begun, Updating, Stands}
+use Rattle.demand3.specs.Demand.{Agrees}
+use Rattle.update.proofs.progress_laws.Moves.{stays-valid}
+use Rattle.demand3.proofs.invariant.Invariant.{Site, Begun, Updating, Invariant}
 use Rattle.demand3.proofs.invariant.Site.{layout-of, progress-of, heading-behind, heading-many}
 use Rattle.storage.proofs.Cells.{default-at}
 
@@ -41,11 +41,11 @@ module _ (sheet : Sheet) where
     left-said none l u = ap (λ (x : Progress). x .left) u
     left-said (some d) l u = l ∙ sym (left-represents (last sheet) (stageOf g) d u.1.represents)
 
-    set-said : (o : Option (Step → Bool)) → Updating sheet b o g v → (s : Step) → Named (last sheet) s → done (stageOf g) s ≡ bookSet sheet o s
+    set-said : (o : Option (Step → Bool)) → Updating sheet b o g v → (s : Step) → IsStep (last sheet) s → done (stageOf g) s ≡ bookSet sheet o s
     set-said none u s n = ap (λ (x : Progress). done (stageOf x) s) u ∙ idle-undone (last sheet) s
     set-said (some d) u s n = sym (u.1.represents s n)
 
-  pub agrees : (h : List ℕ) (w : List Float) → Site sheet h w → (b : Book) (v : Workspace) → Stands sheet h w b v → Agrees sheet h w b v
+  pub agrees : (h : List ℕ) (w : List Float) → Site sheet h w → (b : Book) (v : Workspace) → Invariant sheet h w b v → Agrees sheet h w b v
   agrees h w here b v s =
       let g : Progress = s.progress in
       let p : progressOf v.heading ≡ g = progress-of sheet h w here b v s in
@@ -53,7 +53,7 @@ module _ (sheet : Sheet) where
         layout-kept = layout-of sheet h w here b v s;
         loaded = s.loaded;
         state = ap (λ (x : Progress). x .state) p ∙ state-said b g v b.done s.updating;
-        left = ap (λ (x : Progress). x .left) p ∙ left-said b g v b.done (lawfully (last sheet) g s.lawful-progress .left) s.updating;
+        left = ap (λ (x : Progress). x .left) p ∙ left-said b g v b.done (stays-valid (last sheet) g s.valid-progress .left) s.updating;
         set = λ x n. ap (λ (z : Progress). done (stageOf z) x) p ∙ set-said b g v b.done s.updating x n;
         doubles-behind = s.unwritten;
         heading-behind = heading-behind sheet h w here b v s;

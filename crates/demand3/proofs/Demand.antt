@@ -6,10 +6,10 @@ use Rattle.sheet.specs.Sheet.{Sheet}
 use Rattle.workspace.specs.Memory.{Workspace}
 use Rattle.book.specs.Calls.{Call, leftBy}
 use Rattle.book.specs.Book.{Book, opened, bookAfter}
-use Rattle.book.specs.Demand.{Holds, Demand3}
-use Rattle.demand3.proofs.invariant.Stands.{Site, Stands}
-use Rattle.demand3.proofs.invariant.Site.{headed-of}
-use Rattle.demand3.proofs.invariant.Open.{open-site, open-stands}
+use Rattle.demand3.specs.Demand.{Holds, Demand3}
+use Rattle.demand3.proofs.invariant.Invariant.{Site, Invariant}
+use Rattle.demand3.proofs.invariant.Site.{valid-heading-of}
+use Rattle.demand3.proofs.invariant.Open.{open-site, open-invariant}
 use Rattle.demand3.proofs.Calls.{all-left, all-replies}
 use Rattle.demand3.proofs.Never.{call-other}
 use Rattle.demand3.proofs.Agrees.{agrees}
@@ -17,14 +17,14 @@ use Rattle.demand3.proofs.Ready.{under-way}
 use Rattle.demand3.proofs.Finished.{divisors, finished}
 
 -- a list of calls from a workspace that stands by the opened book
-holds : (sheet : Sheet) (h : List ℕ) (w : List Float) (v : Workspace) → Site sheet h w → Stands sheet h w (opened sheet) v → (calls : List Call) → Holds sheet h w v calls
+holds : (sheet : Sheet) (h : List ℕ) (w : List Float) (v : Workspace) → Site sheet h w → Invariant sheet h w (opened sheet) v → (calls : List Call) → Holds sheet h w v calls
 holds sheet h w v here s calls =
     let b : Book = bookAfter sheet calls (opened sheet) in
     let u : Workspace = leftBy calls v in
-    let t : Stands sheet h w b u = all-left sheet h w here calls (opened sheet) v s in
+    let t : Invariant sheet h w b u = all-left sheet h w here calls (opened sheet) v s in
     record {
       replies-same = all-replies sheet h w here calls (opened sheet) v s;
-      never-20 = λ c. call-other u.heading u.doubles (headed-of sheet h w here b u t) c;
+      never-20 = λ c. call-other u.heading u.doubles (valid-heading-of sheet h w here b u t) c;
       agrees = agrees sheet h w here b u t;
       under-way = λ d e. under-way sheet h w here b u t d e;
       divisors = divisors sheet h w here b u t;
@@ -34,4 +34,4 @@ holds sheet h w v here s calls =
 pub demand3 : Demand3
 unfolding Demand3
 demand3 bytes sheet starts h w o e l a calls =
-    holds sheet h w o.left (open-site bytes sheet starts h w o e l a) (open-stands bytes sheet starts h w o e l a) calls
+    holds sheet h w o.left (open-site bytes sheet starts h w o e l a) (open-invariant bytes sheet starts h w o e l a) calls

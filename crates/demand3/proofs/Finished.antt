@@ -28,13 +28,13 @@ use Rattle.workspace.specs.Load.{headingOf}
 use Rattle.update.specs.Working.{pivotCount}
 use Rattle.book.specs.Book.{Book, layout, last, bookState, bookSet}
 use Rattle.book.specs.Values.{rulesHere, startHere, valueAt, finalValue, logsAfter, refusedPivot}
-use Rattle.book.specs.Demand.{factorOf, residualPivot, FinishedClaim}
+use Rattle.demand3.specs.Demand.{factorOf, residualPivot, FinishedClaim}
 use Rattle.re_lower.proofs.Pivotal.{root-of-accepted, never-null}
 use Rattle.demand3.proofs.pivot_laws.Square.{square-above}
 use Rattle.demand3.proofs.pivot_laws.Final.{RootOf, factorShape, final-pivot}
 use Rattle.demand3.proofs.same_rules.Rows.{shape-factor}
 use Rattle.demand3.proofs.same_rules.Same.{stateOf}
-use Rattle.demand3.proofs.invariant.Stands.{Site, Begun, Stands}
+use Rattle.demand3.proofs.invariant.Invariant.{Site, Begun, Invariant}
 use Rattle.demand3.proofs.invariant.Site.{layout-of, alike, loaded-many}
 use Rattle.demand3.proofs.step_laws.Rust.{rust-answer, answerFor, rust-factor, rust-sum}
 use Rattle.demand3.proofs.Agrees.{begun-of}
@@ -44,7 +44,7 @@ IsFinished Idle = ⊥
 IsFinished UnderWay = ⊥
 IsFinished Finished = Unit
 
-module _ (sheet : Sheet) (h : List ℕ) (w : List Float) (here : Site sheet h w) (b : Book) (v : Workspace) (stands : Stands sheet h w b v) where
+module _ (sheet : Sheet) (h : List ℕ) (w : List Float) (here : Site sheet h w) (b : Book) (v : Workspace) (stands : Invariant sheet h w b v) where
   same : layoutOf (v .heading) ≡ layout sheet
   same = layout-of sheet h w here b v stands
 
@@ -53,7 +53,7 @@ module _ (sheet : Sheet) (h : List ℕ) (w : List Float) (here : Site sheet h w)
   fresh-is = alike sheet h w here b v stands .fresh-layout
 
   -- the shape of factor j is the sheet's
-  same-shape : (j : ℕ) → factorOf v j ≡ factorShape sheet (b .loaded) (b .theta) (here .layout-lawful) fresh-is j
+  same-shape : (j : ℕ) → factorOf v j ≡ factorShape sheet (b .loaded) (b .theta) (here .layout-valid) fresh-is j
   same-shape j =
       ap (λ (y : Layout). shape y (entryRow v.heading) j j) same
       ∙ shape-factor (layout sheet) (entryRow v.heading) (entryRow (headingOf sheet (layout sheet))) (alike sheet h w here b v stands .same-rows) j
@@ -76,7 +76,7 @@ module _ (sheet : Sheet) (h : List ℕ) (w : List Float) (here : Site sheet h w)
         let is : workingBlock v.heading v.doubles j j ≡ finalValue sheet b.loaded b.theta j j =
         H .blocks j j (omega arith) l ∙ ap (λ (x : ℕ). value (rulesHere sheet b.loaded b.theta) (startHere sheet b.loaded b.theta) x j j) s in
         let f =
-        final-pivot sheet b.loaded b.theta here.layout-lawful fresh-is j l (H.passed j (H.counted j l .1 s)) r (subst (λ (x : Shape). r < pivotCount x) (same-shape j) small) in
+        final-pivot sheet b.loaded b.theta here.layout-valid fresh-is j l (H.passed j (H.counted j l .1 s)) r (subst (λ (x : Shape). r < pivotCount x) (same-shape j) small) in
         subst RootOf (sym (ap₂ (λ (x : Shape) (y : List Float). cellOf x y r r) (same-shape j) is)) f
 
   -- ---- no divisor is 0

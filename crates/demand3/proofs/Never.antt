@@ -1,4 +1,4 @@
--- 20 never comes: no call on a workspace whose heading is lawful answers it.
+-- 20 never comes: no call on a workspace whose heading is valid answers it.
 use Prim.Native.Nat.{ℕ}
 use mathlib.Core.Path.{_≡_}
 use mathlib.Core.Bool.{Bool, true, false, _||_}
@@ -8,7 +8,7 @@ use native.Mathlib.Omega.{arith}
 use lib.Dec.{eqb}
 use lib.ListN.{length}
 use lib.Ieee.{Float}
-use Rattle.step_order.specs.Steps.{Step, named, after, rustOrder}
+use Rattle.step_order.specs.Steps.{Step, isStep, forerunners, rustOrder}
 use Rattle.step_order.specs.Progress.{all, done}
 use Rattle.rules.specs.Arithmetic.{ieee}
 use Rattle.rules.specs.Finish.{devianceOf}
@@ -16,13 +16,13 @@ use Rattle.refusal.specs.declared.Answer.{Answer}
 use Rattle.refusal.specs.declared.Answer.the-variants.{Accepted, Refused}
 use Rattle.refusal.specs.Numbers as Numbers
 use Rattle.layout.specs.Shapes.{pick}
-use Rattle.heading_format.specs.Heading.{layoutOf, progressOf, stageOf, headed}
+use Rattle.heading_format.specs.Heading.{layoutOf, progressOf, stageOf, validHeading}
 use Rattle.workspace.specs.Answers.{Outcome, untouched, firstInfinite, unlessAt}
 use Rattle.workspace.specs.Response.{replaceOf, responded}
 use Rattle.update.specs.Calls.{begun, beginOf, stepOf, onPivot, refusedBy, isUnderWay, runOf}
 use Rattle.profile.specs.declared.Deviance.the-variants.{Value, NoScale}
 use Rattle.profile.specs.Deviance as Deviances
-use Rattle.profile.specs.Deviance.{freedom, logDeterminant, lastPivot, devianceValue, afterSteps, afterBegin, profileOf}
+use Rattle.profile.specs.Deviance.{freedom, logDeterminant, lastBlockPivot, devianceValue, afterSteps, afterBegin, profileOf}
 use Rattle.book.specs.Calls.{Call, begin, step, replaceResponse, profileDeviance, called, refusalOf}
 
 -- an answer that is not 20
@@ -43,7 +43,7 @@ either-other : (b : Bool) (x : Float) → Deviances.refusalOf (pick b NoScale (V
 either-other true x e = omega arith
 either-other false x e = omega arith
 
-module _ (h : List ℕ) (w : List Float) (ok : headed h (length w) ≡ true) where
+module _ (h : List ℕ) (w : List Float) (ok : validHeading h (length w) ≡ true) where
   begin-other : (theta : List Float) → Other (beginOf h w theta .answer)
   unfolding beginOf
   begin-other theta =
@@ -60,9 +60,9 @@ module _ (h : List ℕ) (w : List Float) (ok : headed h (length w) ≡ true) whe
   step-other s =
       rw ok
       (other-pick (isUnderWay (progressOf h .state)) _ _
-      (other-pick (named (layoutOf h .k) s) _ _
+      (other-pick (isStep (layoutOf h .k) s) _ _
       (other-pick (done (stageOf (progressOf h)) s) _ _ (λ e. omega arith)
-      (other-pick (all (done (stageOf (progressOf h))) (after s)) _ _ (pivot-other (refusedBy h w s) s) (λ e. omega arith)))
+      (other-pick (all (done (stageOf (progressOf h))) (forerunners s)) _ _ (pivot-other (refusedBy h w s) s) (λ e. omega arith)))
       (λ e. omega arith))
       (λ e. omega arith))
 
@@ -84,10 +84,10 @@ module _ (h : List ℕ) (w : List Float) (ok : headed h (length w) ≡ true) whe
   unfolding devianceValue
   value-other h w reml =
       let y = layoutOf h in
-      let last : Float = lastPivot h w reml y.p in
+      let last : Float = lastBlockPivot h w reml y.p in
       let r2 : Float = ieee.times last last in
       either-other (ieee.refused r2 || ieee .refused (freedom y reml))
-      (devianceOf ieee reml (freedom y reml) (ieee.over r2 (freedom y reml)) (logDeterminant h w) (lastPivot h w reml) y.p)
+      (devianceOf ieee reml (freedom y reml) (ieee.over r2 (freedom y reml)) (logDeterminant h w) (lastBlockPivot h w reml) y.p)
 
   steps-other : (a : Answer) (o : Outcome) (reml : Bool) → Deviances.refusalOf (afterSteps a o reml .answer) .number ≡ 20 → ⊥
   steps-other Accepted o reml e = value-other o.left.heading o.left.doubles reml e

@@ -15,7 +15,7 @@ use borrow.Author.Tests.{eq-eqb}
 use Rattle.storage.specs.Part.{part}
 use Rattle.storage.specs.Shape.{sizeOf}
 use Rattle.storage.proofs.Parts.{take-store, drop-store, length-part}
-use Rattle.step_order.specs.Steps.{Step, S, C, T, Named, row, col}
+use Rattle.step_order.specs.Steps.{Step, S, C, T, IsStep, row, col}
 use Rattle.step_order.specs.Progress.{done, stepsLeft, refusedIn}
 use Rattle.step_order.proofs.Next.{some-next}
 use Rattle.rules.specs.Arithmetic.{ieee}
@@ -37,11 +37,11 @@ use Rattle.update.specs.Working.{logged}
 use Rattle.update.specs.Calls.{advanced, stepOf, stepped, madeBy, sumBy, refusedBy, onPivot}
 use Rattle.book.specs.Book.{Book, book, layout, last, rust, inStep, bookState}
 use Rattle.book.specs.Values.{rulesHere, startHere}
-use Rattle.book.specs.Demand.{ReadyBy, TakesLogs, in-block, in-sum, Writes, UnderWayClaim}
+use Rattle.demand3.specs.Demand.{ReadyBy, TakesLogs, in-block, in-sum, Writes, UnderWayClaim}
 use Rattle.update.proofs.progress_laws.Kept.{numbers-many}
 use Rattle.demand3.proofs.frame.Step.{withBlock, with-length, with-own, with-sum, with-elsewhere}
 use Rattle.demand3.proofs.same_rules.Same.{made-length}
-use Rattle.demand3.proofs.invariant.Stands.{behind, Site, Stands}
+use Rattle.demand3.proofs.invariant.Invariant.{behind, Site, Invariant}
 use Rattle.demand3.proofs.invariant.Site.{layout-of, alike, loaded-many}
 use Rattle.demand3.proofs.invariant.Step.{Comes, step-ready, step-comes}
 use Rattle.demand3.proofs.step_laws.Rust.{answerIn, in-step}
@@ -61,7 +61,7 @@ pivot-none h w s none e = refl
 pivot-none h w s (some r) e = refused-not 26 (col s) r e
 
 -- a step that takes no logarithms leaves their sum
-keeps-sum : (h : List ℕ) (w : List Float) (s : Step) → Named (layoutOf h .k) s → (TakesLogs (layoutOf h .k) s → ⊥) → sumBy h w s ≡ logSum h w
+keeps-sum : (h : List ℕ) (w : List Float) (s : Step) → IsStep (layoutOf h .k) s → (TakesLogs (layoutOf h .k) s → ⊥) → sumBy h w s ≡ logSum h w
 unfolding sumBy logged
 keeps-sum h w (S i j x) n t = refl
 keeps-sum h w (C j) n t = let e : j ≡ layoutOf h .k = last-one j (layoutOf h .k) n t in rw (eq-eqb j (layoutOf h .k) e) refl
@@ -71,17 +71,17 @@ keeps-sum h w (C j) n t = let e : j ≡ layoutOf h .k = last-one j (layoutOf h .
 keeps-sum h w (T i j) n t = refl
 
 -- a target is a block of the layout
-in-layout : (k : ℕ) (s : Step) → Named k s → (col s ≤ row s) × (row s ≤ k)
+in-layout : (k : ℕ) (s : Step) → IsStep k s → (col s ≤ row s) × (row s ≤ k)
 in-layout k (S i j x) n = (n.1, n.2)
 in-layout k (C j) n = (omega arith, n)
 in-layout k (T i j) n = (omega (arith, n.0), n.1)
 
-module _ (sheet : Sheet) (h : List ℕ) (w : List Float) (here : Site sheet h w) (b : Book) (v : Workspace) (stands : Stands sheet h w b v) (s : Step) (n : Named (last sheet) s) where
+module _ (sheet : Sheet) (h : List ℕ) (w : List Float) (here : Site sheet h w) (b : Book) (v : Workspace) (stands : Invariant sheet h w b v) (s : Step) (n : IsStep (last sheet) s) where
   same : layoutOf (v .heading) ≡ layout sheet
   same = layout-of sheet h w here b v stands
 
-  named-here : Named (layoutOf (v .heading) .k) s
-  named-here = subst (λ (z : Layout). Named z.k s) (sym same) n
+  named-here : IsStep (layoutOf (v .heading) .k) s
+  named-here = subst (λ (z : Layout). IsStep z.k s) (sym same) n
 
   inside : (col s ≤ row s) × (row s ≤ layoutOf (v .heading) .k)
   inside = in-layout (layoutOf v.heading .k) s named-here
@@ -145,10 +145,10 @@ NotFinished Idle = Unit
 NotFinished UnderWay = Unit
 NotFinished Finished = ⊥
 
-module _ (sheet : Sheet) (h : List ℕ) (w : List Float) (here : Site sheet h w) (b : Book) (v : Workspace) (stands : Stands sheet h w b v) (d : Step → Bool) (e : b .done ≡ some d) where
+module _ (sheet : Sheet) (h : List ℕ) (w : List Float) (here : Site sheet h w) (b : Book) (v : Workspace) (stands : Invariant sheet h w b v) (d : Step → Bool) (e : b .done ≡ some d) where
   -- the book with its set
-  with-set : Stands sheet h w (book (b .loaded) (b .theta) (some d)) v
-  with-set = subst (λ (o : Option (Step → Bool)). Stands sheet h w (book b.loaded b.theta o) v) e stands
+  with-set : Invariant sheet h w (book (b .loaded) (b .theta) (some d)) v
+  with-set = subst (λ (o : Option (Step → Bool)). Invariant sheet h w (book b.loaded b.theta o) v) e stands
 
   comes-answer : (s : Step) (r : Option ℕ) (o : Outcome) → Comes sheet h w here (b .loaded) (b .theta) d s r o → o .answer ≡ answerIn s r
   comes-answer s none o c = c.0

@@ -1,4 +1,4 @@
-pub mod Stands
+pub mod Invariant
 pub mod Site
 pub mod Open
 pub mod Begin

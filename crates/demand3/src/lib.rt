@@ -1,4 +1,4 @@
-// Demand 3 of the mission, which book/specs/Demand.antt states: its proof.
+// Demand 3 of the mission, about every list of calls from every accepted load: the proposition in specs/Demand.antt, its proof in proofs/.
 pub mod frame;
 mod invariant;
 mod pivot_laws;

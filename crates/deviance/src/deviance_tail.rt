@@ -6,7 +6,7 @@ ghost use lib.ListN.{length};
 ghost use Rattle.rules.specs.Arithmetic.{ieee};
 ghost use Rattle.rules.specs.Finish.{devianceOf};
 ghost use Rattle.layout.specs.Shapes.{doublesNeeded};
-ghost use Rattle.heading_format.specs.Heading.{lawful};
+ghost use Rattle.heading_format.specs.Heading.{validLayout};
 ghost use Rattle.deviance.specs.deviance_tail.Tail.{pivotOf, logDeterminantOf, devianceWith};
 use crate::deviance_value;
 use block_places::places;
@@ -15,31 +15,31 @@ use profile::Deviance;
 use re_lower::triangle_cells;
 
 // Twice the logarithms' sum.
-pub fn log_determinant(y: Layout, w: &[f64]) -> f64
-    requires { ⌜ (lawful y ≡ true) × (doublesNeeded y ≤ length (now w)) ⌝ }
-    ensures { λ r. ⌜ r ≡ logDeterminantOf y (now (w .entry)) ⌝ }
+pub fn log_determinant(layout: Layout, doubles: &[f64]) -> f64
+    requires { ⌜ (validLayout layout ≡ true) × (doublesNeeded layout ≤ length (now doubles)) ⌝ }
+    ensures { λ r. ⌜ r ≡ logDeterminantOf layout (now (doubles .entry)) ⌝ }
 {
-    2.0 * w[places::sum_at(y)]
+    2.0 * doubles[places::sum_at(layout)]
 }
 
 // The last pivot of all.
-fn last_pivot(y: Layout, w: &[f64]) -> f64
-    requires { ⌜ (lawful y ≡ true) × (doublesNeeded y ≤ length (now w)) ⌝ }
-    ensures { λ r. ⌜ r ≡ pivotOf y (now (w .entry)) (y .p) ⌝ }
+fn last_pivot(layout: Layout, doubles: &[f64]) -> f64
+    requires { ⌜ (validLayout layout ≡ true) × (doublesNeeded layout ≤ length (now doubles)) ⌝ }
+    ensures { λ r. ⌜ r ≡ pivotOf layout (now (doubles .entry)) (layout .p) ⌝ }
 {
-    let p = y.p as usize;
-    w[places::working_at(y, y.k, y.k) + triangle_cells::row_start(p) + p]
+    let p = layout.p as usize;
+    doubles[places::working_at(layout, layout.k, layout.k) + triangle_cells::row_start(p) + p]
 }
 
 // The deviance with d and the scale s. REML adds twice the logarithms of the first p pivots of block k.
-fn value(y: Layout, w: &[f64], d: f64, s: f64, logdet: f64, reml: bool) -> f64
-    requires { ⌜ (lawful y ≡ true) × (doublesNeeded y ≤ length (now w)) ⌝ }
-    ensures { λ r. ⌜ r ≡ devianceOf ieee reml d s logdet (pivotOf y (now (w .entry))) (y .p) ⌝ }
+fn value(layout: Layout, doubles: &[f64], d: f64, s: f64, logdet: f64, reml: bool) -> f64
+    requires { ⌜ (validLayout layout ≡ true) × (doublesNeeded layout ≤ length (now doubles)) ⌝ }
+    ensures { λ r. ⌜ r ≡ devianceOf ieee reml d s logdet (pivotOf layout (now (doubles .entry))) (layout .p) ⌝ }
 {
     deviance_value::value(
-        w,
-        places::working_at(y, y.k, y.k),
-        y.p as usize,
+        doubles,
+        places::working_at(layout, layout.k, layout.k),
+        layout.p as usize,
         d,
         s,
         logdet,
@@ -48,15 +48,15 @@ fn value(y: Layout, w: &[f64], d: f64, s: f64, logdet: f64, reml: bool) -> f64
 }
 
 // The deviance of the doubles, the log determinant being known: no scale where the square of the last pivot or d is at most 0.
-pub fn tail(y: Layout, w: &[f64], logdet: f64, reml: bool) -> Deviance
-    requires { ⌜ (lawful y ≡ true) × (doublesNeeded y ≤ length (now w)) ⌝ }
-    ensures { λ r. ⌜ r ≡ devianceWith y (now (w .entry)) logdet reml ⌝ }
+pub fn tail(layout: Layout, doubles: &[f64], logdet: f64, reml: bool) -> Deviance
+    requires { ⌜ (validLayout layout ≡ true) × (doublesNeeded layout ≤ length (now doubles)) ⌝ }
+    ensures { λ r. ⌜ r ≡ devianceWith layout (now (doubles .entry)) logdet reml ⌝ }
 {
-    let pivot = last_pivot(y, w);
+    let pivot = last_pivot(layout, doubles);
     let r2 = pivot * pivot;
-    let d = deviance_value::freedom(y, reml);
+    let d = deviance_value::freedom(layout, reml);
     if (r2 <= 0.0) | (d <= 0.0) {
         return Deviance::NoScale;
     }
-    Deviance::Value(value(y, w, d, r2 / d, logdet, reml))
+    Deviance::Value(value(layout, doubles, d, r2 / d, logdet, reml))
 }

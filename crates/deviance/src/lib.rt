@@ -1,12 +1,13 @@
-// The deviance of a finished factor (document 01, Record 6), and its refusals 20 and 25. What it answers is defined in the crate profile,
-// specs/Deviance.antt; the tail by layout, doubles and log determinant in the crate deviance_tail, specs/Tail.antt.
+// The call `deviance_from_factor` (document 01, Record 6): the deviance of a finished factor. Refused with 20 or 25. What it answers is
+// `devianceFromFactor` of the crate profile, specs/Deviance.antt; the tail by layout, doubles and log determinant is in
+// specs/deviance_tail/Tail.antt.
 pub mod deviance_tail;
 pub mod deviance_value;
 
 ghost use mathlib.Core.Path.{_≡_};
 ghost use mathlib.Core.Bool.{true};
 ghost use lib.ListN.{length};
-ghost use Rattle.heading_format.specs.Heading.{headed};
+ghost use Rattle.heading_format.specs.Heading.{validHeading};
 ghost use Rattle.refusal.specs.Numbers.{refusal};
 ghost use Rattle.profile.specs.Deviance.{isFinished, devianceFromFactor};
 use heading_format::State;
@@ -36,25 +37,30 @@ pub fn is_finished(s: State) -> bool
 }
 
 // The deviance of a workspace; 25 where its factor is not finished.
-fn of_workspace(h: &[u32], w: &[f64], reml: bool) -> Deviance
-    requires { ⌜ headed (now h) (length (now w)) ≡ true ⌝ }
-    ensures { λ r. ⌜ r ≡ devianceFromFactor (now (h .entry)) (now (w .entry)) reml ⌝ }
+fn of_workspace(heading: &[u32], doubles: &[f64], reml: bool) -> Deviance
+    requires { ⌜ validHeading (now heading) (length (now doubles)) ≡ true ⌝ }
+    ensures { λ r. ⌜ r ≡ devianceFromFactor (now (heading .entry)) (now (doubles .entry)) reml ⌝ }
 {
-    let y = heading::layout(h);
-    let g = heading::progress(h);
-    let state = g.state;
+    let layout = heading::layout(heading);
+    let progress = heading::progress(heading);
+    let state = progress.state;
     if is_finished(state) {
-        return deviance_tail::tail(y, w, deviance_tail::log_determinant(y, w), reml);
+        return deviance_tail::tail(
+            layout,
+            doubles,
+            deviance_tail::log_determinant(layout, doubles),
+            reml,
+        );
     }
     Deviance::Refused(refused(25))
 }
 
 // The deviance of the factor as it stands. Any numbers and doubles may be lent: 20 where they are no workspace, 25 where the factor is not finished.
-pub fn deviance_from_factor(h: &[u32], w: &[f64], reml: bool) -> Deviance
-    ensures { λ r. ⌜ r ≡ devianceFromFactor (now (h .entry)) (now (w .entry)) reml ⌝ }
+pub fn deviance_from_factor(heading: &[u32], doubles: &[f64], reml: bool) -> Deviance
+    ensures { λ r. ⌜ r ≡ devianceFromFactor (now (heading .entry)) (now (doubles .entry)) reml ⌝ }
 {
-    if heading_check::is_headed(h, w.len()) {
-        return of_workspace(h, w, reml);
+    if heading_check::is_valid_heading(heading, doubles.len()) {
+        return of_workspace(heading, doubles, reml);
     }
     Deviance::Refused(refused(20))
 }

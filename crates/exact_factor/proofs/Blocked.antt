@@ -93,7 +93,7 @@ module _ (A : Arithmetic) (X : Exact A) (m : ℕ → ℕ) (start : ℕ → ℕ �
                 subst (λ (x : ℕ). dot A (final (blockRules A m) start x j r) (final (blockRules A m) start j j c) (suc c) ≡ value (blockRules A m) start j x j r c)
                 (sym e) (diagonal-left j r c (omega arith) (lower e) (subst (λ (x : ℕ). r < m x) e hr))
 
-    -- Record 6's r2, the square of the last pivot, is what the squares of the last row left of it leave of y'y: the paper's penalised residual sum of squares
+    -- Record 6's r2, the square of the last pivot, is what the squares of the last row left of it leave of y'y
     pub residual-square :
         (p : ℕ) → p < m k
         → A .plus (products A m (final (blockRules A m) start) k k k p p)

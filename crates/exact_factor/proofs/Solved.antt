@@ -13,7 +13,7 @@ use Rattle.rules.specs.Cholesky.{at, forward}
 use Rattle.rules.specs.Solves.{backward}
 use Rattle.rules.specs.Exact.{Exact}
 use Rattle.rules.proofs.Exact.{dot-ext, dot-chain, forward-solves}
-use Rattle.exact_factor.specs.Solved.{lessFirst, lessLater, Forward, Backward, rowSum, timesL, columnSum, timesLT}
+use Rattle.exact_factor.specs.Solved.{subtractFirst, subtractLater, Forward, Backward, rowSum, timesL, columnSum, timesLT}
 
 -- ---- inside a triangle, backward
 
@@ -58,23 +58,23 @@ module _ (A : Arithmetic) (v : ℕ → A .Num) (L : ℕ → ℕ → A .Num) (n :
 
 module _ (A : Arithmetic) (X : Exact A) (m : ℕ → ℕ) (L : ℕ → ℕ → ℕ → ℕ → A .Num) where
   -- what n blocks took away, and what they left, make v
-  forward-left : (z : ℕ → ℕ → A .Num) (i : ℕ) (v : ℕ → A .Num) (n r : ℕ) → A .plus (rowSum A m L z n i r) (lessFirst A m L z i v n r) ≡ v r
-  unfolding rowSum lessFirst
+  forward-left : (z : ℕ → ℕ → A .Num) (i : ℕ) (v : ℕ → A .Num) (n r : ℕ) → A .plus (rowSum A m L z n i r) (subtractFirst A m L z i v n r) ≡ v r
+  unfolding rowSum subtractFirst
   forward-left z i v zero r = X.zero-plus (v r)
-  forward-left z i v (suc j) r = X.plus-minus (rowSum A m L z j i r) (lessFirst A m L z i v j r) (dot A (L i j r) (z j) (m j)) ∙ forward-left z i v j r
+  forward-left z i v (suc j) r = X.plus-minus (rowSum A m L z j i r) (subtractFirst A m L z i v j r) (dot A (L i j r) (z j) (m j)) ∙ forward-left z i v j r
 
-  backward-left : (w : ℕ → ℕ → A .Num) (i : ℕ) (z : ℕ → A .Num) (n c : ℕ) → A .plus (columnSum A m L w n i c) (lessLater A m L w i z n c) ≡ z c
-  unfolding columnSum lessLater
+  backward-left : (w : ℕ → ℕ → A .Num) (i : ℕ) (z : ℕ → A .Num) (n c : ℕ) → A .plus (columnSum A m L w n i c) (subtractLater A m L w i z n c) ≡ z c
+  unfolding columnSum subtractLater
   backward-left w i z zero c = X.zero-plus (z c)
   backward-left w i z (suc x) c =
-      X .plus-minus (columnSum A m L w x i c) (lessLater A m L w i z x c) (dot A (λ r. L (i + suc x) i r c) (w (i + suc x)) (m (i + suc x)))
+      X .plus-minus (columnSum A m L w x i c) (subtractLater A m L w i z x c) (dot A (λ r. L (i + suc x) i r c) (w (i + suc x)) (m (i + suc x)))
       ∙ backward-left w i z x c
 
   module _ (k : ℕ) (some-pivot : (i r : ℕ) → i < k → r < m i → A .null (L i i r r) ≡ false) where
     -- FORWARD: L z = v
     pub forward-blocks : (v z : ℕ → ℕ → A .Num) → Forward A m L v z k → (i r : ℕ) → i < k → r < m i → timesL A m L z i r ≡ v i r
     forward-blocks v z f i r h l =
-        let b : ℕ → A .Num = lessFirst A m L z i (v i) i in
+        let b : ℕ → A .Num = subtractFirst A m L z i (v i) i in
         ap (A.plus (rowSum A m L z i i r))
         (dot-ext A (z i) (at A (forward A b (L i i) (m i))) (L i i r) (L i i r) (suc r) (λ x g. f i x h (omega arith)) (λ x g. refl)
         ∙ forward-solves A X b (L i i) (m i) (λ c g. some-pivot i c h g) r l)
@@ -83,7 +83,7 @@ module _ (A : Arithmetic) (X : Exact A) (m : ℕ → ℕ) (L : ℕ → ℕ → �
     -- BACKWARD: L' w = z
     pub backward-blocks : (z w : ℕ → ℕ → A .Num) → Backward A m L z w k → (i c : ℕ) → i < k → c < m i → timesLT A m L w k i c ≡ z i c
     backward-blocks z w f i c h l =
-        let b : ℕ → A .Num = lessLater A m L w i (z i) (k - suc i) in
+        let b : ℕ → A .Num = subtractLater A m L w i (z i) (k - suc i) in
         let d : ℕ = m i - suc c in
         ap (A.plus (columnSum A m L w (k - suc i) i c))
         (ap₂ A.plus

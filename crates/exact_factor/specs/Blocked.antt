@@ -1,5 +1,5 @@
--- The rules of `rules` as block elimination (document 01, Record 4), and what their factor is: L L' = the matrix that begin wrote, which is
--- the bordered matrix of Bates et al. 2015: ΛZ'ZΛ + I, with the rows of X and y below.
+-- The rules of `rules` as block elimination (document 01, Record 4), and what their factor is: L L' = the matrix that the blocks started from, for dense
+-- packed blocks. That begin writes the bordered matrix of Bates et al. 2015 (ΛZ'ZΛ + I, with the rows of X and y below) is not said here.
 use Prim.Native.Nat.{ℕ, zero, suc, _≤_, _<_}
 use mathlib.Core.Path.{_≡_}
 use Rattle.step_order.specs.Elimination.{Rules}
@@ -19,7 +19,7 @@ module _ (A : Arithmetic) (m : ℕ → ℕ) where
         pivots = λ j b. pivots A (radicand A b) (m j);
         factor = λ j b. factor A b (m j);
         solve = λ i j t f r. at A (forward A (t r) f (m j));
-        nought = A .zero;
+        emptySum = A .zero;
         logs = λ j s f. s;
       }
 

@@ -4,27 +4,27 @@ use mathlib.Core.Path.{_≡_}
 use Rattle.rules.specs.Arithmetic.{Arithmetic}
 use Rattle.rules.specs.Sums.{dot}
 use Rattle.rules.specs.Cholesky.{at, forward}
-use Rattle.rules.specs.Solves.{lessDense, lessDenseT, backward}
+use Rattle.rules.specs.Solves.{matvecSub, matvecTSub, backward}
 
 -- block j has m j rows; block (i, j) of L, j ≤ i, is a function of row and column; a vector is a function of block and row
 module _ (A : Arithmetic) (m : ℕ → ℕ) (L : ℕ → ℕ → ℕ → ℕ → A .Num) where
   -- ---- the rules
   -- v of block i less the cross blocks times the first n blocks of z, in turn
-  unfoldable pub lessFirst : (z : ℕ → ℕ → A .Num) (i : ℕ) (v : ℕ → A .Num) → ℕ → ℕ → A .Num
-  lessFirst z i v zero = v
-  lessFirst z i v (suc j) = lessDense A (L i j) (z j) (lessFirst z i v j) (m j)
+  unfoldable pub subtractFirst : (z : ℕ → ℕ → A .Num) (i : ℕ) (v : ℕ → A .Num) → ℕ → ℕ → A .Num
+  subtractFirst z i v zero = v
+  subtractFirst z i v (suc j) = matvecSub A (L i j) (z j) (subtractFirst z i v j) (m j)
 
   -- z of block i less the transposes of the cross blocks below it times blocks i + 1 to i + n of w, in turn
-  unfoldable pub lessLater : (w : ℕ → ℕ → A .Num) (i : ℕ) (z : ℕ → A .Num) → ℕ → ℕ → A .Num
-  lessLater w i z zero = z
-  lessLater w i z (suc x) = lessDenseT A (L (i + suc x) i) (w (i + suc x)) (lessLater w i z x) (m (i + suc x))
+  unfoldable pub subtractLater : (w : ℕ → ℕ → A .Num) (i : ℕ) (z : ℕ → A .Num) → ℕ → ℕ → A .Num
+  subtractLater w i z zero = z
+  subtractLater w i z (suc x) = matvecTSub A (L (i + suc x) i) (w (i + suc x)) (subtractLater w i z x) (m (i + suc x))
 
   -- z is what going forward makes of v, and w what going backward makes of z, over k blocks
   abbrev pub Forward : (v z : ℕ → ℕ → A .Num) → ℕ → Type 0
-  Forward v z k = (i r : ℕ) → i < k → r < m i → z i r ≡ at A (forward A (lessFirst z i (v i) i) (L i i) (m i)) r
+  Forward v z k = (i r : ℕ) → i < k → r < m i → z i r ≡ at A (forward A (subtractFirst z i (v i) i) (L i i) (m i)) r
 
   abbrev pub Backward : (z w : ℕ → ℕ → A .Num) → ℕ → Type 0
-  Backward z w k = (i r : ℕ) → i < k → r < m i → w i r ≡ at A (backward A (lessLater w i (z i) (k - suc i)) (L i i) (m i) (m i)) r
+  Backward z w k = (i r : ℕ) → i < k → r < m i → w i r ≡ at A (backward A (subtractLater w i (z i) (k - suc i)) (L i i) (m i) (m i)) r
 
   -- ---- the equations
   -- row r of block row i of L times z, over the first n block columns

@@ -1,1 +1,2 @@
-// Definitions and theorems: where nothing is rounded, the blocked factor is the Cholesky factor of the whole matrix, and the blocked solves solve with it.
+// Theorems: where nothing is rounded, the blocked factor times its transpose is the matrix that the blocks started from, for dense packed blocks, and
+// the blocked solves solve with it.

@@ -1,5 +1,5 @@
-// Reads a sheet and its theta part from standard input and prints the pivots of its factor, or a refusal (document 01, "Worked sheets"). All that it
-// does with the bytes is in the crate factor_text.
+// The program `factor` (document 01, "Worked sheets"): reads a sheet and its theta part from standard input and prints the pivots, or a refusal. All
+// that it does with the bytes is in the crate factor_text.
 use libc::STDIN_FILENO;
 use libc::STDOUT_FILENO;
 

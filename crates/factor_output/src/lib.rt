@@ -1,1 +1,1 @@
-// The program of document 01's worked sheets: what it prints is defined in specs/.
+// What the program `factor` prints (document 01, "Worked sheets"), as definitions in specs/.

@@ -1,13 +1,13 @@
-// Gives each input of the list on standard input to `factor`, and prints a line with the input's number and then what `factor` printed, byte for byte.
-// Where the list has several texts of which any serves, and one of them is what was printed, it prints how many they are instead. tools/factor_list.py
-// made the list, and the file stdout, which has what must be printed.
+// Test program: gives each input of a list to `factor` and prints what that printed, byte for byte. Where the list has several texts of which any
+// serves, and one of them is what was printed, it prints how many they are instead. tools/factor_list.py made the list, and the file stdout, which
+// has what must be printed.
 ghost use Prim.Native.Nat.{_≤_};
 ghost use lib.ListN.{length};
 use libc::STDOUT_FILENO;
 
-// The word whose highest byte is byte j of a text that has so many words in the list: the next one, or the one before turned by a byte, so that the
+// The word whose highest byte is byte j of a text that has so many words in the list: the next one, or the one before rotated by a byte, so that the
 // last word goes on to the end.
-fn turned(x: u64, j: usize, words: u64) -> u64 {
+fn next_word(x: u64, j: usize, words: u64) -> u64 {
     if (j % 8 == 0) & (((j / 8) as u64) < words) {
         return test_words::read_word().word;
     }
@@ -23,14 +23,14 @@ fn read_text(s: &mut [u8], from: usize) -> usize
     let mut x: u64 = 0;
     let mut i = from;
     while i < end {
-        x = turned(x, i - from, words);
+        x = next_word(x, i - from, words);
         s[i] = (x / 0x100000000000000 % 256) as u8;
         i += 1;
     }
     end
 }
 
-// Whether out begins with one of the texts in t, which have 32 bytes each, noughts behind.
+// Whether out begins with one of the texts in t, which have 32 bytes each, zeros behind.
 fn among(t: &[u8], out: &[u8; 131072]) -> bool {
     let mut found = false;
     let mut same = false;
@@ -45,21 +45,21 @@ fn among(t: &[u8], out: &[u8; 131072]) -> bool {
 }
 
 // A line of a word and a number.
-fn tell(what: &[u8], x: u64) {
+fn report(what: &[u8], x: u64) {
     io::write_all(STDOUT_FILENO, what);
     test_words::print_number(x);
     io::write_all(STDOUT_FILENO, b"\n");
 }
 
 // Prints the line with the input's number, and says whether what was printed is one of the next texts of the list, of which any serves; then it prints
-// how many they are. Behind what was printed out is nought.
+// how many they are. Behind what was printed out is zero.
 fn served(number: u64, out: &[u8; 131072]) -> bool {
     let mut t = [0u8; 512];
     let end = read_text(&mut t, 0);
     let found = among(&t[..end], out);
-    tell(b"input", number);
+    report(b"input", number);
     if found {
-        tell(b"one of", (end / 32) as u64);
+        report(b"one of", (end / 32) as u64);
     }
     found
 }

@@ -1,5 +1,5 @@
 // Reads the theta part of the input of the program `factor` (document 01, "Worked sheets"): a line for each block, in the sheet's order. What it is
-// to answer is defined in the crate worked, specs/Program.antt.
+// to answer is defined in the crate factor_output, specs/Program.antt.
 use float_bits::words;
 use sheet::Cursor;
 use sheet::Line;
@@ -32,9 +32,9 @@ fn theta_line(l: Line, i: u64, c: Cursor) -> Cursor
 
 // The k theta lines from the cursor c on, index 0 to k - 1 rising: their doubles go to the first k places of theta, while the lines are in form.
 // The cursor that is left says whether they were, number 0, or which line is not, number 2.
-pub fn read_theta(s: &[u8], c: Cursor, k: u64, theta: &mut [f64]) -> Cursor
+pub fn read_theta(bytes: &[u8], c: Cursor, k: u64, theta: &mut [f64]) -> Cursor
     requires { ⌜ (c .line + k < 9223372036854775808) × (k ≤ 8) × (8 ≤ length (now theta)) ⌝ }
-    ensures { λ r. ⌜ (r ≡ thetaLines (now (s .entry)) k c .past) × (r .number ≡ 0 → take k (now (theta .exit)) ≡ thetaLines (now (s .entry)) k c .items) × (length (now (theta .exit)) ≡ length (now (theta .entry))) ⌝ }
+    ensures { λ r. ⌜ (r ≡ thetaLines (now (bytes .entry)) k c .past) × (r .number ≡ 0 → take k (now (theta .exit)) ≡ thetaLines (now (bytes .entry)) k c .items) × (length (now (theta .exit)) ≡ length (now (theta .entry))) ⌝ }
 {
     let mut d = c;
     let mut i: u64 = 0;
@@ -42,7 +42,7 @@ pub fn read_theta(s: &[u8], c: Cursor, k: u64, theta: &mut [f64]) -> Cursor
         if d.number != 0 {
             return d;
         }
-        let l = single_line::single_line(b"theta\t", s, d.at);
+        let l = single_line::single_line(b"theta\t", bytes, d.at);
         theta[i as usize] = words::double(l.word);
         d = theta_line(l, i, d);
         i += 1;

@@ -2,7 +2,7 @@
 ghost use Prim.Native.Nat.{_≤_, _<_, _+_};
 ghost use lib.ListN.{length};
 ghost use Rattle.refusal.specs.declared.Answer.the-variants.{Accepted};
-ghost use Rattle.workspace.specs.Answers.{space};
+ghost use Rattle.workspace.specs.Answers.{workspace};
 ghost use Rattle.factor_output.specs.Program.{afterLoad};
 ghost use Rattle.factor_text.specs.refusal_text.Text.{Text};
 use crate::refusal_text;
@@ -12,24 +12,30 @@ use sheet::Cursor;
 use sheet::Starts;
 
 // The theta part behind an accepted sheet, and begin with it; a line there that is not what is due, or one left over, is 2.
-pub fn put_theta(s: &[u8], z: Starts, h: &mut [u32], w: &mut [f64], out: &mut [u8]) -> usize
-    requires { ⌜ (z .counts .k ≤ 8) × (z .line + z .counts .k < 9223372036854775808) × (length (now w) ≤ 4096) × (131072 ≤ length (now out)) ⌝ }
-    ensures { λ n. ⌜ Text (afterLoad Accepted (space (now (h .entry)) (now (w .entry))) (z .counts .k) (now (s .entry)) z) n (now (out .entry)) (now (out .exit)) ⌝ }
+pub fn put_theta(
+    bytes: &[u8],
+    starts: Starts,
+    heading: &mut [u32],
+    doubles: &mut [f64],
+    out: &mut [u8],
+) -> usize
+    requires { ⌜ (starts .counts .k ≤ 8) × (starts .line + starts .counts .k < 9223372036854775808) × (length (now doubles) ≤ 4096) × (131072 ≤ length (now out)) ⌝ }
+    ensures { λ n. ⌜ Text (afterLoad Accepted (workspace (now (heading .entry)) (now (doubles .entry))) (starts .counts .k) (now (bytes .entry)) starts) n (now (out .entry)) (now (out .exit)) ⌝ }
 {
-    let k = z.counts.k;
+    let k = starts.counts.k;
     let mut theta = [0f64; 8];
     let c = theta_part::read_theta(
-        s,
+        bytes,
         Cursor {
-            at: z.end,
-            line: z.line,
+            at: starts.end,
+            line: starts.line,
             number: 0,
         },
         k,
         &mut theta,
     );
-    if (c.number == 0) & (c.at == s.len()) {
-        return steps_text::put_factor(h, w, &theta[..k as usize], out);
+    if (c.number == 0) & (c.at == bytes.len()) {
+        return steps_text::put_factor(heading, doubles, &theta[..k as usize], out);
     }
     refusal_text::put_refusal(out, 2, c.line, 0)
 }

@@ -1,4 +1,4 @@
-// Doubles and the words that they are: a double taken apart, products of words, a word's double and back.
+// Doubles and their bits: the kind, significand and exponent of a double, products of 64-bit words, a word's double and back.
 pub mod double;
 pub mod wide_product;
 pub mod words;

@@ -120,7 +120,7 @@ module _ (w : List ℕ) {w₁ w₂ w₃ : List ℕ} where
       rw (e₃, e₂, e₁, a, then w 22 23 (stateNumber g.state ∷ []) (g.left ∷ []) refl (omega arith))
       (then w 22 24 (stateNumber g.state ∷ g .left ∷ []) (padded 45 g.stages) refl (omega arith))
 
-  -- the whole heading: layout, progress, noughts
+  -- the whole heading: layout, progress, zeros
   pub all-stored : (y : Layout) (g : Progress) → w₃ ≡ store 69 (padded 59 (replicate 59 0)) w₂ → w₂ ≡ store 22 (progressNumbers g) w₁ → w₁ ≡ store 0 (layoutNumbers y) w → 128 ≤ length w
       → w₃ ≡ store 0 (written y g) w
   unfolding written padded

@@ -1,5 +1,5 @@
-// The heading of a workspace (document 01, Records 2 and 5): 128 numbers, read as a layout and a progress. What each number is, is defined in the
-// crate heading_rules, specs/Heading.antt.
+// The heading of a workspace (document 01, Records 2 and 5), read as a layout and a progress, and written. What each of its numbers is, is defined in
+// the crate heading_format, specs/Heading.antt. Only `writer::write_progress` changes the progress of a heading.
 pub mod idle_progress;
 pub mod writer;
 
@@ -19,43 +19,43 @@ fn wide(x: u32) -> u64
 }
 
 // The number at a place.
-fn number(h: &[u32], at: usize) -> u64
-    requires { ⌜ at < length (now h) ⌝ }
-    ensures { λ r. ⌜ r ≡ getD (now (h .entry)) at 0 ⌝ }
+fn number(heading: &[u32], at: usize) -> u64
+    requires { ⌜ at < length (now heading) ⌝ }
+    ensures { λ r. ⌜ r ≡ getD (now (heading .entry)) at 0 ⌝ }
 {
-    wide(h[at])
+    wide(heading[at])
 }
 
 // Fills a list with the numbers from a place on.
-fn fill(h: &[u32], at: usize, r: &mut [u64])
-    requires { ⌜ at + length (now r) ≤ length (now h) ⌝ }
-    ensures { λ _. ⌜ now (r .exit) ≡ take (length (now (r .entry))) (drop at (now (h .entry))) ⌝ }
+fn fill(heading: &[u32], at: usize, r: &mut [u64])
+    requires { ⌜ at + length (now r) ≤ length (now heading) ⌝ }
+    ensures { λ _. ⌜ now (r .exit) ≡ take (length (now (r .entry))) (drop at (now (heading .entry))) ⌝ }
 {
     let n = r.len();
     let mut j: usize = 0;
     while j < n {
-        r[j] = number(h, at + j);
+        r[j] = number(heading, at + j);
         j += 1;
     }
 }
 
 // The eight numbers from a place on: a number of each sorted block.
-fn eight(h: &[u32], at: usize) -> [u64; 8]
-    requires { ⌜ at + 8 ≤ length (now h) ⌝ }
-    ensures { λ r. ⌜ r ≡ take 8 (drop at (now (h .entry))) ⌝ }
+fn eight(heading: &[u32], at: usize) -> [u64; 8]
+    requires { ⌜ at + 8 ≤ length (now heading) ⌝ }
+    ensures { λ r. ⌜ r ≡ take 8 (drop at (now (heading .entry))) ⌝ }
 {
     let mut r = [0u64; 8];
-    fill(h, at, &mut r);
+    fill(heading, at, &mut r);
     r
 }
 
 // The stages of the target blocks.
-fn stages(h: &[u32]) -> [u64; 45]
-    requires { ⌜ 69 ≤ length (now h) ⌝ }
-    ensures { λ r. ⌜ r ≡ take 45 (drop 24 (now (h .entry))) ⌝ }
+fn stages(heading: &[u32]) -> [u64; 45]
+    requires { ⌜ 69 ≤ length (now heading) ⌝ }
+    ensures { λ r. ⌜ r ≡ take 45 (drop 24 (now (heading .entry))) ⌝ }
 {
     let mut r = [0u64; 45];
-    fill(h, 24, &mut r);
+    fill(heading, 24, &mut r);
     r
 }
 
@@ -71,34 +71,34 @@ fn state(v: u64) -> State
 }
 
 // The layout that a heading tells.
-pub fn layout(h: &[u32]) -> Layout
-    requires { ⌜ 128 ≤ length (now h) ⌝ }
-    ensures { λ r. ⌜ r ≡ layoutOf (now (h .entry)) ⌝ }
+pub fn layout(heading: &[u32]) -> Layout
+    requires { ⌜ 128 ≤ length (now heading) ⌝ }
+    ensures { λ r. ⌜ r ≡ layoutOf (now (heading .entry)) ⌝ }
 {
-    let m = eight(h, 4);
-    let order = eight(h, 12);
+    let m = eight(heading, 4);
+    let order = eight(heading, 12);
     Layout {
-        n: number(h, 0),
-        p: number(h, 1),
-        q: number(h, 2),
-        k: number(h, 3),
+        n: number(heading, 0),
+        p: number(heading, 1),
+        q: number(heading, 2),
+        k: number(heading, 3),
         m,
         order,
-        sparse: number(h, 20) == 1,
-        diagonal: number(h, 21) == 1,
+        sparse: number(heading, 20) == 1,
+        diagonal: number(heading, 21) == 1,
     }
 }
 
 // The progress that a heading tells.
-pub fn progress(h: &[u32]) -> Progress
-    requires { ⌜ 128 ≤ length (now h) ⌝ }
-    ensures { λ r. ⌜ r ≡ progressOf (now (h .entry)) ⌝ }
+pub fn progress(heading: &[u32]) -> Progress
+    requires { ⌜ 128 ≤ length (now heading) ⌝ }
+    ensures { λ r. ⌜ r ≡ progressOf (now (heading .entry)) ⌝ }
 {
-    let state = state(number(h, 22));
-    let stages = stages(h);
+    let state = state(number(heading, 22));
+    let stages = stages(heading);
     Progress {
         state,
-        left: number(h, 23),
+        left: number(heading, 23),
         stages,
     }
 }

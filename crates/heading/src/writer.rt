@@ -38,77 +38,77 @@ fn state_number(s: State) -> u64
 }
 
 // Writes one number.
-fn put(h: &mut [u32], at: usize, v: u64)
-    requires { ⌜ (at < length (now h)) × (v < 4294967296) ⌝ }
-    ensures { λ _. ⌜ now (h .exit) ≡ store at (v ∷ []) (now (h .entry)) ⌝ }
+fn put(heading: &mut [u32], at: usize, v: u64)
+    requires { ⌜ (at < length (now heading)) × (v < 4294967296) ⌝ }
+    ensures { λ _. ⌜ now (heading .exit) ≡ store at (v ∷ []) (now (heading .entry)) ⌝ }
 {
-    h[at] = narrow(v);
+    heading[at] = narrow(v);
 }
 
 // Writes the first n numbers of a list.
-fn write_numbers(h: &mut [u32], at: usize, l: &[u64], n: usize)
-    requires { ⌜ (at + n ≤ length (now h)) × (n ≤ length (now l)) × ((i : ℕ) → getD (now l) i 0 < 4294967296) ⌝ }
-    ensures { λ _. ⌜ now (h .exit) ≡ store at (padded n (now (l .entry))) (now (h .entry)) ⌝ }
+fn write_numbers(heading: &mut [u32], at: usize, l: &[u64], n: usize)
+    requires { ⌜ (at + n ≤ length (now heading)) × (n ≤ length (now l)) × ((i : ℕ) → getD (now l) i 0 < 4294967296) ⌝ }
+    ensures { λ _. ⌜ now (heading .exit) ≡ store at (padded n (now (l .entry))) (now (heading .entry)) ⌝ }
 {
     let mut j: usize = 0;
     while j < n {
-        h[at + j] = narrow(l[j]);
+        heading[at + j] = narrow(l[j]);
         j += 1;
     }
 }
 
 // Writes the counts.
-fn write_counts(h: &mut [u32], n: u64, p: u64, q: u64, k: u64)
-    requires { ⌜ (4 ≤ length (now h)) × (n < 4294967296) × (p < 4294967296) × (q < 4294967296) × (k < 4294967296) ⌝ }
-    ensures { λ _. ⌜ now (h .exit) ≡ store 0 (n ∷ p ∷ q ∷ k ∷ []) (now (h .entry)) ⌝ }
+fn write_counts(heading: &mut [u32], n: u64, p: u64, q: u64, k: u64)
+    requires { ⌜ (4 ≤ length (now heading)) × (n < 4294967296) × (p < 4294967296) × (q < 4294967296) × (k < 4294967296) ⌝ }
+    ensures { λ _. ⌜ now (heading .exit) ≡ store 0 (n ∷ p ∷ q ∷ k ∷ []) (now (heading .entry)) ⌝ }
 {
-    put(h, 0, n);
-    put(h, 1, p);
-    put(h, 2, q);
-    put(h, 3, k);
+    put(heading, 0, n);
+    put(heading, 1, p);
+    put(heading, 2, q);
+    put(heading, 3, k);
 }
 
 // Writes how the blocks are stored.
-fn write_flags(h: &mut [u32], sparse: bool, diagonal: bool)
-    requires { ⌜ 22 ≤ length (now h) ⌝ }
-    ensures { λ _. ⌜ now (h .exit) ≡ store 20 (bit sparse ∷ bit diagonal ∷ []) (now (h .entry)) ⌝ }
+fn write_flags(heading: &mut [u32], sparse: bool, diagonal: bool)
+    requires { ⌜ 22 ≤ length (now heading) ⌝ }
+    ensures { λ _. ⌜ now (heading .exit) ≡ store 20 (bit sparse ∷ bit diagonal ∷ []) (now (heading .entry)) ⌝ }
 {
-    put(h, 20, flag(sparse));
-    put(h, 21, flag(diagonal));
+    put(heading, 20, flag(sparse));
+    put(heading, 21, flag(diagonal));
 }
 
 // Writes a layout.
-fn write_layout(h: &mut [u32], y: Layout)
-    requires { ⌜ (128 ≤ length (now h)) × SmallLayout y ⌝ }
-    ensures { λ _. ⌜ now (h .exit) ≡ store 0 (layoutNumbers y) (now (h .entry)) ⌝ }
+fn write_layout(heading: &mut [u32], layout: Layout)
+    requires { ⌜ (128 ≤ length (now heading)) × SmallLayout layout ⌝ }
+    ensures { λ _. ⌜ now (heading .exit) ≡ store 0 (layoutNumbers layout) (now (heading .entry)) ⌝ }
 {
-    write_counts(h, y.n, y.p, y.q, y.k);
-    let m = y.m;
-    write_numbers(h, 4, &m, 8);
-    let order = y.order;
-    write_numbers(h, 12, &order, 8);
-    write_flags(h, y.sparse, y.diagonal);
+    write_counts(heading, layout.n, layout.p, layout.q, layout.k);
+    let m = layout.m;
+    write_numbers(heading, 4, &m, 8);
+    let order = layout.order;
+    write_numbers(heading, 12, &order, 8);
+    write_flags(heading, layout.sparse, layout.diagonal);
 }
 
 // Writes a progress, and nothing else.
-pub fn write_progress(h: &mut [u32], g: Progress)
-    requires { ⌜ (128 ≤ length (now h)) × SmallProgress g ⌝ }
-    ensures { λ _. ⌜ now (h .exit) ≡ store 22 (progressNumbers g) (now (h .entry)) ⌝ }
+pub fn write_progress(heading: &mut [u32], progress: Progress)
+    requires { ⌜ (128 ≤ length (now heading)) × SmallProgress progress ⌝ }
+    ensures { λ _. ⌜ now (heading .exit) ≡ store 22 (progressNumbers progress) (now (heading .entry)) ⌝ }
 {
-    let state = g.state;
-    put(h, 22, state_number(state));
-    put(h, 23, g.left);
-    let stages = g.stages;
-    write_numbers(h, 24, &stages, 45);
+    let state = progress.state;
+    put(heading, 22, state_number(state));
+    put(heading, 23, progress.left);
+    let stages = progress.stages;
+    write_numbers(heading, 24, &stages, 45);
 }
 
 // Writes all 128 numbers of a heading.
-pub fn write(h: &mut [u32], y: Layout, g: Progress)
-    requires { ⌜ (128 ≤ length (now h)) × SmallLayout y × SmallProgress g ⌝ }
-    ensures { λ _. ⌜ now (h .exit) ≡ store 0 (written y g) (now (h .entry)) ⌝ }
+pub fn write(heading: &mut [u32], layout: Layout, progress: Progress)
+    requires { ⌜ (128 ≤ length (now heading)) × SmallLayout layout × SmallProgress progress ⌝ }
+    ensures { λ _. ⌜ now (heading .exit) ≡ store 0 (written layout progress) (now (heading .entry)) ⌝ }
 {
-    write_layout(h, y);
-    write_progress(h, g);
-    let noughts = [0u64; 59];
-    write_numbers(h, 69, &noughts, 59);
+    write_layout(heading, layout);
+    write_progress(heading, progress);
+    let zeros = [0u64; 59];
+    write_numbers(heading, 69, &zeros, 59);
 }

@@ -13,8 +13,8 @@ pub fn in_range(low: u64, high: u64, x: u64) -> bool
 }
 
 // Whether the numbers of readings, fixed effects and blocks are in range.
-pub fn has_counts(y: Layout) -> bool
-    ensures { λ r. ⌜ r ≡ (within 1 1000000000 (y .n) && within 1 32 (y .p) && within 1 8 (y .k)) ⌝ }
+pub fn has_counts(layout: Layout) -> bool
+    ensures { λ r. ⌜ r ≡ (within 1 1000000000 (layout .n) && within 1 32 (layout .p) && within 1 8 (layout .k)) ⌝ }
 {
-    in_range(1, 1000000000, y.n) & in_range(1, 32, y.p) & in_range(1, 8, y.k)
+    in_range(1, 1000000000, layout.n) & in_range(1, 32, layout.p) & in_range(1, 8, layout.k)
 }

@@ -1,10 +1,10 @@
 // Whether a layout is one that Records 1 and 2 of document 01 allow. No number of it is trusted: sizes are made only of counts that were found in
-// range. What is lawful is defined in the crate heading_rules, specs/Heading.antt.
+// range. What is valid is defined in the crate heading_format, specs/Heading.antt.
 ghost use mathlib.Core.Path.{_≡_};
 ghost use Prim.Native.Nat.{_<_, _≤_};
 ghost use Rattle.layout.specs.Blocks.{sum};
 ghost use Rattle.layout.specs.Shapes.{levels};
-ghost use Rattle.heading_format.specs.Heading.{within, every, pairLawful, lawful};
+ghost use Rattle.heading_format.specs.Heading.{within, every, validPair, validLayout};
 ghost use Rattle.heading_check.specs.layout_check.Ranged.{Ranged};
 use crate::counts_check;
 use crate::order_check;
@@ -13,14 +13,14 @@ use layout::Pair;
 use layout_gate::pair_gate;
 
 // Whether every block has 1 to 65,535 levels.
-fn has_levels(y: Layout) -> bool
-    requires { ⌜ y .k ≤ 8 ⌝ }
-    ensures { λ r. ⌜ r ≡ every (λ j. within 1 65535 (levels y j)) (y .k) ⌝ }
+fn has_levels(layout: Layout) -> bool
+    requires { ⌜ layout .k ≤ 8 ⌝ }
+    ensures { λ r. ⌜ r ≡ every (λ j. within 1 65535 (levels layout j)) (layout .k) ⌝ }
 {
-    let k = y.k;
+    let k = layout.k;
     let mut j: u64 = 0;
     while j < k {
-        if counts_check::in_range(1, 65535, order_check::level(y, j)) {
+        if counts_check::in_range(1, 65535, order_check::level(layout, j)) {
             j += 1;
         } else {
             return false;
@@ -30,29 +30,29 @@ fn has_levels(y: Layout) -> bool
 }
 
 // The sum of the levels.
-fn total(y: Layout) -> u64
-    requires { ⌜ Ranged y ⌝ }
-    ensures { λ r. ⌜ r ≡ sum (levels y) (y .k) ⌝ }
+fn total(layout: Layout) -> u64
+    requires { ⌜ Ranged layout ⌝ }
+    ensures { λ r. ⌜ r ≡ sum (levels layout) (layout .k) ⌝ }
 {
-    let k = y.k;
+    let k = layout.k;
     let mut t: u64 = 0;
     let mut j: u64 = 0;
     while j < k {
-        t += order_check::level(y, j);
+        t += order_check::level(layout, j);
         j += 1;
     }
     t
 }
 
 // Whether the gate lets a pair be held as it is.
-fn pair_passes(y: Layout, i: u64, j: u64) -> bool
-    requires { ⌜ Ranged y × (i < y .k) × (j < i) ⌝ }
-    ensures { λ r. ⌜ r ≡ pairLawful y i j ⌝ }
+fn pair_passes(layout: Layout, i: u64, j: u64) -> bool
+    requires { ⌜ Ranged layout × (i < layout .k) × (j < i) ⌝ }
+    ensures { λ r. ⌜ r ≡ validPair layout i j ⌝ }
 {
-    let rows = order_check::level(y, i);
-    let cols = order_check::level(y, j);
-    let sparse = y.sparse;
-    let pair = pair_gate::pair_of(y.k, rows, cols, y.diagonal, cols);
+    let rows = order_check::level(layout, i);
+    let cols = order_check::level(layout, j);
+    let sparse = layout.sparse;
+    let pair = pair_gate::pair_of(layout.k, rows, cols, layout.diagonal, cols);
     match pair {
         Pair::Dense => !sparse,
         Pair::Sparse => sparse,
@@ -61,13 +61,13 @@ fn pair_passes(y: Layout, i: u64, j: u64) -> bool
 }
 
 // The pairs of block i with those before it.
-fn row_passes(y: Layout, i: u64) -> bool
-    requires { ⌜ Ranged y × (i < y .k) ⌝ }
-    ensures { λ r. ⌜ r ≡ every (λ j. pairLawful y i j) i ⌝ }
+fn row_passes(layout: Layout, i: u64) -> bool
+    requires { ⌜ Ranged layout × (i < layout .k) ⌝ }
+    ensures { λ r. ⌜ r ≡ every (λ j. validPair layout i j) i ⌝ }
 {
     let mut j: u64 = 0;
     while j < i {
-        if pair_passes(y, i, j) {
+        if pair_passes(layout, i, j) {
             j += 1;
         } else {
             return false;
@@ -77,14 +77,14 @@ fn row_passes(y: Layout, i: u64) -> bool
 }
 
 // All pairs.
-fn pairs_pass(y: Layout) -> bool
-    requires { ⌜ Ranged y ⌝ }
-    ensures { λ r. ⌜ r ≡ every (λ i. every (λ j. pairLawful y i j) i) (y .k) ⌝ }
+fn pairs_pass(layout: Layout) -> bool
+    requires { ⌜ Ranged layout ⌝ }
+    ensures { λ r. ⌜ r ≡ every (λ i. every (λ j. validPair layout i j) i) (layout .k) ⌝ }
 {
-    let k = y.k;
+    let k = layout.k;
     let mut i: u64 = 0;
     while i < k {
-        if row_passes(y, i) {
+        if row_passes(layout, i) {
             i += 1;
         } else {
             return false;
@@ -93,17 +93,18 @@ fn pairs_pass(y: Layout) -> bool
     true
 }
 
-// Whether a layout is lawful.
-pub fn is_lawful(y: Layout) -> bool
-    ensures { λ r. ⌜ r ≡ lawful y ⌝ }
+// Whether a layout is valid.
+pub fn is_valid_layout(layout: Layout) -> bool
+    ensures { λ r. ⌜ r ≡ validLayout layout ⌝ }
 {
-    if counts_check::has_counts(y) {
-        if has_levels(y) {
-            if order_check::is_sorted(y) {
-                if y.q == total(y) {
-                    let two = y.k == 2;
-                    let flags = (!y.diagonal | two) & (!y.sparse | (y.diagonal & two));
-                    return flags & pairs_pass(y);
+    if counts_check::has_counts(layout) {
+        if has_levels(layout) {
+            if order_check::is_sorted(layout) {
+                if layout.q == total(layout) {
+                    let two = layout.k == 2;
+                    let flags = (!layout.diagonal | two)
+                        & (!layout.sparse | (layout.diagonal & two));
+                    return flags & pairs_pass(layout);
                 }
             }
         }

@@ -1,5 +1,5 @@
-// Refusal 20 (document 01): whether the numbers h and a list of doubles are a workspace. Any numbers whatever may stand in h. What is asked is
-// defined in the crate heading_rules, specs/Heading.antt.
+// Refusal 20 (document 01): whether a heading and a list of doubles are a workspace, for any numbers whatever. What is asked is `validHeading` of the
+// crate heading_format, specs/Heading.antt.
 mod counts_check;
 mod forerunner_check;
 mod layout_check;
@@ -10,18 +10,18 @@ pub mod stage_check;
 
 ghost use mathlib.Core.Path.{_≡_};
 ghost use Prim.Native.Nat.{_<_};
-ghost use Rattle.heading_format.specs.Heading.{headed};
+ghost use Rattle.heading_format.specs.Heading.{validHeading};
 
-// Whether h and a list of this many doubles are a workspace.
-pub fn is_headed(h: &[u32], doubles: usize) -> bool
-    ensures { λ r. ⌜ r ≡ headed (now (h .entry)) doubles ⌝ }
+// Whether the heading and a list of this many doubles are a workspace.
+pub fn is_valid_heading(heading: &[u32], doubles: usize) -> bool
+    ensures { λ r. ⌜ r ≡ validHeading (now (heading .entry)) doubles ⌝ }
 {
-    if 128 <= h.len() {
-        if room_check::has_flags(h) {
-            let y = heading::layout(h);
-            if layout_check::is_lawful(y) {
-                if progress_check::is_lawful_progress(h, y.k) {
-                    return room_check::has_room(h, y, doubles);
+    if 128 <= heading.len() {
+        if room_check::has_flags(heading) {
+            let layout = heading::layout(heading);
+            if layout_check::is_valid_layout(layout) {
+                if progress_check::is_valid_progress(heading, layout.k) {
+                    return room_check::has_room(heading, layout, doubles);
                 }
             }
         }

@@ -10,20 +10,20 @@ use layout::Layout;
 use layout_gate::block_order;
 
 // The levels of a sorted block.
-pub fn level(y: Layout, j: u64) -> u64
+pub fn level(layout: Layout, j: u64) -> u64
     requires { ⌜ j < 8 ⌝ }
-    ensures { λ r. ⌜ r ≡ levels y j ⌝ }
+    ensures { λ r. ⌜ r ≡ levels layout j ⌝ }
 {
-    let m = y.m;
+    let m = layout.m;
     m[j as usize]
 }
 
 // The sheet index of a sorted block.
-fn sheet_index(y: Layout, j: u64) -> u64
+fn sheet_index(layout: Layout, j: u64) -> u64
     requires { ⌜ j < 8 ⌝ }
-    ensures { λ r. ⌜ r ≡ getD (y .order) j 0 ⌝ }
+    ensures { λ r. ⌜ r ≡ getD (layout .order) j 0 ⌝ }
 {
-    let order = y.order;
+    let order = layout.order;
     order[j as usize]
 }
 
@@ -40,15 +40,15 @@ fn put(s: [u64; 8], i: u64, v: u64) -> [u64; 8]
 }
 
 // The levels of the blocks by sheet index.
-fn by_sheet(y: Layout) -> [u64; 8]
-    requires { ⌜ y .k ≤ 8 ⌝ }
-    ensures { λ r. ⌜ ((i : ℕ) → i < 8 → getD r i 0 ≡ sheetLevels y (y .k) i) ⌝ }
+fn by_sheet(layout: Layout) -> [u64; 8]
+    requires { ⌜ layout .k ≤ 8 ⌝ }
+    ensures { λ r. ⌜ ((i : ℕ) → i < 8 → getD r i 0 ≡ sheetLevels layout (layout .k) i) ⌝ }
 {
-    let k = y.k;
+    let k = layout.k;
     let mut r = [0u64; 8];
     let mut s: u64 = 0;
     while s < k {
-        let t = put(r, sheet_index(y, s), level(y, s));
+        let t = put(r, sheet_index(layout, s), level(layout, s));
         r = t;
         s += 1;
     }
@@ -72,12 +72,12 @@ fn agree(a: [u64; 8], b: [u64; 8], k: u64) -> bool
 }
 
 // Whether the blocks stand in sorted order.
-pub fn is_sorted(y: Layout) -> bool
-    requires { ⌜ y .k ≤ 8 ⌝ }
-    ensures { λ r. ⌜ r ≡ same (take (y .k) (y .order)) (sorted (sheetLevels y (y .k)) (y .k)) ⌝ }
+pub fn is_sorted(layout: Layout) -> bool
+    requires { ⌜ layout .k ≤ 8 ⌝ }
+    ensures { λ r. ⌜ r ≡ same (take (layout .k) (layout .order)) (sorted (sheetLevels layout (layout .k)) (layout .k)) ⌝ }
 {
-    let m = by_sheet(y);
-    let s = block_order::sorted(m, y.k);
-    let order = y.order;
-    agree(order, s, y.k)
+    let m = by_sheet(layout);
+    let s = block_order::sorted(m, layout.k);
+    let order = layout.order;
+    agree(order, s, layout.k)
 }

@@ -7,12 +7,12 @@ ghost use lib.ListN.{length};
 ghost use Rattle.storage.specs.Runs.{start, triangle};
 ghost use Rattle.step_order.specs.Steps.{S};
 ghost use Rattle.heading_format.specs.Heading.{every};
-ghost use Rattle.heading_check.specs.stage_check.Walk.{stepWith, stepped, told};
+ghost use Rattle.heading_check.specs.stage_check.Walk.{stepWith, stepped, stagesIn};
 
 // What a walk over steps has found: how many are left, and whether each that is done comes after its forerunners.
 pub struct Walk {
     pub left: u64,
-    pub lawful: bool,
+    pub valid: bool,
 }
 
 // A number of the heading as a count.
@@ -31,22 +31,22 @@ fn targets_before(i: u64) -> u64
 }
 
 // The stage of target (i, j).
-pub fn stage(h: &[u32], i: u64, j: u64) -> u64
-    requires { ⌜ (128 ≤ length (now h)) × (j ≤ i) × (i ≤ 8) ⌝ }
-    ensures { λ r. ⌜ r ≡ told (now (h .entry)) i j ⌝ }
+pub fn stage(heading: &[u32], i: u64, j: u64) -> u64
+    requires { ⌜ (128 ≤ length (now heading)) × (j ≤ i) × (i ≤ 8) ⌝ }
+    ensures { λ r. ⌜ r ≡ stagesIn (now (heading .entry)) i j ⌝ }
 {
     let at = 24 + targets_before(i) + j;
-    wide(h[at as usize])
+    wide(heading[at as usize])
 }
 
 // No target of row i is past its last step.
-fn row_bounded(h: &[u32], i: u64) -> bool
-    requires { ⌜ (128 ≤ length (now h)) × (i ≤ 8) ⌝ }
-    ensures { λ r. ⌜ r ≡ every (λ j. leb (told (now (h .entry)) i j) (suc j)) (suc i) ⌝ }
+fn row_bounded(heading: &[u32], i: u64) -> bool
+    requires { ⌜ (128 ≤ length (now heading)) × (i ≤ 8) ⌝ }
+    ensures { λ r. ⌜ r ≡ every (λ j. leb (stagesIn (now (heading .entry)) i j) (suc j)) (suc i) ⌝ }
 {
     let mut j: u64 = 0;
     while j < i + 1 {
-        if stage(h, i, j) <= j + 1 {
+        if stage(heading, i, j) <= j + 1 {
             j += 1;
         } else {
             return false;
@@ -56,13 +56,13 @@ fn row_bounded(h: &[u32], i: u64) -> bool
 }
 
 // No target is.
-pub fn is_bounded(h: &[u32], k: u64) -> bool
-    requires { ⌜ (128 ≤ length (now h)) × (k ≤ 8) ⌝ }
-    ensures { λ r. ⌜ r ≡ every (λ i. every (λ j. leb (told (now (h .entry)) i j) (suc j)) (suc i)) (suc k) ⌝ }
+pub fn is_bounded(heading: &[u32], k: u64) -> bool
+    requires { ⌜ (128 ≤ length (now heading)) × (k ≤ 8) ⌝ }
+    ensures { λ r. ⌜ r ≡ every (λ i. every (λ j. leb (stagesIn (now (heading .entry)) i j) (suc j)) (suc i)) (suc k) ⌝ }
 {
     let mut i: u64 = 0;
     while i < k + 1 {
-        if row_bounded(h, i) {
+        if row_bounded(heading, i) {
             i += 1;
         } else {
             return false;
@@ -79,23 +79,23 @@ fn undone(done: bool) -> u64
 }
 
 // A step more.
-pub fn step(w: Walk, done: bool, ready: bool) -> Walk
+pub fn count_step(w: Walk, done: bool, ready: bool) -> Walk
     requires { ⌜ w .left ≤ 5000 ⌝ }
     ensures { λ r. ⌜ (r ≡ stepWith w done ready) × (r .left ≤ w .left + 1) ⌝ }
 {
     Walk {
         left: w.left + undone(done),
-        lawful: w.lawful & (!done | ready),
+        valid: w.valid & (!done | ready),
     }
 }
 
 // S(i,j,x): after it in its target come others, so those before it are done with it; what is left to see is T(i,x) and T(j,x).
-pub fn subtraction(h: &[u32], w: Walk, i: u64, j: u64, x: u64) -> Walk
-    requires { ⌜ (128 ≤ length (now h)) × (x < j) × (j ≤ i) × (i ≤ 8) × (w .left ≤ 5000) ⌝ }
-    ensures { λ r. ⌜ (r ≡ stepped (told (now (h .entry))) w (S i j x)) × (r .left ≤ w .left + 1) ⌝ }
+pub fn subtraction(heading: &[u32], w: Walk, i: u64, j: u64, x: u64) -> Walk
+    requires { ⌜ (128 ≤ length (now heading)) × (x < j) × (j ≤ i) × (i ≤ 8) × (w .left ≤ 5000) ⌝ }
+    ensures { λ r. ⌜ (r ≡ stepped (stagesIn (now (heading .entry))) w (S i j x)) × (r .left ≤ w .left + 1) ⌝ }
 {
-    let s = stage(h, i, j);
-    let a = stage(h, i, x);
-    let b = stage(h, j, x);
-    step(w, x < s, (x < a) & (x < b))
+    let s = stage(heading, i, j);
+    let a = stage(heading, i, x);
+    let b = stage(heading, j, x);
+    count_step(w, x < s, (x < a) & (x < b))
 }

@@ -12,26 +12,26 @@ use Rattle.layout.specs.declared.Layout.{Layout}
 use Rattle.heading_format.specs.declared.Progress.{Progress}
 use Rattle.layout.specs.Blocks.{insert, sorted, sum, padded}
 use Rattle.layout.specs.Gate.{pairOf}
-use Rattle.heading_format.specs.Heading.{layoutNumbers, progressNumbers, written, layoutOf, progressOf, entryRow, every, same, sheetLevels, lawful, progressLawful, idle, headed}
+use Rattle.heading_format.specs.Heading.{layoutNumbers, progressNumbers, written, layoutOf, progressOf, entryRow, every, same, sheetLevels, validLayout, validProgress, idle, validHeading}
 use Rattle.layout.specs.Shapes.{shape, loadedShape, factors, across, pairs, targets, cellsOf, loadedLength, sumAt, crossCells, factorCells, doublesNeeded}
 use Rattle.layout.proofs.Controls.{two}
-use Rattle.heading_format.proofs.Heading.{rows-back, never-20, sparse-row-refused, idle-lawful}
+use Rattle.heading_format.proofs.Heading.{rows-back, never-20, sparse-row-refused, idle-valid}
 
 -- the row of the second sparse column, whatever the progress
 pub second-row : (g : Progress) → entryRow (written (two false) g ++ (7 ∷ 8 ∷ [])) 1 ≡ 8
 unfolding written layoutNumbers progressNumbers padded
 second-row g = refl
 
--- both layouts are lawful
-pub lawful-two : (lawful (two false) ≡ true) × (lawful (two true) ≡ true)
-unfolding lawful every same sheetLevels sorted insert sum pairOf
-lawful-two = (refl, refl)
+-- both layouts are valid
+pub valid-two : (validLayout (two false) ≡ true) × (validLayout (two true) ≡ true)
+unfolding validLayout every same sheetLevels sorted insert sum pairOf
+valid-two = (refl, refl)
 
 -- a layout whose blocks are not sorted is not, nor one that says another q
-pub unlawful : (lawful (record { n = 9; p = 1; q = 5; k = 2; m = 2 ∷ 3 ∷ replicate 6 0; order = 0 ∷ 1 ∷ replicate 6 0; sparse = false; diagonal = false }) ≡ false)
-    × (lawful (record { n = 9; p = 1; q = 6; k = 2; m = 3 ∷ 2 ∷ replicate 6 0; order = 0 ∷ 1 ∷ replicate 6 0; sparse = false; diagonal = false }) ≡ false)
-unfolding lawful every same sheetLevels sorted insert sum pairOf
-unlawful = (refl, refl)
+pub invalid : (validLayout (record { n = 9; p = 1; q = 5; k = 2; m = 2 ∷ 3 ∷ replicate 6 0; order = 0 ∷ 1 ∷ replicate 6 0; sparse = false; diagonal = false }) ≡ false)
+    × (validLayout (record { n = 9; p = 1; q = 6; k = 2; m = 3 ∷ 2 ∷ replicate 6 0; order = 0 ∷ 1 ∷ replicate 6 0; sparse = false; diagonal = false }) ≡ false)
+unfolding validLayout every same sheetLevels sorted insert sum pairOf
+invalid = (refl, refl)
 
 -- ---- number 20 at numbers of two blocks, written out
 
@@ -57,41 +57,41 @@ abbrev fair : List ℕ
 fair = counts 9 1 5 2 3 2
 
 -- none, under way with no step and with one step done, finished
-pub accepted : (headed (heading fair 0 10 undone) 52 ≡ true) × (headed (heading fair 1 10 undone) 52 ≡ true) × (headed (heading fair 1 9 firstDone) 52 ≡ true)
-    × (headed (heading fair 2 0 allDone) 52 ≡ true)
-unfolding headed layoutOf progressOf lawful progressLawful rustOrder every same sheetLevels sorted insert sum pairOf sumAt loadedLength targets factors pairs across cellsOf shape loadedShape start
+pub accepted : (validHeading (heading fair 0 10 undone) 52 ≡ true) × (validHeading (heading fair 1 10 undone) 52 ≡ true) × (validHeading (heading fair 1 9 firstDone) 52 ≡ true)
+    × (validHeading (heading fair 2 0 allDone) 52 ≡ true)
+unfolding validHeading layoutOf progressOf validLayout validProgress rustOrder every same sheetLevels sorted insert sum pairOf sumAt loadedLength targets factors pairs across cellsOf shape loadedShape start
 accepted = (refl, refl, refl, refl)
 
 -- T(1,0) done and C(0) not
-pub no-forerunner : headed (heading fair 1 9 (0 ∷ 1 ∷ replicate 43 0)) 52 ≡ false
-unfolding headed layoutOf progressOf lawful progressLawful rustOrder every same sheetLevels sorted insert sum pairOf sumAt loadedLength targets factors pairs across cellsOf shape loadedShape start
+pub no-forerunner : validHeading (heading fair 1 9 (0 ∷ 1 ∷ replicate 43 0)) 52 ≡ false
+unfolding validHeading layoutOf progressOf validLayout validProgress rustOrder every same sheetLevels sorted insert sum pairOf sumAt loadedLength targets factors pairs across cellsOf shape loadedShape start
 no-forerunner = refl
 
 -- none with a step done; finished with steps left; a fourth state
-pub other-state : (headed (heading fair 0 9 firstDone) 52 ≡ false) × (headed (heading fair 2 9 firstDone) 52 ≡ false) × (headed (heading fair 3 0 allDone) 52 ≡ false)
-unfolding headed layoutOf progressOf lawful progressLawful rustOrder every same sheetLevels sorted insert sum pairOf sumAt loadedLength targets factors pairs across cellsOf shape loadedShape start
+pub other-state : (validHeading (heading fair 0 9 firstDone) 52 ≡ false) × (validHeading (heading fair 2 9 firstDone) 52 ≡ false) × (validHeading (heading fair 3 0 allDone) 52 ≡ false)
+unfolding validHeading layoutOf progressOf validLayout validProgress rustOrder every same sheetLevels sorted insert sum pairOf sumAt loadedLength targets factors pairs across cellsOf shape loadedShape start
 other-state = (refl, refl, refl)
 
 -- (0,0) past its last step; a step left too many
-pub other-steps : (headed (heading fair 2 0 ((2 ∷ 1 ∷ 2 ∷ 1 ∷ 2 ∷ 3 ∷ []) ++ replicate 39 0)) 52 ≡ false) × (headed (heading fair 1 10 firstDone) 52 ≡ false)
-unfolding headed layoutOf progressOf lawful progressLawful rustOrder every same sheetLevels sorted insert sum pairOf sumAt loadedLength targets factors pairs across cellsOf shape loadedShape start
+pub other-steps : (validHeading (heading fair 2 0 ((2 ∷ 1 ∷ 2 ∷ 1 ∷ 2 ∷ 3 ∷ []) ++ replicate 39 0)) 52 ≡ false) × (validHeading (heading fair 1 10 firstDone) 52 ≡ false)
+unfolding validHeading layoutOf progressOf validLayout validProgress rustOrder every same sheetLevels sorted insert sum pairOf sumAt loadedLength targets factors pairs across cellsOf shape loadedShape start
 other-steps = (refl, refl)
 
 -- a double too few; a number too few
-pub too-short : (headed (heading fair 1 9 firstDone) 51 ≡ false) × (headed (take 127 (heading fair 1 9 firstDone)) 52 ≡ false)
-unfolding headed layoutOf progressOf lawful progressLawful rustOrder every same sheetLevels sorted insert sum pairOf sumAt loadedLength targets factors pairs across cellsOf shape loadedShape start
+pub too-short : (validHeading (heading fair 1 9 firstDone) 51 ≡ false) × (validHeading (take 127 (heading fair 1 9 firstDone)) 52 ≡ false)
+unfolding validHeading layoutOf progressOf validLayout validProgress rustOrder every same sheetLevels sorted insert sum pairOf sumAt loadedLength targets factors pairs across cellsOf shape loadedShape start
 too-short = (refl, refl)
 
 -- q not the sum; blocks not sorted
-pub other-blocks : (headed (heading (counts 9 1 6 2 3 2) 1 9 firstDone) 100 ≡ false) × (headed (heading (counts 9 1 5 2 2 3) 1 9 firstDone) 100 ≡ false)
-unfolding headed layoutOf progressOf lawful progressLawful rustOrder every same sheetLevels sorted insert sum pairOf sumAt loadedLength targets factors pairs across cellsOf shape loadedShape start
+pub other-blocks : (validHeading (heading (counts 9 1 6 2 3 2) 1 9 firstDone) 100 ≡ false) × (validHeading (heading (counts 9 1 5 2 2 3) 1 9 firstDone) 100 ≡ false)
+unfolding validHeading layoutOf progressOf validLayout validProgress rustOrder every same sheetLevels sorted insert sum pairOf sumAt loadedLength targets factors pairs across cellsOf shape loadedShape start
 other-blocks = (refl, refl)
 
 -- n = 0; p = 0; k = 0
-pub nought : (headed (heading (counts 0 1 5 2 3 2) 1 9 firstDone) 100 ≡ false) × (headed (heading (counts 9 0 5 2 3 2) 1 9 firstDone) 100 ≡ false)
-    × (headed (heading (counts 9 1 0 0 0 0) 1 1 undone) 100 ≡ false)
-unfolding headed layoutOf progressOf lawful progressLawful rustOrder every same sheetLevels sorted insert sum pairOf sumAt loadedLength targets factors pairs across cellsOf shape loadedShape start
-nought = (refl, refl, refl)
+pub zero-counts : (validHeading (heading (counts 0 1 5 2 3 2) 1 9 firstDone) 100 ≡ false) × (validHeading (heading (counts 9 0 5 2 3 2) 1 9 firstDone) 100 ≡ false)
+    × (validHeading (heading (counts 9 1 0 0 0 0) 1 1 undone) 100 ≡ false)
+unfolding validHeading layoutOf progressOf validLayout validProgress rustOrder every same sheetLevels sorted insert sum pairOf sumAt loadedLength targets factors pairs across cellsOf shape loadedShape start
+zero-counts = (refl, refl, refl)
 
 -- ---- a sparse pair of 3 × 33,334 cells
 
@@ -105,13 +105,13 @@ thinned = flagged true true
 abbrev small : Layout
 small = record { n = 9; p = 1; q = 5; k = 2; m = 3 ∷ 2 ∷ replicate 6 0; order = 0 ∷ 1 ∷ replicate 6 0; sparse = true; diagonal = true }
 
-pub lawful-thinned : lawful thinned ≡ true
-unfolding lawful every same sheetLevels sorted insert sum pairOf le div ofInt ofBits
-lawful-thinned = refl
+pub valid-thinned : validLayout thinned ≡ true
+unfolding validLayout every same sheetLevels sorted insert sum pairOf le div ofInt ofBits
+valid-thinned = refl
 
 -- the same pair said to be dense, or its block 1 said to be a triangle; a pair of six cells said to be sparse
-pub other-pair : (lawful (flagged false true) ≡ false) × (lawful (flagged true false) ≡ false) × (lawful small ≡ false)
-unfolding lawful every same sheetLevels sorted insert sum pairOf le div ofInt ofBits
+pub other-pair : (validLayout (flagged false true) ≡ false) × (validLayout (flagged true false) ≡ false) × (validLayout small ≡ false)
+unfolding validLayout every same sheetLevels sorted insert sum pairOf le div ofInt ofBits
 other-pair = (refl, refl, refl)
 
 -- X is 33,334 and D is 33,337
@@ -121,16 +121,16 @@ thinned-doubles = refl
 
 -- its heading is accepted with 33,334 rows below 3 behind it, and refused with any other row
 module _ (rows : List ℕ) where
-  pub sparse-accepted : length rows ≡ 33334 → ((c : ℕ) → c < 33334 → getD rows c 0 < 3) → headed (written thinned (idle 2) ++ rows) 266699 ≡ true
+  pub sparse-accepted : length rows ≡ 33334 → ((c : ℕ) → c < 33334 → getD rows c 0 < 3) → validHeading (written thinned (idle 2) ++ rows) 266699 ≡ true
   sparse-accepted e h =
-      never-20 thinned (idle 2) rows 266699 lawful-thinned (idle-lawful 2 (omega arith)) refl refl refl (λ s. (omega arith, h)) (omega (arith, thinned-doubles))
+      never-20 thinned (idle 2) rows 266699 valid-thinned (idle-valid 2 (omega arith)) refl refl refl (λ s. (omega arith, h)) (omega (arith, thinned-doubles))
 
-  pub sparse-refused : (c : ℕ) → c < 33334 → 3 ≤ getD rows c 0 → headed (written thinned (idle 2) ++ rows) 266699 ≡ false
+  pub sparse-refused : (c : ℕ) → c < 33334 → 3 ≤ getD rows c 0 → validHeading (written thinned (idle 2) ++ rows) 266699 ≡ false
   unfolding layoutOf written layoutNumbers progressNumbers padded
   sparse-refused c l h =
       sparse-row-refused (written thinned (idle 2) ++ rows) 266699 c refl l (rw (rows-back thinned (idle 2) rows c) h)
 
 -- a row too few
-pub sparse-short : headed (written thinned (idle 2) ++ replicate 33333 2) 266699 ≡ false
-unfolding headed layoutOf progressOf written layoutNumbers progressNumbers padded lawful progressLawful rustOrder every same sheetLevels sorted insert sum pairOf start le div ofInt ofBits
+pub sparse-short : validHeading (written thinned (idle 2) ++ replicate 33333 2) 266699 ≡ false
+unfolding validHeading layoutOf progressOf written layoutNumbers progressNumbers padded validLayout validProgress rustOrder every same sheetLevels sorted insert sum pairOf start le div ofInt ofBits
 sparse-short = refl

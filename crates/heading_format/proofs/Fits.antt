@@ -1,4 +1,4 @@
--- `headed`, taken apart.
+-- `validHeading`, taken apart.
 use Prim.Native.Nat.{ℕ}
 use mathlib.Core.Path.{_≡_}
 use mathlib.Core.Bool.{Bool, true, not, _&&_, _||_, and-eq-true-iff}
@@ -8,8 +8,8 @@ use lib.ListN.{length, getD}
 use borrow.Author.Tests.{leb-true, ltb-true}
 use Rattle.layout.specs.declared.Layout.{Layout}
 use Rattle.layout.specs.Shapes.{levels, numbersNeeded, doublesNeeded}
-use Rattle.heading_format.specs.Heading.{layoutOf, progressOf, entryRow, every, lawful, progressLawful, headed}
-use Rattle.heading_format.proofs.Lawful.{every-at, unless-at}
+use Rattle.heading_format.specs.Heading.{layoutOf, progressOf, entryRow, every, validLayout, validProgress, validHeading}
+use Rattle.heading_format.proofs.Valid.{every-at, unless-at}
 use Rattle.heading_format.specs.Fits.{Fits}
 
 -- nine tests that all pass
@@ -25,12 +25,12 @@ passed a b c d e f g h i t =
     let t₂ = and-eq-true-iff (a && b) c .0 t₃.0 in
     (and-eq-true-iff a b .0 t₂.0 .0, t₄.1, t₅.1, t₆.1, t₇.1, t₈.1)
 
-pub fits : (h : List ℕ) (doubles : ℕ) → headed h doubles ≡ true → Fits h doubles
-unfolding headed
+pub fits : (h : List ℕ) (doubles : ℕ) → validHeading h doubles ≡ true → Fits h doubles
+unfolding validHeading
 fits h doubles e =
     let y : Layout = layoutOf h in
     let k =
-    passed (leb 128 (length h)) (leb (getD h 20 0) 1) (leb (getD h 21 0) 1) (leb (getD h 22 0) 2) (lawful y) (progressLawful y.k (progressOf h))
+    passed (leb 128 (length h)) (leb (getD h 20 0) 1) (leb (getD h 21 0) 1) (leb (getD h 22 0) 2) (validLayout y) (validProgress y.k (progressOf h))
     (leb (numbersNeeded y) (length h)) (leb (doublesNeeded y) doubles)
     (not y.sparse || every (λ c. ltb (entryRow h c) (levels y 1)) (levels y 0)) e in
     record {

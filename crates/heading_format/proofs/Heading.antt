@@ -1,4 +1,4 @@
--- The heading: what is written is read back, and a lawful workspace is never refused with 20.
+-- The heading: what is written is read back, and a valid workspace is never refused with 20.
 use Prim.Native.Nat.{ℕ, zero, suc, _+_, _≤_, _<_}
 use mathlib.Core.Path.{_≡_, refl, sym, ap, ap₂, _∙_}
 use mathlib.Core.Bool.{Bool, true, false, not, _&&_, _||_, cond}
@@ -28,15 +28,15 @@ use Rattle.heading_format.specs.Heading.{
   progressOf,
   entryRow,
   every,
-  lawful,
-  progressLawful,
+  validLayout,
+  validProgress,
   idle,
   underWay,
-  headed,
+  validHeading,
 }
-use Rattle.heading_format.proofs.Lawful.{both, unless, every-of, every-at, is-false}
+use Rattle.heading_format.proofs.Valid.{both, unless, every-of, every-at, is-false}
 
--- a list of n numbers needs no noughts
+-- a list of n numbers needs no zeros
 padded-same : (n : ℕ) (l : List ℕ) → length l ≡ n → padded n l ≡ l
 unfolding padded
 padded-same zero [] e = refl
@@ -90,15 +90,15 @@ module _ (y : Layout) (g : Progress) where
 
 -- ---- never number 20
 
--- what `headed` asks of a list of numbers that reads as y and g: all but the sparse rows, and those
+-- what `validHeading` asks of a list of numbers that reads as y and g: all but the sparse rows, and those
 abbrev front : List ℕ → ℕ → Layout → Progress → Bool
 front h doubles y g =
     leb 128 (length h)
     && leb (getD h 20 0) 1
     && leb (getD h 21 0) 1
     && leb (getD h 22 0) 2
-    && lawful y
-    && progressLawful y.k g
+    && validLayout y
+    && validProgress y.k g
     && leb (numbersNeeded y) (length h)
     && leb (doublesNeeded y) doubles
 
@@ -108,11 +108,11 @@ sparseRows h y = every (λ c. ltb (entryRow h c) (levels y 1)) (levels y 0)
 abbrev asked : List ℕ → ℕ → Layout → Progress → Bool
 asked h doubles y g = front h doubles y g && (not y.sparse || sparseRows h y)
 
-headed-of : (h : List ℕ) (doubles : ℕ) (y : Layout) (g : Progress) → layoutOf h ≡ y → progressOf h ≡ g → 128 ≤ length h → getD h 20 0 ≤ 1
-    → getD h 21 0 ≤ 1 → getD h 22 0 ≤ 2 → lawful y ≡ true → progressLawful (y .k) g ≡ true → numbersNeeded y ≤ length h → doublesNeeded y ≤ doubles
-    → (y .sparse ≡ true → (c : ℕ) → c < levels y 0 → entryRow h c < levels y 1) → headed h doubles ≡ true
-unfolding headed
-headed-of h doubles y g e f long sparse diagonal state ok going numbers room rows =
+valid-heading-of : (h : List ℕ) (doubles : ℕ) (y : Layout) (g : Progress) → layoutOf h ≡ y → progressOf h ≡ g → 128 ≤ length h → getD h 20 0 ≤ 1
+    → getD h 21 0 ≤ 1 → getD h 22 0 ≤ 2 → validLayout y ≡ true → validProgress (y .k) g ≡ true → numbersNeeded y ≤ length h → doublesNeeded y ≤ doubles
+    → (y .sparse ≡ true → (c : ℕ) → c < levels y 0 → entryRow h c < levels y 1) → validHeading h doubles ≡ true
+unfolding validHeading
+valid-heading-of h doubles y g e f long sparse diagonal state ok going numbers room rows =
     ap₂ (asked h doubles) e f
     ∙ both _ _
     (both _ _
@@ -141,14 +141,14 @@ numbers-of : (b : Bool) (m n : ℕ) → (b ≡ true → m ≤ n) → 128 + cond 
 numbers-of true m n h = omega (arith, h refl)
 numbers-of false m n h = omega arith
 
--- what is written of a lawful layout and progress, with the rows of a sparse pair behind it and doubles enough, is a workspace
-pub never-20 : (y : Layout) (g : Progress) (rows : List ℕ) (doubles : ℕ) → lawful y ≡ true → progressLawful (y .k) g ≡ true → length (y .m) ≡ 8
+-- what is written of a valid layout and progress, with the rows of a sparse pair behind it and doubles enough, is a workspace
+pub never-20 : (y : Layout) (g : Progress) (rows : List ℕ) (doubles : ℕ) → validLayout y ≡ true → validProgress (y .k) g ≡ true → length (y .m) ≡ 8
     → length (y .order) ≡ 8 → length (g .stages) ≡ 45
     → (y .sparse ≡ true → (levels y 0 ≤ length rows) × ((c : ℕ) → c < levels y 0 → getD rows c 0 < levels y 1)) → doublesNeeded y ≤ doubles
-    → headed (written y g ++ rows) doubles ≡ true
+    → validHeading (written y g ++ rows) doubles ≡ true
 unfolding written layoutNumbers progressNumbers padded
 never-20 y g rows doubles ok going a b c sparse room =
-    headed-of (written y g ++ rows) doubles y g (layout-back y g rows a b) (progress-back y g rows c) (omega (arith, long)) (bit-small y.sparse)
+    valid-heading-of (written y g ++ rows) doubles y g (layout-back y g rows a b) (progress-back y g rows c) (omega (arith, long)) (bit-small y.sparse)
     (bit-small y.diagonal) (state-small g.state) ok going (rw long (numbers-of y.sparse (levels y 0) (length rows) (λ s. sparse s .0))) room
     (λ s i h. rw (rows-back y g rows i) (sparse s .1 i h))
   where
@@ -163,8 +163,8 @@ last-fails false b e = refl
 
 -- a heading with a sparse row that is not below the levels of block 1 is refused
 pub sparse-row-refused : (h : List ℕ) (doubles c : ℕ) → layoutOf h .sparse ≡ true → c < levels (layoutOf h) 0 → levels (layoutOf h) 1 ≤ entryRow h c
-    → headed h doubles ≡ false
-unfolding headed
+    → validHeading h doubles ≡ false
+unfolding validHeading
 sparse-row-refused h doubles c s l bad =
     last-fails (front h doubles y (progressOf h)) (not y.sparse || sparseRows h y) (rw s (is-false (sparseRows h y) wrong))
   where
@@ -177,18 +177,18 @@ sparse-row-refused h doubles c s l bad =
         ltb-true (entryRow h c) (levels y 1) (every-at (λ i. ltb (entryRow h i) (levels y 1)) (levels y 0) e c l) in
         omega arith
 
--- ---- progress none and an update just begun are lawful, for every number of blocks
+-- ---- progress none and an update just begun are valid, for every number of blocks
 
-idle-each : every (λ k. progressLawful k (idle k)) 9 ≡ true
-unfolding every progressLawful rustOrder start
+idle-each : every (λ k. validProgress k (idle k)) 9 ≡ true
+unfolding every validProgress rustOrder start
 idle-each = refl
 
-under-way-each : every (λ k. progressLawful k (underWay k)) 9 ≡ true
-unfolding every progressLawful rustOrder start
+under-way-each : every (λ k. validProgress k (underWay k)) 9 ≡ true
+unfolding every validProgress rustOrder start
 under-way-each = refl
 
-pub idle-lawful : (k : ℕ) → k ≤ 8 → progressLawful k (idle k) ≡ true
-idle-lawful k h = every-at (λ k. progressLawful k (idle k)) 9 idle-each k (omega arith)
+pub idle-valid : (k : ℕ) → k ≤ 8 → validProgress k (idle k) ≡ true
+idle-valid k h = every-at (λ k. validProgress k (idle k)) 9 idle-each k (omega arith)
 
-pub under-way-lawful : (k : ℕ) → k ≤ 8 → progressLawful k (underWay k) ≡ true
-under-way-lawful k h = every-at (λ k. progressLawful k (underWay k)) 9 under-way-each k (omega arith)
+pub under-way-valid : (k : ℕ) → k ≤ 8 → validProgress k (underWay k) ≡ true
+under-way-valid k h = every-at (λ k. validProgress k (underWay k)) 9 under-way-each k (omega arith)

@@ -1,4 +1,4 @@
-pub mod Lawful
+pub mod Valid
 pub mod Sorted
 pub mod Heading
 pub mod Fits

@@ -5,7 +5,7 @@ use mathlib.Core.List.{List, [], _∷_, _++_}
 use lib.Dec.{ltb, leb, eqb}
 use lib.ListN.{length, getD, take, drop, replicate}
 use Rattle.storage.specs.Runs.{start, triangle}
-use Rattle.step_order.specs.Steps.{Step, rustOrder, after}
+use Rattle.step_order.specs.Steps.{Step, rustOrder, forerunners}
 use Rattle.step_order.specs.Progress.{all, stepsLeft, done}
 use Rattle.layout.specs.declared.Layout.{Layout}
 use Rattle.heading_format.specs.declared.Progress.{Progress}
@@ -17,7 +17,7 @@ use Rattle.layout.specs.Blocks.{sum, sorted, padded}
 use Rattle.layout.specs.Gate.{pairOf}
 use Rattle.layout.specs.Shapes.{levels, numbersNeeded, doublesNeeded}
 
--- ---- the 128 numbers: n p q k; levels and sheet index of eight sorted blocks; sparse, diagonal; state, steps left; 45 stages by rows; noughts
+-- ---- the 128 numbers: n p q k; levels and sheet index of eight sorted blocks; sparse, diagonal; state, steps left; 45 stages by rows; zeros
 abbrev pub bit : Bool → ℕ
 bit b = cond b 1 0
 
@@ -67,7 +67,7 @@ stageOf g i j = getD (g .stages) (start triangle i + j) 0
 abbrev pub entryRow : List ℕ → ℕ → ℕ
 entryRow h c = getD h (128 + c) 0
 
--- ---- a lawful layout: what Records 1 and 2 allow
+-- ---- a valid layout: what Records 1 and 2 allow
 -- every number below n passes
 unfoldable pub every : (ℕ → Bool) → ℕ → Bool
 every f zero = true
@@ -98,14 +98,14 @@ isSparse Sparse = true
 isSparse (Refused n) = false
 
 -- The gate by the counts alone, since no double is tested: with one entry in each column, which a diagonal block 1 says, a pair has as many entries as columns.
-abbrev pub pairLawful : Layout → ℕ → ℕ → Bool
-pairLawful y i j =
+abbrev pub validPair : Layout → ℕ → ℕ → Bool
+validPair y i j =
     let pair = pairOf (y .k) (levels y i) (levels y j) (y .diagonal) (levels y j) in
     cond (y .sparse) (isSparse pair) (isDense pair)
 
-unfoldable pub lawful : Layout → Bool
+unfoldable pub validLayout : Layout → Bool
 unfolding every same sheetLevels sorted sum pairOf
-lawful y =
+validLayout y =
     within 1 1000000000 (y .n)
     && within 1 32 (y .p)
     && within 1 8 (y .k)
@@ -114,26 +114,26 @@ lawful y =
     && eqb (y .q) (sum (levels y) (y .k))
     && (not (y .diagonal) || eqb (y .k) 2)
     && (not (y .sparse) || (y .diagonal && eqb (y .k) 2))
-    && every (λ i. every (λ j. pairLawful y i j) i) (y .k)
+    && every (λ i. every (λ j. validPair y i j) i) (y .k)
 
--- ---- a lawful progress: the steps left are those outside the set, no step is done without its forerunners, no stage is past its target's last step;
+-- ---- a valid progress: the steps left are those outside the set, no step is done without its forerunners, no stage is past its target's last step;
 -- with no update under way nothing is done, and an update is finished when no step is left
-abbrev pub forerun : (ℕ → ℕ → ℕ) → List Step → Bool
-forerun g [] = true
-forerun g (s ∷ l) = (not (done g s) || all (done g) (after s)) && forerun g l
+abbrev pub forerunnersDone : (ℕ → ℕ → ℕ) → List Step → Bool
+forerunnersDone g [] = true
+forerunnersDone g (s ∷ l) = (not (done g s) || all (done g) (forerunners s)) && forerunnersDone g l
 
-abbrev pub stateLawful : State → ℕ → ℕ → Bool
-stateLawful Idle left every-step = eqb left every-step
-stateLawful UnderWay left every-step = ltb 0 left
-stateLawful Finished left every-step = eqb left 0
+abbrev pub validState : State → ℕ → ℕ → Bool
+validState Idle left every-step = eqb left every-step
+validState UnderWay left every-step = ltb 0 left
+validState Finished left every-step = eqb left 0
 
-unfoldable pub progressLawful : ℕ → Progress → Bool
+unfoldable pub validProgress : ℕ → Progress → Bool
 unfolding every rustOrder
-progressLawful k g =
+validProgress k g =
     every (λ i. every (λ j. leb (stageOf g i j) (suc j)) (suc i)) (suc k)
     && eqb (g .left) (stepsLeft k (done (stageOf g)))
-    && forerun (stageOf g) (rustOrder k)
-    && stateLawful (g .state) (g .left) (length (rustOrder k))
+    && forerunnersDone (stageOf g) (rustOrder k)
+    && validState (g .state) (g .left) (length (rustOrder k))
 
 -- progress none: nothing is done, every step is left
 abbrev pub idle : ℕ → Progress
@@ -144,15 +144,15 @@ abbrev pub underWay : ℕ → Progress
 underWay k = record { state = UnderWay; left = length (rustOrder k); stages = replicate 45 0 }
 
 -- ---- h and a list of this many doubles are a workspace; where they are not, number 20
-unfoldable pub headed : List ℕ → ℕ → Bool
-unfolding layoutOf progressOf lawful progressLawful every
-headed h doubles =
+unfoldable pub validHeading : List ℕ → ℕ → Bool
+unfolding layoutOf progressOf validLayout validProgress every
+validHeading h doubles =
     leb 128 (length h)
     && leb (getD h 20 0) 1
     && leb (getD h 21 0) 1
     && leb (getD h 22 0) 2
-    && lawful (layoutOf h)
-    && progressLawful (layoutOf h .k) (progressOf h)
+    && validLayout (layoutOf h)
+    && validProgress (layoutOf h .k) (progressOf h)
     && leb (numbersNeeded (layoutOf h)) (length h)
     && leb (doublesNeeded (layoutOf h)) doubles
     && (not (layoutOf h .sparse) || every (λ c. ltb (entryRow h c) (levels (layoutOf h) 1)) (levels (layoutOf h) 0))

@@ -1,5 +1,5 @@
-// The progress of an update, the heading's numbers and number 20 (document 01, Records 2 and 5): the structs that calls hand on by value.
-// Definitions are in specs/.
+// What the heading's numbers mean (document 01, Records 2 and 5), and when they are refused with 20, as definitions in specs/; the progress of an
+// update as a struct that calls hand on by value.
 ghost use mathlib.Core.Path.{_≡_};
 ghost use Prim.Native.Nat.{_<_, _≤_};
 ghost use Rattle.heading_format.specs.Marked.{marked};

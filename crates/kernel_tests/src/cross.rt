@@ -7,56 +7,56 @@ use cross_block::divide_columns;
 use cross_block::scaling;
 use schur::sparse_schur;
 
-pub fn divide_columns(x: Case, w: &mut [f64]) -> u64
+pub fn divide_columns(x: Case, doubles: &mut [f64]) -> u64
     requires { ⌜ Small x ⌝ }
 {
     let size = kernel_sizes::columns_size(x.p1, x.p2);
-    if kernel_sizes::clash(w.len(), x.p0, size, x.p3, x.p2) {
+    if kernel_sizes::clash(doubles.len(), x.p0, size, x.p3, x.p2) {
         return OUT_OF_FORM;
     }
-    divide_columns::divide_columns(w, x.p0, x.p1, x.p2, x.p3);
+    divide_columns::divide_columns(doubles, x.p0, x.p1, x.p2, x.p3);
     0
 }
 
-pub fn solve_rows(x: Case, w: &mut [f64]) -> u64
+pub fn solve_rows(x: Case, doubles: &mut [f64]) -> u64
     requires { ⌜ Small x ⌝ }
 {
     let size = kernel_sizes::columns_size(x.p1, x.p2);
     let factor = kernel_sizes::packed_size(x.p2);
-    if (x.p1 > kernel_sizes::ROWS) | kernel_sizes::clash(w.len(), x.p0, size, x.p3, factor) {
+    if (x.p1 > kernel_sizes::ROWS) | kernel_sizes::clash(doubles.len(), x.p0, size, x.p3, factor) {
         return OUT_OF_FORM;
     }
-    cross_block::solve_rows(w, x.p0, x.p1, x.p2, x.p3);
+    cross_block::solve_rows(doubles, x.p0, x.p1, x.p2, x.p3);
     0
 }
 
-pub fn subtract_sparse(x: Case, w: &mut [f64], h: &[u32]) -> u64
+pub fn subtract_sparse(x: Case, doubles: &mut [f64], heading: &[u32]) -> u64
     requires { ⌜ Small x ⌝ }
 {
     let size = kernel_sizes::columns_size(x.p1, x.p2);
     let source = kernel_sizes::columns_size(x.p1, x.p5);
     if (x.p1 > kernel_sizes::ROWS)
-        | kernel_sizes::clash(w.len(), x.p0, size, x.p3, source)
-        | kernel_sizes::clash(w.len(), x.p0, size, x.p4, x.p5)
-        | kernel_sizes::bad_rows(h, x.p6, x.p5, x.p2)
+        | kernel_sizes::clash(doubles.len(), x.p0, size, x.p3, source)
+        | kernel_sizes::clash(doubles.len(), x.p0, size, x.p4, x.p5)
+        | kernel_sizes::bad_rows(heading, x.p6, x.p5, x.p2)
     {
         return OUT_OF_FORM;
     }
-    sparse_schur::subtract_sparse(w, x.p0, x.p1, x.p2, x.p3, x.p4, x.p5, h, x.p6);
+    sparse_schur::subtract_sparse(doubles, x.p0, x.p1, x.p2, x.p3, x.p4, x.p5, heading, x.p6);
     0
 }
 
 // scale_twice and scale_once.
-pub fn scale(x: Case, w: &mut [f64]) -> u64
+pub fn scale(x: Case, doubles: &mut [f64]) -> u64
     requires { ⌜ Small x ⌝ }
 {
-    if kernel_sizes::clash(w.len(), x.p0, x.p2, x.p1, x.p2) {
+    if kernel_sizes::clash(doubles.len(), x.p0, x.p2, x.p1, x.p2) {
         return OUT_OF_FORM;
     }
     if x.kernel == 10 {
-        scaling::scale_twice(w, x.p0, x.p1, x.p2, x.s, x.t);
+        scaling::scale_twice(doubles, x.p0, x.p1, x.p2, x.s, x.t);
         return 0;
     }
-    scaling::scale_once(w, x.p0, x.p1, x.p2, x.s);
+    scaling::scale_once(doubles, x.p0, x.p1, x.p2, x.s);
     0
 }

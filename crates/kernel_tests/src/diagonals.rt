@@ -6,29 +6,38 @@ use crate::kernel_sizes;
 use schur::rank_diagonal;
 use schur::rank_diagonal_sparse;
 
-pub fn rank_sub_diagonal(x: Case, w: &mut [f64]) -> u64
+pub fn rank_sub_diagonal(x: Case, doubles: &mut [f64]) -> u64
     requires { ⌜ Small x ⌝ }
 {
     let size = kernel_sizes::columns_size(x.p1, x.p3);
     if (x.p1 > kernel_sizes::ROWS)
-        | kernel_sizes::clash(w.len(), x.p0, x.p1, x.p2, size)
-        | kernel_sizes::clash(w.len(), x.p0, x.p1, x.p4, size)
+        | kernel_sizes::clash(doubles.len(), x.p0, x.p1, x.p2, size)
+        | kernel_sizes::clash(doubles.len(), x.p0, x.p1, x.p4, size)
     {
         return OUT_OF_FORM;
     }
-    rank_diagonal::rank_sub_diagonal(w, x.p0, x.p1, x.p2, x.p3, x.p4);
+    rank_diagonal::rank_sub_diagonal(doubles, x.p0, x.p1, x.p2, x.p3, x.p4);
     0
 }
 
-pub fn rank_sub_diagonal_sparse(x: Case, w: &mut [f64], h: &[u32]) -> u64
+pub fn rank_sub_diagonal_sparse(x: Case, doubles: &mut [f64], heading: &[u32]) -> u64
     requires { ⌜ Small x ⌝ }
 {
-    if (x.p5 + x.p3 > h.len())
-        | kernel_sizes::clash(w.len(), x.p0, x.p1, x.p2, x.p3)
-        | kernel_sizes::clash(w.len(), x.p0, x.p1, x.p4, x.p3)
+    if (x.p5 + x.p3 > heading.len())
+        | kernel_sizes::clash(doubles.len(), x.p0, x.p1, x.p2, x.p3)
+        | kernel_sizes::clash(doubles.len(), x.p0, x.p1, x.p4, x.p3)
     {
         return OUT_OF_FORM;
     }
-    rank_diagonal_sparse::rank_sub_diagonal_sparse(w, x.p0, x.p1, x.p2, x.p3, x.p4, h, x.p5);
+    rank_diagonal_sparse::rank_sub_diagonal_sparse(
+        doubles,
+        x.p0,
+        x.p1,
+        x.p2,
+        x.p3,
+        x.p4,
+        heading,
+        x.p5,
+    );
     0
 }

@@ -11,83 +11,83 @@ use re_factor::block_solve;
 use re_factor::diagonal_init;
 use re_factor::triangle_init;
 
-pub fn init(x: Case, w: &mut [f64]) -> u64
+pub fn init(x: Case, doubles: &mut [f64]) -> u64
     requires { ⌜ Small x ⌝ }
 {
     let size = kernel_sizes::packed_size(x.p1);
-    if kernel_sizes::clash(w.len(), x.p0, size, x.p2, x.p1) {
+    if kernel_sizes::clash(doubles.len(), x.p0, size, x.p2, x.p1) {
         return OUT_OF_FORM;
     }
-    triangle_init::init(w, x.p0, x.p1, x.p2, x.s);
+    triangle_init::init(doubles, x.p0, x.p1, x.p2, x.s);
     0
 }
 
-pub fn init_diagonal(x: Case, w: &mut [f64]) -> u64
+pub fn init_diagonal(x: Case, doubles: &mut [f64]) -> u64
     requires { ⌜ Small x ⌝ }
 {
-    if kernel_sizes::clash(w.len(), x.p0, x.p1, x.p2, x.p1) {
+    if kernel_sizes::clash(doubles.len(), x.p0, x.p1, x.p2, x.p1) {
         return OUT_OF_FORM;
     }
-    diagonal_init::init_diagonal(w, x.p0, x.p1, x.p2, x.s);
+    diagonal_init::init_diagonal(doubles, x.p0, x.p1, x.p2, x.s);
     0
 }
 
 // chol, log_pivots and logs_later.
-pub fn packed_block(x: Case, w: &mut [f64]) -> u64
+pub fn packed_block(x: Case, doubles: &mut [f64]) -> u64
     requires { ⌜ Small x ⌝ }
 {
-    if kernel_sizes::no_packed(w.len(), x.p0, x.p1) {
+    if kernel_sizes::no_packed(doubles.len(), x.p0, x.p1) {
         return OUT_OF_FORM;
     }
     if x.kernel == 22 {
-        return answer::row(re_factor::chol(w, x.p0, x.p1));
+        return answer::row(re_factor::chol(doubles, x.p0, x.p1));
     }
     if x.kernel == 24 {
-        return words::word_of(block_logs::log_pivots(w, x.p0, x.p1, x.s));
+        return words::word_of(block_logs::log_pivots(doubles, x.p0, x.p1, x.s));
     }
-    words::word_of(block_logs::logs_later(w, x.p0, x.p1, x.s))
+    words::word_of(block_logs::logs_later(doubles, x.p0, x.p1, x.s))
 }
 
 // chol_diagonal, log_diagonal and logs_later_diagonal.
-pub fn diagonal_block(x: Case, w: &mut [f64]) -> u64
+pub fn diagonal_block(x: Case, doubles: &mut [f64]) -> u64
     requires { ⌜ Small x ⌝ }
 {
-    if x.p0 + x.p1 > w.len() {
+    if x.p0 + x.p1 > doubles.len() {
         return OUT_OF_FORM;
     }
     if x.kernel == 23 {
-        return answer::row(re_factor::chol_diagonal(w, x.p0, x.p1));
+        return answer::row(re_factor::chol_diagonal(doubles, x.p0, x.p1));
     }
     if x.kernel == 25 {
-        return words::word_of(block_logs::log_diagonal(w, x.p0, x.p1, x.s));
+        return words::word_of(block_logs::log_diagonal(doubles, x.p0, x.p1, x.s));
     }
-    words::word_of(block_logs::logs_later_diagonal(w, x.p0, x.p1, x.s))
+    words::word_of(block_logs::logs_later_diagonal(doubles, x.p0, x.p1, x.s))
 }
 
 // forward and backward.
-pub fn solve(x: Case, w: &mut [f64], v: &[f64]) -> u64
+pub fn solve(x: Case, doubles: &mut [f64], v: &[f64]) -> u64
     requires { ⌜ Small x ⌝ }
 {
-    if (x.p0 + x.p2 > w.len()) | kernel_sizes::no_packed(v.len(), x.p1, x.p2) {
+    if (x.p0 + x.p2 > doubles.len()) | kernel_sizes::no_packed(v.len(), x.p1, x.p2) {
         return OUT_OF_FORM;
     }
     if x.kernel == 28 {
-        block_solve::forward(w, x.p0, v, x.p1, x.p2);
+        block_solve::forward(doubles, x.p0, v, x.p1, x.p2);
         return 0;
     }
-    block_solve::backward(w, x.p0, v, x.p1, x.p2);
+    block_solve::backward(doubles, x.p0, v, x.p1, x.p2);
     0
 }
 
-pub fn divide(x: Case, w: &mut [f64], v: &[f64]) -> u64
+pub fn divide(x: Case, doubles: &mut [f64], v: &[f64]) -> u64
     requires { ⌜ Small x ⌝ }
 {
-    if x.p0 + x.p2 > w.len() {
+    if x.p0 + x.p2 > doubles.len() {
         return OUT_OF_FORM;
     }
     if x.p1 + x.p2 > v.len() {
         return OUT_OF_FORM;
     }
-    block_divide::divide(w, x.p0, v, x.p1, x.p2);
+    block_divide::divide(doubles, x.p0, v, x.p1, x.p2);
     0
 }

@@ -55,17 +55,17 @@ pub fn clash(len: usize, off: usize, n: usize, a: usize, m: usize) -> bool
     a + m > off
 }
 
-// Whether any of the n row numbers of h from first on is missing, or not below m.
-pub fn bad_rows(h: &[u32], first: usize, n: usize, m: usize) -> bool
+// Whether any of the n row numbers of the heading from first on is missing, or not below m.
+pub fn bad_rows(heading: &[u32], first: usize, n: usize, m: usize) -> bool
     requires { ⌜ (first ≤ 65535) × (n ≤ 65535) ⌝ }
-    ensures { λ r. ⌜ (r ≡ false → (first + n ≤ length (now (h .entry))) × RowsBelow (now (h .entry)) first n m) ⌝ }
+    ensures { λ r. ⌜ (r ≡ false → (first + n ≤ length (now (heading .entry))) × RowsBelow (now (heading .entry)) first n m) ⌝ }
 {
-    if first + n > h.len() {
+    if first + n > heading.len() {
         return true;
     }
     let mut i = 0;
     while i < n {
-        if wide(h[first + i]) >= m {
+        if wide(heading[first + i]) >= m {
             return true;
         }
         i += 1;

@@ -1,4 +1,4 @@
-// Runs the kernels on the cases of standard input and prints what each answers and leaves: the file stdout has what they must. tools/kernel_list.py
+// Test program: runs the kernels on a list of cases and prints what each answers and leaves. The file stdout has what they must; tools/kernel_list.py
 // makes both, and says what the words of a case are.
 mod answer;
 mod case;
@@ -63,7 +63,7 @@ fn case_of(m: &[u64; 65536]) -> Case
 }
 
 // The doubles of the words from `from` on.
-fn doubles(m: &[u64; 65536], from: usize) -> [f64; 8704]
+fn doubles_of(m: &[u64; 65536], from: usize) -> [f64; 8704]
     requires { ⌜ from ≤ 50000 ⌝ }
 {
     let mut w = [0f64; 8704];
@@ -99,8 +99,8 @@ fn print_answer(m: &[u64; 65536], answer: u64) {
     test_words::print_word(answer);
 }
 
-// The first n doubles of w, but those that the kernel may leave as it likes.
-fn print_list(m: &[u64; 65536], w: &[f64; 8704], n: usize)
+// The first n of the doubles, but those that the kernel may leave as it likes.
+fn print_list(m: &[u64; 65536], doubles: &[f64; 8704], n: usize)
     requires { ⌜ n ≤ 8704 ⌝ }
 {
     let free = size_at(m, 13, DOUBLES);
@@ -108,28 +108,28 @@ fn print_list(m: &[u64; 65536], w: &[f64; 8704], n: usize)
     let mut i: usize = 0;
     while i < n {
         if (i < free) | (i >= end) {
-            test_words::print_word(words::word_of(w[i]));
+            test_words::print_word(words::word_of(doubles[i]));
         }
         i += 1;
     }
 }
 
-// What the case's kernel answers on w, which begins with what it is lent, and on lists v and h of the case's own lengths.
-fn answered(m: &[u64; 65536], w: &mut [f64], from: usize) -> u64
+// What the case's kernel answers on `doubles`, which begins with what it is lent, and on lists v and h of the case's own lengths.
+fn answered(m: &[u64; 65536], doubles: &mut [f64], from: usize) -> u64
     requires { ⌜ from ≤ 9000 ⌝ }
 {
     let n = size_at(m, 16, DOUBLES);
-    let v = doubles(m, from);
+    let v = doubles_of(m, from);
     let h = rows(m, from + n);
     let a = size_at(m, 12, n);
     let r = size_at(m, 17, ROWS);
-    numbered::run(case_of(m), w, &v[a..n], &h[..r])
+    numbered::run(case_of(m), doubles, &v[a..n], &h[..r])
 }
 
 fn run_case(m: &[u64; 65536]) {
     let n = size_at(m, 15, DOUBLES);
     let a = size_at(m, 11, n);
-    let mut w = doubles(m, HEAD);
+    let mut w = doubles_of(m, HEAD);
     let answer = answered(m, &mut w[a..n], HEAD + n);
     print_answer(m, answer);
     print_list(m, &w, n);

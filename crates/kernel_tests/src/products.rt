@@ -7,35 +7,35 @@ use schur::dense_triangle;
 use schur::last_triangle;
 use schur::schur_dense;
 
-pub fn subtract_dense(x: Case, w: &mut [f64]) -> u64
+pub fn subtract_dense(x: Case, doubles: &mut [f64]) -> u64
     requires { ⌜ Small x ⌝ }
 {
     let size = kernel_sizes::columns_size(x.p1, x.p2);
     let left = kernel_sizes::columns_size(x.p1, x.p5);
     let right = kernel_sizes::columns_size(x.p2, x.p5);
     if (x.p1 > kernel_sizes::ROWS)
-        | kernel_sizes::clash(w.len(), x.p0, size, x.p3, left)
-        | kernel_sizes::clash(w.len(), x.p0, size, x.p4, right)
+        | kernel_sizes::clash(doubles.len(), x.p0, size, x.p3, left)
+        | kernel_sizes::clash(doubles.len(), x.p0, size, x.p4, right)
     {
         return OUT_OF_FORM;
     }
-    schur_dense::subtract_dense(w, x.p0, x.p1, x.p2, x.p3, x.p4, x.p5);
+    schur_dense::subtract_dense(doubles, x.p0, x.p1, x.p2, x.p3, x.p4, x.p5);
     0
 }
 
 // rank_sub and subtract_last.
-pub fn subtract_square(x: Case, w: &mut [f64]) -> u64
+pub fn subtract_square(x: Case, doubles: &mut [f64]) -> u64
     requires { ⌜ Small x ⌝ }
 {
     let size = kernel_sizes::packed_size(x.p1);
     let source = kernel_sizes::columns_size(x.p1, x.p3);
-    if (x.p1 > kernel_sizes::ROWS) | kernel_sizes::clash(w.len(), x.p0, size, x.p2, source) {
+    if (x.p1 > kernel_sizes::ROWS) | kernel_sizes::clash(doubles.len(), x.p0, size, x.p2, source) {
         return OUT_OF_FORM;
     }
     if x.kernel == 14 {
-        dense_triangle::rank_sub(w, x.p0, x.p1, x.p2, x.p3);
+        dense_triangle::rank_sub(doubles, x.p0, x.p1, x.p2, x.p3);
         return 0;
     }
-    last_triangle::subtract_last(w, x.p0, x.p1, x.p2, x.p3);
+    last_triangle::subtract_last(doubles, x.p0, x.p1, x.p2, x.p3);
     0
 }

@@ -15,9 +15,9 @@ numberOf n (Refused r) = r
 pub record TriangleAnswered (t t′ : List Float) (n k : ℕ) : Type 0 where
   pub answer : Pivots
   pub left : TriangleDone t t′ n answer
-  pub told : k ≡ numberOf n answer
+  pub number-is : k ≡ numberOf n answer
 
 pub record DiagonalAnswered (t t′ : List Float) (n k : ℕ) : Type 0 where
   pub answer : Pivots
   pub left : DiagonalDone t t′ n answer
-  pub told : k ≡ numberOf n answer
+  pub number-is : k ≡ numberOf n answer

@@ -69,7 +69,7 @@ unfolding sorted sum
 over-sorted m f zero = refl
 over-sorted m f (suc k) = omega (arith, over-insert m f k (sorted m k), over-sorted m f k)
 
--- ---- a list with noughts behind it
+-- ---- a list with zeros behind it
 
 pub padded-at : (n : ℕ) (l : List ℕ) (i : ℕ) → i < n → getD (padded n l) i 0 ≡ getD l i 0
 unfolding padded

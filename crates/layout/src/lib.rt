@@ -1,4 +1,5 @@
-// The layout of a workspace: the structs that calls hand on by value. Definitions are in specs/.
+// The layout of a workspace (document 01, Record 2), as definitions in specs/: sorted blocks, the gate, shapes and places of the blocks; and the
+// structs that calls hand on by value.
 
 // What Record 2 makes of a sheet: the counts; levels and sheet index of each sorted block, 0 past the last; and how the blocks are stored.
 pub struct Layout {

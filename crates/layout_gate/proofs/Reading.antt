@@ -22,7 +22,7 @@ use Rattle.sheet_checks.specs.levels.Held.{Holds, levelList}
 use Rattle.sheet_checks.proofs.levels.Sums.{levels-small}
 use Rattle.layout_gate.specs.column_entries.Columns.{eachOne}
 use Rattle.workspace.specs.Loaded.{rowStart, oneEach, sheetM, sortedLayout, layoutOfSheet}
-use Rattle.workspace.proofs.Lawful.{levelsIn, order-at, levels-at, sheet-levels, diagonal-is}
+use Rattle.workspace.proofs.Valid.{levelsIn, order-at, levels-at, sheet-levels, diagonal-is}
 use Rattle.layout_gate.specs.Ordered.{Ordered}
 
 -- ---- functions that agree below n

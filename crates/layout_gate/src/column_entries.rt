@@ -33,22 +33,22 @@ fn in_pair(col: u64, row: u64, from: u64, cols: u64, at: u64, rows: u64) -> u64
 }
 
 // The zz line at a position.
-fn entry_line(s: &[u8], at: usize) -> Line
-    ensures { λ r. ⌜ r ≡ pairLine zzTag (now (s .entry)) at ⌝ }
+fn entry_line(bytes: &[u8], at: usize) -> Line
+    ensures { λ r. ⌜ r ≡ pairLine zzTag (now (bytes .entry)) at ⌝ }
 {
-    pair_line::pair_line(b"zz\t", s, at)
+    pair_line::pair_line(b"zz\t", bytes, at)
 }
 
 // One pass over n zz lines that start at a position.
-fn in_turn(s: &[u8], start: usize, n: u64, from: u64, cols: u64, at: u64, rows: u64) -> bool
+fn in_turn(bytes: &[u8], start: usize, n: u64, from: u64, cols: u64, at: u64, rows: u64) -> bool
     requires { ⌜ (from + cols < 2 ^ 64) × (at + rows < 2 ^ 64) ⌝ }
-    ensures { λ r. ⌜ r ≡ inTurn from cols at rows from (entriesAt (now (s .entry)) n start) ⌝ }
+    ensures { λ r. ⌜ r ≡ inTurn from cols at rows from (entriesAt (now (bytes .entry)) n start) ⌝ }
 {
     let mut p = start;
     let mut left = n;
     let mut due = from;
     while 0 < left {
-        let l = entry_line(s, p);
+        let l = entry_line(bytes, p);
         let f = in_pair(l.first, l.second, from, cols, at, rows);
         if (f == 1) & (l.first != due) {
             return false;
@@ -61,9 +61,17 @@ fn in_turn(s: &[u8], start: usize, n: u64, from: u64, cols: u64, at: u64, rows: 
 }
 
 // Whether each of the columns from `from` on, `cols` of them, has exactly one entry in the rows from `at` on, `rows` of them.
-pub fn one_each(s: &[u8], z: Starts, from: u64, cols: u64, at: u64, rows: u64) -> bool
-    requires { ⌜ Holds (now s) z × (from + cols < 2 ^ 64) × (at + rows < 2 ^ 64) ⌝ }
-    ensures { λ r. ⌜ ((sheet : Sheet) → readSheet (now (s .entry)) ≡ accepted sheet z → r ≡ eachOne from cols at rows (sheet .zz)) ⌝ }
+pub fn one_each(bytes: &[u8], starts: Starts, from: u64, cols: u64, at: u64, rows: u64) -> bool
+    requires { ⌜ Holds (now bytes) starts × (from + cols < 2 ^ 64) × (at + rows < 2 ^ 64) ⌝ }
+    ensures { λ r. ⌜ ((sheet : Sheet) → readSheet (now (bytes .entry)) ≡ accepted sheet starts → r ≡ eachOne from cols at rows (sheet .zz)) ⌝ }
 {
-    in_turn(s, z.zz, levels::entries(z), from, cols, at, rows)
+    in_turn(
+        bytes,
+        starts.zz,
+        levels::entries(starts),
+        from,
+        cols,
+        at,
+        rows,
+    )
 }

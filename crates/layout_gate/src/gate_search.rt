@@ -3,7 +3,7 @@ ghost use mathlib.Core.Path.{_≡_};
 ghost use Prim.Native.Nat.{ℕ, _<_, _≤_};
 ghost use Rattle.sheet.specs.Sheet.{Sheet};
 ghost use Rattle.layout.specs.Shapes.{levels, pairs};
-ghost use Rattle.workspace.specs.Loaded.{firstDenied, layoutOfSheet};
+ghost use Rattle.workspace.specs.Loaded.{firstRefusedPair, layoutOfSheet};
 ghost use Rattle.layout_gate.specs.gate_search.Search.{answerOf, numberOf, verdict};
 use crate::pair_gate;
 use layout::Layout;
@@ -22,21 +22,21 @@ fn number(p: Pair) -> u64
 }
 
 // What the gate says of pair (j, jj): 10 or 11, or 0.
-fn verdict(y: Layout, j: u64, jj: u64) -> u64
-    requires { ⌜ (j < 8) × (jj < 8) × ((i : ℕ) → i < 8 → levels y i ≤ 65535) ⌝ }
-    ensures { λ r. ⌜ r ≡ verdict y j jj ⌝ }
+fn verdict(layout: Layout, j: u64, jj: u64) -> u64
+    requires { ⌜ (j < 8) × (jj < 8) × ((i : ℕ) → i < 8 → levels layout i ≤ 65535) ⌝ }
+    ensures { λ r. ⌜ r ≡ verdict layout j jj ⌝ }
 {
-    let m = y.m;
+    let m = layout.m;
     let rows = m[j as usize];
     let cols = m[jj as usize];
-    number(pair_gate::pair_of(y.k, rows, cols, y.diagonal, cols))
+    number(pair_gate::pair_of(layout.k, rows, cols, layout.diagonal, cols))
 }
 
 // The first pair that the gate refuses, in turn j = 1.., jj = 0..j-1: its number 10 or 11, j and jj; or number 0. The layout of a sheet says all that
 // the gate asks.
-pub fn denied(y: Layout) -> Refusal
-    requires { ⌜ (y .k ≤ 8) × ((i : ℕ) → i < 8 → levels y i ≤ 65535) ⌝ }
-    ensures { λ r. ⌜ ((sheet : Sheet) → y ≡ layoutOfSheet sheet → r ≡ answerOf (firstDenied sheet y (pairs (y .k)))) ⌝ }
+pub fn first_refused_pair(layout: Layout) -> Refusal
+    requires { ⌜ (layout .k ≤ 8) × ((i : ℕ) → i < 8 → levels layout i ≤ 65535) ⌝ }
+    ensures { λ r. ⌜ ((sheet : Sheet) → layout ≡ layoutOfSheet sheet → r ≡ answerOf (firstRefusedPair sheet layout (pairs (layout .k)))) ⌝ }
 {
     let mut found = Refusal {
         number: 0,
@@ -44,10 +44,10 @@ pub fn denied(y: Layout) -> Refusal
         second: 0,
     };
     let mut j: u64 = 1;
-    'pairs: while j < y.k {
+    'pairs: while j < layout.k {
         let mut jj: u64 = 0;
         while jj < j {
-            let n = verdict(y, j, jj);
+            let n = verdict(layout, j, jj);
             if n != 0 {
                 found = Refusal {
                     number: n,

@@ -1,4 +1,6 @@
-// The layout of a sheet (document 01, Record 2).
+// The layout that a sheet gives, and refusals 10 and 11 (document 01, Record 2; the Rust's `blocked_gate_failure`): blocks sorted, entries of a
+// column counted, pairs judged in turn. Defined in the crates layout (specs/Gate.antt, a pair's verdict) and workspace (specs/Loaded.antt, the whole
+// sheet's).
 pub mod block_order;
 mod column_entries;
 pub mod gate_search;
@@ -10,7 +12,7 @@ ghost use Prim.Native.Nat.{ℕ, _<_, _≤_};
 ghost use lib.Dec.{eqb};
 ghost use lib.ListN.{getD};
 ghost use Rattle.sheet.specs.Sheet.{Sheet, accepted, readSheet};
-ghost use Rattle.sheet.specs.Fault.{refusalOf};
+ghost use Rattle.sheet.specs.Fault.{faultNumber};
 ghost use Rattle.layout.specs.Blocks.{sorted, each, padded};
 ghost use Rattle.layout.specs.Gate.{pairOf};
 ghost use Rattle.heading_format.specs.Heading.{isSparse};
@@ -38,18 +40,18 @@ fn sorted_levels(m: [u64; 8], order: [u64; 8], k: u64) -> [u64; 8]
 }
 
 // With k = 2, whether each level of the larger block has exactly one entry with the other: block 1 is then diagonal.
-fn is_diagonal(s: &[u8], z: Starts, m: [u64; 8], order: [u64; 8]) -> bool
-    requires { ⌜ Holds (now s) z × Ordered (now s) z m order ⌝ }
-    ensures { λ r. ⌜ ((sheet : Sheet) → readSheet (now (s .entry)) ≡ accepted sheet z → r ≡ layoutOfSheet sheet .diagonal) ⌝ }
+fn is_diagonal(bytes: &[u8], starts: Starts, m: [u64; 8], order: [u64; 8]) -> bool
+    requires { ⌜ Holds (now bytes) starts × Ordered (now bytes) starts m order ⌝ }
+    ensures { λ r. ⌜ ((sheet : Sheet) → readSheet (now (bytes .entry)) ≡ accepted sheet starts → r ≡ layoutOfSheet sheet .diagonal) ⌝ }
 {
-    if z.counts.k != 2 {
+    if starts.counts.k != 2 {
         return false;
     }
     let a = order[0];
     let b = order[1];
     column_entries::one_each(
-        s,
-        z,
+        bytes,
+        starts,
         levels::start(m, a),
         m[a as usize],
         levels::start(m, b),
@@ -80,15 +82,15 @@ fn one_sparse(k: u64, m: [u64; 8], diagonal: bool) -> bool
 }
 
 // The layout of a sheet that 5 to 9 do not refuse.
-pub fn layout_of(s: &[u8], z: Starts) -> Layout
-    requires { ⌜ ((sheet : Sheet) × (readSheet (now s) ≡ accepted sheet z) × (refusalOf sheet ≡ 0)) ⌝ }
-    ensures { λ r. ⌜ ((sheet : Sheet) → readSheet (now (s .entry)) ≡ accepted sheet z → r ≡ layoutOfSheet sheet) ⌝ }
+pub fn layout_of_sheet(bytes: &[u8], starts: Starts) -> Layout
+    requires { ⌜ ((sheet : Sheet) × (readSheet (now bytes) ≡ accepted sheet starts) × (faultNumber sheet ≡ 0)) ⌝ }
+    ensures { λ r. ⌜ ((sheet : Sheet) → readSheet (now (bytes .entry)) ≡ accepted sheet starts → r ≡ layoutOfSheet sheet) ⌝ }
 {
-    let c = z.counts;
-    let m = levels::levels(s, z);
+    let c = starts.counts;
+    let m = levels::levels(bytes, starts);
     let order = block_order::sorted(m, c.k);
     let sizes = sorted_levels(m, order, c.k);
-    let diagonal = is_diagonal(s, z, m, order);
+    let diagonal = is_diagonal(bytes, starts, m, order);
     let sparse = one_sparse(c.k, sizes, diagonal);
     Layout {
         n: c.n,

@@ -2,28 +2,28 @@
 ghost use mathlib.Core.Path.{_≡_};
 ghost use mathlib.Core.Bool.{true};
 ghost use Rattle.layout.specs.Shapes.{numbersNeeded};
-ghost use Rattle.heading_format.specs.Heading.{lawful};
-ghost use Rattle.workspace.specs.Load.{roomy};
+ghost use Rattle.heading_format.specs.Heading.{validLayout};
+ghost use Rattle.workspace.specs.Load.{hasRoom};
 use block_places::places;
 use layout::Layout;
 
 // How many numbers a heading has: 128, and one for each column of a sparse pair.
-fn numbers_needed(y: Layout) -> usize
-    requires { ⌜ lawful y ≡ true ⌝ }
-    ensures { λ r. ⌜ r ≡ numbersNeeded y ⌝ }
+fn numbers_needed(layout: Layout) -> usize
+    requires { ⌜ validLayout layout ≡ true ⌝ }
+    ensures { λ r. ⌜ r ≡ numbersNeeded layout ⌝ }
 {
-    if y.sparse {
-        return (128 + y.m[0]) as usize;
+    if layout.sparse {
+        return (128 + layout.m[0]) as usize;
     }
     128
 }
 
 // Whether both lists are long enough (12).
-pub fn is_roomy(y: Layout, h: &[u32], w: &[f64]) -> bool
-    requires { ⌜ lawful y ≡ true ⌝ }
-    ensures { λ r. ⌜ r ≡ roomy y (now (h .entry)) (now (w .entry)) ⌝ }
+pub fn has_room(layout: Layout, heading: &[u32], w: &[f64]) -> bool
+    requires { ⌜ validLayout layout ≡ true ⌝ }
+    ensures { λ r. ⌜ r ≡ hasRoom layout (now (heading .entry)) (now (w .entry)) ⌝ }
 {
-    let numbers = numbers_needed(y) <= h.len();
-    let doubles = places::sum_at(y) < w.len();
+    let numbers = numbers_needed(layout) <= heading.len();
+    let doubles = places::sum_at(layout) < w.len();
     numbers & doubles
 }

@@ -6,7 +6,7 @@ ghost use lib.ListN.{length};
 ghost use Rattle.storage.specs.Part.{store};
 ghost use Rattle.sheet.specs.Sheet.{Sheet, accepted, readSheet};
 ghost use Rattle.layout.specs.Shapes.{numbersNeeded};
-ghost use Rattle.workspace.specs.Answers.{space};
+ghost use Rattle.workspace.specs.Answers.{workspace};
 ghost use Rattle.workspace.specs.Load.{headingOf, afterGate};
 ghost use Rattle.load_numbers.specs.sheet_words.Ready.{Ready};
 use crate::room;
@@ -19,27 +19,33 @@ use refusal::Refusal;
 use sheet::Starts;
 
 // The heading of a sheet just loaded.
-fn write_heading(s: &[u8], z: Starts, y: Layout, h: &mut [u32])
-    requires { ⌜ Ready (now s) z y × (numbersNeeded y ≤ length (now h)) ⌝ }
-    ensures { λ _. ⌜ ((sheet : Sheet) → readSheet (now (s .entry)) ≡ accepted sheet z → now (h .exit) ≡ store 0 (headingOf sheet y) (now (h .entry))) ⌝ }
+fn write_heading(bytes: &[u8], starts: Starts, layout: Layout, heading: &mut [u32])
+    requires { ⌜ Ready (now bytes) starts layout × (numbersNeeded layout ≤ length (now heading)) ⌝ }
+    ensures { λ _. ⌜ ((sheet : Sheet) → readSheet (now (bytes .entry)) ≡ accepted sheet starts → now (heading .exit) ≡ store 0 (headingOf sheet layout) (now (heading .entry))) ⌝ }
 {
-    writer::write(h, y, idle_progress::idle(y.k));
-    load_numbers::load_rows(s, z, y, h);
+    writer::write(heading, layout, idle_progress::idle(layout.k));
+    load_numbers::load_entry_rows(bytes, starts, layout, heading);
 }
 
 // A sheet whose pairs the gate allows: 12, or it is loaded.
-pub fn load_allowed(s: &[u8], z: Starts, y: Layout, h: &mut [u32], w: &mut [f64]) -> Answer
-    requires { ⌜ Ready (now s) z y ⌝ }
-    ensures { λ r. ⌜ ((sheet : Sheet) → readSheet (now (s .entry)) ≡ accepted sheet z → record { answer = r; left = space (now (h .exit)) (now (w .exit)) } ≡ afterGate none sheet y (now (h .entry)) (now (w .entry))) ⌝ }
+pub fn load_allowed(
+    bytes: &[u8],
+    starts: Starts,
+    layout: Layout,
+    heading: &mut [u32],
+    doubles: &mut [f64],
+) -> Answer
+    requires { ⌜ Ready (now bytes) starts layout ⌝ }
+    ensures { λ r. ⌜ ((sheet : Sheet) → readSheet (now (bytes .entry)) ≡ accepted sheet starts → record { answer = r; left = workspace (now (heading .exit)) (now (doubles .exit)) } ≡ afterGate none sheet layout (now (heading .entry)) (now (doubles .entry))) ⌝ }
 {
-    if !room::is_roomy(y, h, w) {
+    if !room::has_room(layout, heading, doubles) {
         return Answer::Refused(Refusal {
             number: 12,
             first: 0,
             second: 0,
         });
     }
-    write_heading(s, z, y, h);
-    sheet_words::load_numbers(s, z, y, w);
+    write_heading(bytes, starts, layout, heading);
+    sheet_words::load_numbers(bytes, starts, layout, doubles);
     Answer::Accepted
 }

@@ -7,15 +7,15 @@ ghost use Rattle.storage.specs.Runs.{tab};
 ghost use Rattle.storage.specs.Part.{store};
 ghost use Rattle.rules.specs.Arithmetic.{ieee};
 ghost use Rattle.layout.specs.Shapes.{doublesNeeded};
-ghost use Rattle.heading_format.specs.Heading.{lawful};
+ghost use Rattle.heading_format.specs.Heading.{validLayout};
 use block_places::places;
 use block_runs::run_copies;
 use layout::Layout;
 
 // Every double that the formula counts becomes +0.0.
-pub fn clear_all(y: Layout, w: &mut [f64])
-    requires { ⌜ (lawful y ≡ true) × (doublesNeeded y ≤ length (now w)) ⌝ }
-    ensures { λ _. ⌜ now (w .exit) ≡ store 0 (tab (doublesNeeded y) (λ i. ieee .zero)) (now (w .entry)) ⌝ }
+pub fn clear_all(layout: Layout, doubles: &mut [f64])
+    requires { ⌜ (validLayout layout ≡ true) × (doublesNeeded layout ≤ length (now doubles)) ⌝ }
+    ensures { λ _. ⌜ now (doubles .exit) ≡ store 0 (tab (doublesNeeded layout) (λ i. ieee .zero)) (now (doubles .entry)) ⌝ }
 {
-    run_copies::clear(w, places::sum_at(y) + 1);
+    run_copies::clear(doubles, places::sum_at(layout) + 1);
 }

@@ -1,4 +1,5 @@
-// The rows of a sparse pair's entries into a heading (document 01, Records 2 and 3). Definitions are in specs/Rows.antt.
+// Puts the words of an accepted sheet into their places in heading and doubles (document 01, Record 3). At the root the rows of a sparse pair, which
+// go into the heading; the doubles are in sheet_words.
 mod clear_doubles;
 mod line_address;
 pub mod sheet_words;
@@ -22,7 +23,7 @@ ghost use Rattle.storage.specs.Part.{store};
 ghost use Rattle.sheet.specs.Line.{zzTag, pairLine};
 ghost use Rattle.sheet.specs.Sheet.{Sheet, accepted, readSheet};
 ghost use Rattle.layout.specs.Shapes.{pick, levels, numbersNeeded};
-ghost use Rattle.heading_format.specs.Heading.{lawful};
+ghost use Rattle.heading_format.specs.Heading.{validLayout};
 ghost use Rattle.workspace.specs.Loaded.{entryRowIn};
 ghost use Rattle.block_places.specs.sheet_rows.Blocks.{FirstRows, Maps};
 ghost use Rattle.load_numbers.specs.word_address.Spread.{spread};
@@ -30,49 +31,62 @@ ghost use Rattle.load_numbers.specs.sheet_words.Ready.{Ready};
 ghost use Rattle.load_numbers.specs.Rows.{putRow};
 
 // The row of one entry, where it is one of the pair. Lent to it are the levels and the first rows of the sorted blocks.
-fn put_row<'a>(y: Layout, counts: &'a [u64; 8], first: &'a [u64; 8], l: Line, h: &mut [u32])
-    requires { ⌜ (lawful y ≡ true) × (now counts ≡ y .m) × FirstRows y (now first) × (1 < y .k) × (128 + levels y 0 ≤ length (now h)) ⌝ }
-    ensures { λ _. ⌜ now (h .exit) ≡ putRow y 0 l (now (h .entry)) ⌝ }
+fn put_row<'a>(
+    layout: Layout,
+    counts: &'a [u64; 8],
+    first: &'a [u64; 8],
+    l: Line,
+    heading: &mut [u32],
+)
+    requires { ⌜ (validLayout layout ≡ true) × (now counts ≡ layout .m) × FirstRows layout (now first) × (1 < layout .k) × (128 + levels layout 0 ≤ length (now heading)) ⌝ }
+    ensures { λ _. ⌜ now (heading .exit) ≡ putRow layout 0 l (now (heading .entry)) ⌝ }
 {
-    if row_map::block_of(y, counts, first, l.first) != 0 {
+    if row_map::block_of(layout, counts, first, l.first) != 0 {
         return;
     }
-    if row_map::block_of(y, counts, first, l.second) != 1 {
+    if row_map::block_of(layout, counts, first, l.second) != 1 {
         return;
     }
-    let t = (128 + word_address::level_of(y, first, 0, l.first)) as usize;
-    h[t] = word_address::level_of(y, first, 1, l.second) as u32;
+    let t = (128 + word_address::level_of(layout, first, 0, l.first)) as usize;
+    heading[t] = word_address::level_of(layout, first, 1, l.second) as u32;
 }
 
 // The zz line at a position.
-fn entry_at(s: &[u8], at: usize) -> Line
-    ensures { λ r. ⌜ r ≡ pairLine zzTag (now (s .entry)) at ⌝ }
+fn entry_at(bytes: &[u8], at: usize) -> Line
+    ensures { λ r. ⌜ r ≡ pairLine zzTag (now (bytes .entry)) at ⌝ }
 {
-    pair_line::pair_line(b"zz\t", s, at)
+    pair_line::pair_line(b"zz\t", bytes, at)
 }
 
 // The rows of the entries of `count` zz lines from `at` on.
-fn put_rows(s: &[u8], at: usize, count: u64, y: Layout, m: Map, h: &mut [u32])
-    requires { ⌜ (lawful y ≡ true) × Maps y m × (1 < y .k) × (128 + levels y 0 ≤ length (now h)) ⌝ }
-    ensures { λ _. ⌜ now (h .exit) ≡ spread (putRow y) (pairLine zzTag (now (s .entry))) count 0 at (now (h .entry)) ⌝ }
+fn put_rows(bytes: &[u8], at: usize, count: u64, layout: Layout, m: Map, heading: &mut [u32])
+    requires { ⌜ (validLayout layout ≡ true) × Maps layout m × (1 < layout .k) × (128 + levels layout 0 ≤ length (now heading)) ⌝ }
+    ensures { λ _. ⌜ now (heading .exit) ≡ spread (putRow layout) (pairLine zzTag (now (bytes .entry))) count 0 at (now (heading .entry)) ⌝ }
 {
     let mut p = at;
     let mut left = count;
     while left > 0 {
-        let l = entry_at(s, p);
-        put_row(y, &y.m, &m.first, l, h);
+        let l = entry_at(bytes, p);
+        put_row(layout, &layout.m, &m.first, l, heading);
         p = l.next;
         left -= 1;
     }
 }
 
 // Behind the 128 numbers the row of each sparse column's entry; nothing where the pair is dense.
-pub fn load_rows(s: &[u8], z: Starts, y: Layout, h: &mut [u32])
-    requires { ⌜ Ready (now s) z y × (numbersNeeded y ≤ length (now h)) ⌝ }
-    ensures { λ _. ⌜ ((sheet : Sheet) → readSheet (now (s .entry)) ≡ accepted sheet z → now (h .exit) ≡ store 128 (pick (y .sparse) (tab (levels y 0) (entryRowIn sheet y)) []) (now (h .entry))) ⌝ }
+pub fn load_entry_rows(bytes: &[u8], starts: Starts, layout: Layout, heading: &mut [u32])
+    requires { ⌜ Ready (now bytes) starts layout × (numbersNeeded layout ≤ length (now heading)) ⌝ }
+    ensures { λ _. ⌜ ((sheet : Sheet) → readSheet (now (bytes .entry)) ≡ accepted sheet starts → now (heading .exit) ≡ store 128 (pick (layout .sparse) (tab (levels layout 0) (entryRowIn sheet layout)) []) (now (heading .entry))) ⌝ }
 {
-    if y.sparse {
-        let m = row_map::map_of(y);
-        put_rows(s, z.zz, levels::entries(z), y, m, h);
+    if layout.sparse {
+        let m = row_map::map_of(layout);
+        put_rows(
+            bytes,
+            starts.zz,
+            levels::entries(starts),
+            layout,
+            m,
+            heading,
+        );
     }
 }

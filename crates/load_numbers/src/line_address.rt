@@ -8,15 +8,15 @@ use sheet_reader::single_line;
 use sheet_reader::yy_line;
 
 // The line of a run at a position.
-pub fn line_at(run: Run, s: &[u8], at: usize) -> Line
-    ensures { λ r. ⌜ r ≡ lineOf run (now (s .entry)) at ⌝ }
+pub fn line_at(run: Run, bytes: &[u8], at: usize) -> Line
+    ensures { λ r. ⌜ r ≡ lineOf run (now (bytes .entry)) at ⌝ }
 {
     match run {
-        Run::Zz => pair_line::pair_line(b"zz\t", s, at),
-        Run::Zx => pair_line::pair_line(b"zx\t", s, at),
-        Run::Zy => single_line::single_line(b"zy\t", s, at),
-        Run::Xx => pair_line::pair_line(b"xx\t", s, at),
-        Run::Xy => single_line::single_line(b"xy\t", s, at),
-        Run::Yy => yy_line::bare_line(b"yy\t", s, at),
+        Run::Zz => pair_line::pair_line(b"zz\t", bytes, at),
+        Run::Zx => pair_line::pair_line(b"zx\t", bytes, at),
+        Run::Zy => single_line::single_line(b"zy\t", bytes, at),
+        Run::Xx => pair_line::pair_line(b"xx\t", bytes, at),
+        Run::Xy => single_line::single_line(b"xy\t", bytes, at),
+        Run::Yy => yy_line::bare_line(b"yy\t", bytes, at),
     }
 }

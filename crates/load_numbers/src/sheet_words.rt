@@ -1,5 +1,5 @@
 // The numbers of a sheet into a workspace (document 01, Record 3): every double that the formula counts becomes +0.0, and then each word of the
-// sheet goes into its place. Definitions are in the crates workspace, specs/Loaded.antt, and word_places, specs/Spread.antt.
+// sheet goes into its place. Definitions are in the crate workspace, specs/Loaded.antt, and in specs/word_address/Spread.antt.
 ghost use mathlib.Core.Path.{_≡_};
 ghost use Prim.Native.Nat.{_≤_};
 ghost use lib.ListN.{length};
@@ -20,33 +20,69 @@ use sheet::Starts;
 use sheet_checks::levels;
 
 // Z'Z, Z'X and Z'y.
-fn first_runs(s: &[u8], z: Starts, y: Layout, m: Map, w: &mut [f64])
-    requires { ⌜ Ready (now s) z y × Maps y m ⌝ }
-    ensures { λ _. ⌜ ((sheet : Sheet) → readSheet (now (s .entry)) ≡ accepted sheet z → now (w .exit) ≡ firstRuns (now (s .entry)) sheet z y (now (w .entry))) ⌝ }
+fn first_runs(bytes: &[u8], starts: Starts, layout: Layout, m: Map, doubles: &mut [f64])
+    requires { ⌜ Ready (now bytes) starts layout × Maps layout m ⌝ }
+    ensures { λ _. ⌜ ((sheet : Sheet) → readSheet (now (bytes .entry)) ≡ accepted sheet starts → now (doubles .exit) ≡ firstRuns (now (bytes .entry)) sheet starts layout (now (doubles .entry))) ⌝ }
 {
-    store_words::scatter(Run::Zz, s, z.zz, 0, levels::entries(z), y, m, w);
-    store_words::scatter(Run::Zx, s, z.zx, 0, y.q * y.p, y, m, w);
-    store_words::scatter(Run::Zy, s, z.zy, 0, y.q, y, m, w);
+    store_words::scatter(
+        Run::Zz,
+        bytes,
+        starts.zz,
+        0,
+        levels::entries(starts),
+        layout,
+        m,
+        doubles,
+    );
+    store_words::scatter(
+        Run::Zx,
+        bytes,
+        starts.zx,
+        0,
+        layout.q * layout.p,
+        layout,
+        m,
+        doubles,
+    );
+    store_words::scatter(Run::Zy, bytes, starts.zy, 0, layout.q, layout, m, doubles);
 }
 
 // X'X, X'y and y'y: the last triangle in its order.
-fn last_runs(s: &[u8], z: Starts, y: Layout, m: Map, w: &mut [f64])
-    requires { ⌜ Ready (now s) z y × Maps y m ⌝ }
-    ensures { λ _. ⌜ ((sheet : Sheet) → readSheet (now (s .entry)) ≡ accepted sheet z → now (w .exit) ≡ lastRuns (now (s .entry)) sheet z y (now (w .entry))) ⌝ }
+fn last_runs(bytes: &[u8], starts: Starts, layout: Layout, m: Map, doubles: &mut [f64])
+    requires { ⌜ Ready (now bytes) starts layout × Maps layout m ⌝ }
+    ensures { λ _. ⌜ ((sheet : Sheet) → readSheet (now (bytes .entry)) ≡ accepted sheet starts → now (doubles .exit) ≡ lastRuns (now (bytes .entry)) sheet starts layout (now (doubles .entry))) ⌝ }
 {
-    let triangle = y.p * (y.p + 1) / 2;
-    store_words::scatter(Run::Xx, s, z.xx, 0, triangle, y, m, w);
-    store_words::scatter(Run::Xy, s, z.xy, triangle, y.p, y, m, w);
-    store_words::scatter(Run::Yy, s, z.yy, triangle + y.p, 1, y, m, w);
+    let triangle = layout.p * (layout.p + 1) / 2;
+    store_words::scatter(Run::Xx, bytes, starts.xx, 0, triangle, layout, m, doubles);
+    store_words::scatter(
+        Run::Xy,
+        bytes,
+        starts.xy,
+        triangle,
+        layout.p,
+        layout,
+        m,
+        doubles,
+    );
+    store_words::scatter(
+        Run::Yy,
+        bytes,
+        starts.yy,
+        triangle + layout.p,
+        1,
+        layout,
+        m,
+        doubles,
+    );
 }
 
 // The loaded numbers, and every working double +0.0.
-pub fn load_numbers(s: &[u8], z: Starts, y: Layout, w: &mut [f64])
-    requires { ⌜ Ready (now s) z y × (doublesNeeded y ≤ length (now w)) ⌝ }
-    ensures { λ _. ⌜ ((sheet : Sheet) → readSheet (now (s .entry)) ≡ accepted sheet z → now (w .exit) ≡ store 0 (doublesOf sheet y) (now (w .entry))) ⌝ }
+pub fn load_numbers(bytes: &[u8], starts: Starts, layout: Layout, doubles: &mut [f64])
+    requires { ⌜ Ready (now bytes) starts layout × (doublesNeeded layout ≤ length (now doubles)) ⌝ }
+    ensures { λ _. ⌜ ((sheet : Sheet) → readSheet (now (bytes .entry)) ≡ accepted sheet starts → now (doubles .exit) ≡ store 0 (doublesOf sheet layout) (now (doubles .entry))) ⌝ }
 {
-    let m = row_map::map_of(y);
-    clear_doubles::clear_all(y, w);
-    first_runs(s, z, y, m, w);
-    last_runs(s, z, y, m, w);
+    let m = row_map::map_of(layout);
+    clear_doubles::clear_all(layout, doubles);
+    first_runs(bytes, starts, layout, m, doubles);
+    last_runs(bytes, starts, layout, m, doubles);
 }

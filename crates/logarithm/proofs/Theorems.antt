@@ -8,7 +8,7 @@ use lib.Dec.{T, ltb, lt→ltb, lit<, lit≤}
 use lib.IntN.{ℤ, pos}
 use lib.Pow.{pow-pos}
 use lib.Ieee.{Float, nan, inf, fin, binary64, up, down, fits}
-use lib.Ieee.Fits.{round-fits, nan-fits, inf-fits, down-pos}
+use lib.Ieee.Fits.{round-fits, down-pos}
 use lib.Ieee.Scale.{finite}
 use lib.Ieee.Positive.{positive, num, den, value→cross}
 use Rattle.float_bits.specs.declared.double.Kind.{Kind}
@@ -33,10 +33,10 @@ unfolding lnSum
 sum-fits P m c u d = round-fits binary64 (ltb (gain P m c u d) (loss P m c u d)) (apart (gain P m c u d) (loss P m c u d)) (P.guard * P .unit)
 
 kind-fits : (k : Kind) (x : Float) → T (fits binary64 x) → T (fits binary64 (lnAt chosen k x))
-unfolding lnAt lnParts
+unfolding lnAt lnParts fits
 kind-fits (Positive p) x f = sum-fits chosen p.significand (centre p.significand) (rise p.significand p.exponent) 1074
-kind-fits Zero x f = inf-fits binary64 true
-kind-fits Negative x f = nan-fits binary64
+kind-fits Zero x f = tt
+kind-fits Negative x f = tt
 kind-fits PlusInfinity x f = f
 kind-fits NotANumber x f = f
 

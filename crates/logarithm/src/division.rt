@@ -56,7 +56,7 @@ pub fn distance(a: u64, b: u64) -> u64
 
 // a * 2^62 / b from a guess g at a * 2^54 / b: a * 2^54 - g * b is left, in its low word r where the high words agree,
 // and r * 2^8 is divided once. Where the guess is too far off, by long division.
-pub fn refined(a: u64, b: u64, g: u64) -> u64
+pub fn quotient_from_guess(a: u64, b: u64, g: u64) -> u64
     requires { ⌜ (a < b) × (b < 2 ^ 54) × (g < 2 ^ 52) ⌝ }
     ensures { λ r. ⌜ r ≡ ratio (2 ^ 62) a b ⌝ }
 {

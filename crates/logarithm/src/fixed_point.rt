@@ -1,2 +1,2 @@
-// The natural logarithm of a double above 0 in whole units: its definition (specs/Units.antt), what it is to be near the exact one (specs/Near.antt)
+// The natural logarithm of a double above 0 in whole units: its definition (specs/fixed_point/Units.antt), what it is to be near the exact one (specs/fixed_point/Near.antt)
 // and the error law. There is no function here.

@@ -1,4 +1,4 @@
-// The natural logarithm of a double.
+// The natural logarithm of a double (document 01, Record 4), fixed by a whole-number definition and within 2^-50 + 2^-52·|r| of the exact one.
 mod division;
 mod exact_log;
 mod fixed_point;
@@ -37,7 +37,7 @@ fn from_series(p: Parts, s: u64) -> f64
     let m = p.significand;
     let t = p.exponent;
     let k = wide_product::above(m, 6755399441055743);
-    split::joined(m, 4503599627370496 * (1 + k), t + k, 2 * s)
+    split::sum_of_parts(m, 4503599627370496 * (1 + k), t + k, 2 * s)
 }
 
 // The logarithm of the double above 0 with these parts.
@@ -45,10 +45,10 @@ fn of_parts(p: Parts) -> f64
     requires { ⌜ InPlace p ⌝ }
     ensures { λ r. ⌜ r ≡ lnParts chosen p ⌝ }
 {
-    from_series(p, series::summed(ratio_of(p)))
+    from_series(p, series::artanh_series(ratio_of(p)))
 }
 
-// The natural logarithm, to the bit as specs/Ln.antt has it.
+// The natural logarithm, to the bit as specs/Ln.antt has it, by kinds, and specs/fixed_point/Units.antt for a double above 0.
 pub fn ln(x: f64) -> f64
     ensures { λ r. ⌜ r ≡ lnOf x ⌝ }
 {

@@ -6,7 +6,7 @@ ghost use Rattle.logarithm.specs.fixed_point.Units.{horner};
 use float_bits::wide_product;
 
 // The inverse hyperbolic tangent of z / 2^62, by ten terms of its series. The compiler unrolls the loop and works out the reciprocals.
-pub fn summed(z: u64) -> u64
+pub fn artanh_series(z: u64) -> u64
     requires { ⌜ 5 * z ≤ 2 ^ 62 ⌝ }
     ensures { λ r. ⌜ r ≡ z * horner (2 ^ 62) (z * z / 2 ^ 62) 0 10 / 2 ^ 62 ⌝ }
 {

@@ -1,5 +1,5 @@
-// Holds the square root and the logarithm to a list of test vectors (tools/number_list.py): a group, a word x, and the words between which the
-// result must lie. A vector whose result does not is printed with it; at the end how many of each group agree.
+// Test program: holds the square root and the logarithm to a list of test vectors (tools/number_list.py): a group, a word x, and the words between
+// which the result must lie. A vector whose result does not is printed with it; at the end how many of each group agree.
 mod agreement;
 
 use float_bits::words;

@@ -2,7 +2,7 @@
 use Prim.Native.Nat.{ℕ}
 use mathlib.Core.Path.{_≡_, refl}
 use mathlib.Core.Bool.{Bool, true, false}
-use mathlib.Core.List.{List, [], _∷_}
+use mathlib.Core.List.{List, [], _∷_, _++_}
 use lib.ListN.{replicate, set}
 use lib.Ieee as Ieee
 use lib.Ieee.{Float, nan, binary64}
@@ -10,7 +10,7 @@ use Rattle.refusal.specs.Numbers.{refusal}
 use Rattle.layout.specs.declared.Layout.{Layout}
 use Rattle.heading_format.specs.declared.Progress.{Progress}
 use Rattle.heading_format.specs.declared.State.the-variants.{UnderWay, Finished}
-use Rattle.heading_format.specs.Heading.{written}
+use Rattle.heading_format.specs.Heading.{written, layoutOf}
 use Rattle.workspace.specs.Compute.{word, words}
 use Rattle.update.specs.Compute.{steps}
 use Rattle.profile.specs.declared.Deviance.{Deviance}
@@ -19,6 +19,7 @@ use Rattle.profile.specs.declared.Solve.{Solve}
 use Rattle.profile.specs.declared.Solve.the-variants.{Solved, Refused as Denied}
 use Rattle.profile.specs.Deviance.{devianceFromFactor}
 use Rattle.profile.specs.Finish.{Solving, solveOf}
+use Rattle.profile.specs.Solves.{blockIn, solvedFor}
 
 abbrev layout : ℕ → Layout
 layout n = record { n = n; p = 1; q = 1; k = 1; m = 1 ∷ replicate 7 0; order = replicate 8 0; sparse = false; diagonal = false }
@@ -137,3 +138,38 @@ no-pivot = refl
 no-pivot-clears : words (solving finished (set doubles 3 nan) 6 .result) ≡ replicate 6 0
 unfolding solving words
 no-pivot-clears = refl
+
+-- ---- the solves with two blocks. Forward, 1.94 less 0.67 · 1.8 and 0.42 · 0.79 has other bits product by product than summed first. Words by Python.
+abbrev pair : List ℕ → Bool → Layout
+pair m thin = record { n = 9; p = 1; q = 5; k = 2; m = m; order = 0 ∷ 1 ∷ replicate 6 0; sparse = thin; diagonal = thin }
+
+unfoldable floats : List ℕ → List Float
+floats [] = []
+floats (w ∷ l) = word w ∷ floats l
+
+unfoldable solved : Layout → List ℕ → List Float → List (List Float) → List ℕ
+unfolding steps layoutOf solvedFor words floats
+solved y rows w v = let l = solvedFor (written y finished ++ rows) w v in words (blockIn l 0 ++ blockIn l 1)
+
+-- pivots 2 and 4; a triangle of rows 1 and 0.5 2; a pair of rows 0.67 0.42 and 0.3 0.05, by columns. Right side 3.6 3.16, which 2 and 4 divide into
+-- 1.8 0.79, and 1.94 5.
+dense-pair :
+    solved (pair (2 ∷ 2 ∷ replicate 6 0) false) []
+    (replicate 21 (word 0)
+    ++ floats (0x4000000000000000 ∷ 0x4010000000000000 ∷ 0x3ff0000000000000 ∷ 0x3fe0000000000000 ∷ 0x4000000000000000 ∷ [])
+    ++ floats (0x3fe570a3d70a3d71 ∷ 0x3fd3333333333333 ∷ 0x3fdae147ae147ae1 ∷ 0x3fa999999999999a ∷ []))
+    (floats (0x400ccccccccccccd ∷ 0x400947ae147ae148 ∷ []) ∷ floats (0x3fff0a3d70a3d70a ∷ 0x4014000000000000 ∷ []) ∷ [])
+    ≡ 0x3fe91441fea8112d ∷ 0x3fc94677b395c424 ∷ 0xbfc0075f6fd22000 ∷ 0x3ff0e0aa64c2f838 ∷ []
+unfolding solved
+dense-pair = refl
+
+-- pivots 2, 4, 1 and 1, 2; entries 0.67, 0.42 in row 1 and 0.3 in row 0. Right side 3.6 3.16 0.5 and 2 1.94.
+sparse-pair :
+    solved (pair (3 ∷ 2 ∷ replicate 6 0) true) (1 ∷ 1 ∷ 0 ∷ [])
+    (replicate 23 (word 0)
+    ++ floats (0x4000000000000000 ∷ 0x4010000000000000 ∷ 0x3ff0000000000000 ∷ 0x3ff0000000000000 ∷ 0x4000000000000000 ∷ [])
+    ++ floats (0x3fe570a3d70a3d71 ∷ 0x3fdae147ae147ae1 ∷ 0x3fd3333333333333 ∷ []))
+    (floats (0x400ccccccccccccd ∷ 0x400947ae147ae148 ∷ 0x3fe0000000000000 ∷ []) ∷ floats (0x4000000000000000 ∷ 0x3fff0a3d70a3d70a ∷ []) ∷ [])
+    ≡ 0x3febb8dbcec84f90 ∷ 0x3fc7edb940fecdd1 ∷ 0xbfac28f5c28f5c30 ∷ 0x3ffd99999999999a ∷ 0x3fb9bda5119ce072 ∷ []
+unfolding solved
+sparse-pair = refl

@@ -16,7 +16,7 @@ use Rattle.refusal.specs.declared.Refusal.{Refusal}
 use Rattle.refusal.specs.declared.Answer.{Answer}
 use Rattle.refusal.specs.declared.Answer.the-variants.{Accepted, Refused as Denied}
 use Rattle.layout.specs.Shapes.{pick}
-use Rattle.heading_format.specs.Heading.{layoutOf, progressOf, headed}
+use Rattle.heading_format.specs.Heading.{layoutOf, progressOf, validHeading}
 use Rattle.workspace.specs.Memory.{Workspace, cellOf, workingBlock, logSum}
 use Rattle.refusal.specs.Numbers.{refusal, noRefusal}
 use Rattle.workspace.specs.Answers.{Outcome}
@@ -57,23 +57,23 @@ logDeterminant h w = ieee .times (ieee .two) (logSum h w)
 
 module _ (h : List ℕ) (w : List Float) (reml : Bool) where
   -- pivot r of block k
-  abbrev pub lastPivot : ℕ → Float
-  lastPivot r = cellOf (packed (layoutOf h .p + 1)) (workingBlock h w (layoutOf h .k) (layoutOf h .k)) r r
+  abbrev pub lastBlockPivot : ℕ → Float
+  lastBlockPivot r = cellOf (packed (layoutOf h .p + 1)) (workingBlock h w (layoutOf h .k) (layoutOf h .k)) r r
 
   -- r2 is the square of the last pivot; no scale where r2 or d is at most 0
   unfoldable pub devianceValue : Deviance
   devianceValue =
       let y = layoutOf h in
-      let r2 = ieee .times (lastPivot (y .p)) (lastPivot (y .p)) in
+      let r2 = ieee .times (lastBlockPivot (y .p)) (lastBlockPivot (y .p)) in
       let d = freedom y reml in
       pick (ieee .refused r2 || ieee .refused d) NoScale
-      (Value (devianceOf ieee reml d (ieee .over r2 d) (logDeterminant h w) lastPivot (y .p)))
+      (Value (devianceOf ieee reml d (ieee .over r2 d) (logDeterminant h w) lastBlockPivot (y .p)))
 
   -- 20, 25
   unfoldable pub devianceFromFactor : Deviance
-  unfolding headed devianceValue
+  unfolding validHeading devianceValue
   devianceFromFactor =
-      pick (headed h (length w)) (pick (isFinished (progressOf h .state)) devianceValue (refusing 25)) (refusing 20)
+      pick (validHeading h (length w)) (pick (isFinished (progressOf h .state)) devianceValue (refusing 25)) (refusing 20)
 
 -- ---- `profile_deviance`
 pub record Profiled : Type 0 where

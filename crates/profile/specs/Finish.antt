@@ -17,7 +17,7 @@ use Rattle.layout.specs.declared.Layout.{Layout}
 use Rattle.refusal.specs.declared.Refusal.{Refusal}
 use Rattle.refusal.specs.Numbers.{refusal, noRefusal}
 use Rattle.layout.specs.Shapes.{pick, levels}
-use Rattle.heading_format.specs.Heading.{layoutOf, progressOf, headed}
+use Rattle.heading_format.specs.Heading.{layoutOf, progressOf, validHeading}
 use Rattle.workspace.specs.Memory.{cellOf, loadedBlock, thetaOf}
 use Rattle.profile.specs.declared.Solution.{Solution}
 use Rattle.profile.specs.declared.Solve.{Solve}
@@ -42,9 +42,9 @@ inSheetOrder y l zero = []
 inSheetOrder y l (suc i) = inSheetOrder y l i ++ blockIn l (sortedIndex y (y .k) i)
 
 -- the rows of a list of rows, one after the other
-unfoldable pub joined : List (List Float) → List Float
-joined [] = []
-joined (x ∷ l) = x ++ joined l
+unfoldable pub flattened : List (List Float) → List Float
+flattened [] = []
+flattened (x ∷ l) = x ++ flattened l
 
 -- how long the lent result list is
 abbrev pub resultLength : Layout → ℕ
@@ -112,18 +112,18 @@ module _ (h : List ℕ) (w : List Float) where
       }
 
   -- u, and b = theta times u, by sheet rows
-  unfoldable pub offsets : List Float
+  unfoldable pub uVector : List Float
   unfolding wOf beta
-  offsets = let y = layoutOf h in tab (y .q) (offsetOf ieee (at ieee (wOf (y .p))) (λ j x. at ieee (wOf j) x) (at ieee beta) (y .p))
+  uVector = let y = layoutOf h in tab (y .q) (offsetOf ieee (at ieee (wOf (y .p))) (λ j x. at ieee (wOf j) x) (at ieee beta) (y .p))
 
-  unfoldable pub effects : List Float
-  unfolding offsets thetaRows
-  effects = tab (layoutOf h .q) (λ i. ieee .times (at ieee thetaRows i) (at ieee offsets i))
+  unfoldable pub bVector : List Float
+  unfolding uVector thetaRows
+  bVector = tab (layoutOf h .q) (λ i. ieee .times (at ieee thetaRows i) (at ieee uVector i))
 
   -- beta, b, u, L_X by rows, w of y, w of each column
   unfoldable pub resultList : List Float
-  unfolding beta effects offsets fixedFactor joined wOf
-  resultList = let p = layoutOf h .p in beta ++ effects ++ offsets ++ joined fixedFactor ++ wOf p ++ joined (tab p wOf)
+  unfolding beta bVector uVector fixedFactor flattened wOf
+  resultList = let p = layoutOf h .p in beta ++ bVector ++ uVector ++ flattened fixedFactor ++ wOf p ++ flattened (tab p wOf)
 
 -- an answer, and the result list that it leaves; the workspace is untouched
 pub record Solving : Type 0 where
@@ -140,9 +140,9 @@ onPivot (some r) n good = refusing 27 r (replicate n (ieee .zero))
 
 -- 20, 25, 13 (list 0, the result list), 27
 unfoldable pub solveOf : List ℕ → List Float → Bool → List Float → Solving
-unfolding headed refusedRow solutionOf resultList
+unfolding validHeading refusedRow solutionOf resultList
 solveOf h w reml out =
-    pick (headed h (length w))
+    pick (validHeading h (length w))
     (pick (isFinished (progressOf h .state))
     (pick (eqb (length out) (resultLength (layoutOf h)))
     (onPivot (refusedRow h w) (length out) (record { answer = Solved (solutionOf h w reml); result = resultList h w })) (refusing 13 0 out))

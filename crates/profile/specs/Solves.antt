@@ -9,7 +9,7 @@ use Rattle.storage.specs.Shape.{Shape, packed, diagonal, columns, entries}
 use Rattle.rules.specs.Arithmetic.{ieee}
 use Rattle.rules.specs.Begin.{fixedCell}
 use Rattle.rules.specs.Cholesky.{at, forward}
-use Rattle.rules.specs.Solves.{lessDense, lessSparse, lessDenseT, lessSparseT, backward}
+use Rattle.rules.specs.Solves.{matvecSub, sparseMatvecSub, matvecTSub, sparseMatvecTSub, backward}
 use Rattle.layout.specs.Shapes.{pick, levels, shape, loadedShape}
 use Rattle.heading_format.specs.Heading.{layoutOf, entryRow}
 use Rattle.workspace.specs.Memory.{cellOf, loadedBlock, workingBlock, thetaOf}
@@ -42,45 +42,45 @@ module _ (h : List ℕ) (w : List Float) where
   sparseValue c = getD (workingBlock h w 1 0) c (ieee .zero)
 
   -- ---- forward: v of block i less cross block (i, j) times block j of the solution
-  abbrev pub lessForward : ℕ → ℕ → List Float → (ℕ → Float) → ℕ → Float
-  lessForward i j z v =
-      pick (layoutOf h .sparse) (lessSparse ieee (entryRow h) sparseValue (at ieee z) v (levels (layoutOf h) j))
-      (lessDense ieee (crossCellOf i j) (at ieee z) v (levels (layoutOf h) j))
+  abbrev pub subtractForward : ℕ → ℕ → List Float → (ℕ → Float) → ℕ → Float
+  subtractForward i j z v =
+      pick (layoutOf h .sparse) (sparseMatvecSub ieee (entryRow h) sparseValue (at ieee z) v (levels (layoutOf h) j))
+      (matvecSub ieee (crossCellOf i j) (at ieee z) v (levels (layoutOf h) j))
 
   -- blocks 0 to n - 1, in turn
-  unfoldable pub lessFirst : ℕ → List (List Float) → (ℕ → Float) → ℕ → ℕ → Float
+  unfoldable pub subtractFirst : ℕ → List (List Float) → (ℕ → Float) → ℕ → ℕ → Float
   unfolding shape
-  lessFirst i z v zero = v
-  lessFirst i z v (suc j) = lessForward i j (blockIn z j) (lessFirst i z v j)
+  subtractFirst i z v zero = v
+  subtractFirst i z v (suc j) = subtractForward i j (blockIn z j) (subtractFirst i z v j)
 
   -- the first n blocks of the solution of L z = v
   unfoldable pub forwardSolved : List (List Float) → ℕ → List (List Float)
-  unfolding lessFirst shape
+  unfolding subtractFirst shape
   forwardSolved v zero = []
   forwardSolved v (suc i) =
       let z = forwardSolved v i in
-      z ++ (forwardIn (factorShapeOf i) (workingBlock h w i i) (lessFirst i z (at ieee (blockIn v i)) i) ∷ [])
+      z ++ (forwardIn (factorShapeOf i) (workingBlock h w i i) (subtractFirst i z (at ieee (blockIn v i)) i) ∷ [])
 
   -- ---- backward: v of block i less the transpose of cross block (j, i) times block j of the solution
-  abbrev pub lessBackward : ℕ → ℕ → List Float → (ℕ → Float) → ℕ → Float
-  lessBackward j i z v =
-      pick (layoutOf h .sparse) (lessSparseT ieee (entryRow h) sparseValue (at ieee z) v)
-      (lessDenseT ieee (crossCellOf j i) (at ieee z) v (levels (layoutOf h) j))
+  abbrev pub subtractBackward : ℕ → ℕ → List Float → (ℕ → Float) → ℕ → Float
+  subtractBackward j i z v =
+      pick (layoutOf h .sparse) (sparseMatvecTSub ieee (entryRow h) sparseValue (at ieee z) v)
+      (matvecTSub ieee (crossCellOf j i) (at ieee z) v (levels (layoutOf h) j))
 
   -- blocks i + 1 to i + n, in turn; z has them from i + 1 on
-  unfoldable pub lessLater : ℕ → List (List Float) → (ℕ → Float) → ℕ → ℕ → Float
+  unfoldable pub subtractLater : ℕ → List (List Float) → (ℕ → Float) → ℕ → ℕ → Float
   unfolding shape
-  lessLater i z v zero = v
-  lessLater i z v (suc x) = lessBackward (i + suc x) i (blockIn z x) (lessLater i z v x)
+  subtractLater i z v zero = v
+  subtractLater i z v (suc x) = subtractBackward (i + suc x) i (blockIn z x) (subtractLater i z v x)
 
   -- the last n blocks of the solution of L' w = z
   unfoldable pub backwardSolved : List (List Float) → ℕ → List (List Float)
-  unfolding lessLater shape
+  unfolding subtractLater shape
   backwardSolved z zero = []
   backwardSolved z (suc n) =
       let rest = backwardSolved z n in
       let i = layoutOf h .k - suc n in
-      backwardIn (factorShapeOf i) (workingBlock h w i i) (lessLater i rest (at ieee (blockIn z i)) n) ∷ rest
+      backwardIn (factorShapeOf i) (workingBlock h w i i) (subtractLater i rest (at ieee (blockIn z i)) n) ∷ rest
 
   -- w = A⁻¹ v (`backsolve_a_inv`)
   unfoldable pub solvedFor : List (List Float) → List (List Float)

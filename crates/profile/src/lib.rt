@@ -1,4 +1,5 @@
-// Deviance and solution (document 01, Records 6 and 7). What the calls answer and leave is defined in specs/.
+// Deviance and solution (document 01, Records 6 and 7): what the calls answer and leave, as definitions in specs/; and the enums and the struct that
+// they answer.
 use refusal::Refusal;
 
 // Record 6: the deviance, or the refused pivot's block and row, or no scale; or a refusal.

@@ -1,1 +1,1 @@
-pub mod Underway
+pub mod ReadyInTurn

@@ -5,9 +5,9 @@ ghost use Prim.Native.Nat.{_≤_};
 ghost use lib.ListN.{length};
 ghost use Rattle.step_order.specs.Steps.{rustOrder};
 ghost use Rattle.layout.specs.Shapes.{doublesNeeded};
-ghost use Rattle.heading_format.specs.Heading.{layoutOf, lawful};
-ghost use Rattle.workspace.specs.Answers.{space};
-ghost use Rattle.profile_deviance.specs.ready_step.Underway.{Underway};
+ghost use Rattle.heading_format.specs.Heading.{layoutOf, validLayout};
+ghost use Rattle.workspace.specs.Answers.{workspace};
+ghost use Rattle.profile_deviance.specs.ready_step.ReadyInTurn.{ReadyInTurn};
 ghost use Rattle.profile_deviance.specs.full_update.Updating.{factored, updateOf};
 use crate::rust_order;
 use deviance::deviance_tail;
@@ -22,23 +22,23 @@ pub enum Updated {
 }
 
 // The Rust's order on a workspace that is begun.
-fn factor(h: &mut [u32], w: &mut [f64]) -> Updated
-    requires { ⌜ (128 ≤ length (now h)) × (lawful (layoutOf (now h)) ≡ true) × (doublesNeeded (layoutOf (now h)) ≤ length (now w)) × Underway (space (now h) (now w)) (rustOrder (layoutOf (now h) .k)) ⌝ }
-    ensures { λ r. ⌜ record { answer = r; left = space (now (h .exit)) (now (w .exit)) } ≡ factored (space (now (h .entry)) (now (w .entry))) ⌝ }
+fn factor(heading: &mut [u32], doubles: &mut [f64]) -> Updated
+    requires { ⌜ (128 ≤ length (now heading)) × (validLayout (layoutOf (now heading)) ≡ true) × (doublesNeeded (layoutOf (now heading)) ≤ length (now doubles)) × ReadyInTurn (workspace (now heading) (now doubles)) (rustOrder (layoutOf (now heading) .k)) ⌝ }
+    ensures { λ r. ⌜ record { answer = r; left = workspace (now (heading .exit)) (now (doubles .exit)) } ≡ factored (workspace (now (heading .entry)) (now (doubles .entry))) ⌝ }
 {
-    let y = heading::layout(h);
-    match rust_order::run(h, w, y.k) {
-        Answer::Accepted => Updated::Value(deviance_tail::log_determinant(y, w)),
+    let layout = heading::layout(heading);
+    match rust_order::run(heading, doubles, layout.k) {
+        Answer::Accepted => Updated::Value(deviance_tail::log_determinant(layout, doubles)),
         Answer::Refused(r) => Updated::Pivot(r.first, r.second),
     }
 }
 
 // Begin, and the Rust's order.
-pub fn update(h: &mut [u32], w: &mut [f64], theta: &[f64]) -> Updated
-    ensures { λ r. ⌜ record { answer = r; left = space (now (h .exit)) (now (w .exit)) } ≡ updateOf (now (h .entry)) (now (w .entry)) (now (theta .entry)) ⌝ }
+pub fn update(heading: &mut [u32], doubles: &mut [f64], theta: &[f64]) -> Updated
+    ensures { λ r. ⌜ record { answer = r; left = workspace (now (heading .exit)) (now (doubles .exit)) } ≡ updateOf (now (heading .entry)) (now (doubles .entry)) (now (theta .entry)) ⌝ }
 {
-    match begin::begin(h, w, theta) {
-        Answer::Accepted => factor(h, w),
+    match begin::begin(heading, doubles, theta) {
+        Answer::Accepted => factor(heading, doubles),
         Answer::Refused(r) => Updated::Refused(r),
     }
 }

@@ -2,11 +2,11 @@
 ghost use mathlib.Core.List.{_∷_, []};
 ghost use mathlib.Core.Path.{_≡_};
 ghost use Prim.Native.Nat.{_-_};
-ghost use Rattle.workspace.specs.Answers.{space};
+ghost use Rattle.workspace.specs.Answers.{workspace};
 ghost use Rattle.update.specs.Names.{stepOfName};
-ghost use Rattle.profile_deviance.specs.ready_step.Underway.{isRefused, Underway, Ran};
+ghost use Rattle.profile_deviance.specs.ready_step.ReadyInTurn.{isRefused, ReadyInTurn, Ran};
 use refusal::Answer;
-use update::Name;
+use update::StepName;
 
 // Whether an answer is a refusal.
 pub fn is_refused(a: Answer) -> bool
@@ -19,9 +19,9 @@ pub fn is_refused(a: Answer) -> bool
 }
 
 // The step whose turn it is.
-pub fn take(h: &mut [u32], w: &mut [f64], name: Name) -> Answer
-    requires { ⌜ Underway (space (now h) (now w)) (stepOfName name ∷ []) ⌝ }
-    ensures { λ r. ⌜ Ran (space (now (h .entry)) (now (w .entry))) (stepOfName name ∷ []) (record { answer = r; left = space (now (h .exit)) (now (w .exit)) }) ⌝ }
+pub fn apply(heading: &mut [u32], doubles: &mut [f64], name: StepName) -> Answer
+    requires { ⌜ ReadyInTurn (workspace (now heading) (now doubles)) (stepOfName name ∷ []) ⌝ }
+    ensures { λ r. ⌜ Ran (workspace (now (heading .entry)) (now (doubles .entry))) (stepOfName name ∷ []) (record { answer = r; left = workspace (now (heading .exit)) (now (doubles .exit)) }) ⌝ }
 {
-    step::take_ready(h, w, name)
+    step::apply_ready(heading, doubles, name)
 }

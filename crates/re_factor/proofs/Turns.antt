@@ -21,7 +21,7 @@ use Rattle.rules.specs.Begin.{diagonalCell}
 use Rattle.block_runs.specs.blocks.Blocks.{block, entry}
 use Rattle.block_runs.specs.blocks.Done.{Done}
 use Rattle.block_runs.proofs.blocks.Laws.{read-block, has-diagonal, begun, ended, next-run, done-length, same-block, next}
-use Rattle.re_factor.specs.Factor.{pivotAt, startedCell, started}
+use Rattle.re_factor.specs.Factor.{pivotAt, scaledCell, scaled}
 
 -- a pivot that is read at its place
 pub read-pivot : (off n : ℕ) (w : List Float) (r : ℕ) → r < n → off + n ≤ length w → getD w (off + r) nan ≡ pivotAt off (diagonal n) w r
@@ -30,34 +30,34 @@ read-pivot off n w r h fits =
 
 -- ---- begin
 -- cell i of run j of a block of shape s that is begun
-abbrev pub startedRun : Shape → (n src : ℕ) → Float → List Float → ℕ → ℕ → Float
-startedRun s n src t w j i = startedCell n src t w (rowAt s j i) (columnAt s j i)
+abbrev pub scaledRun : Shape → (n src : ℕ) → Float → List Float → ℕ → ℕ → Float
+scaledRun s n src t w j i = scaledCell n src t w (rowAt s j i) (columnAt s j i)
 
 -- the runs before j and the first i cells of run j are begun, all else is as in w₀
 abbrev pub Begun : Shape → (off n src : ℕ) → Float → List Float → (j i : ℕ) → List Float → Type 0
-Begun s off n src t w₀ j i w = Done off (runLength s) (startedRun s n src t w₀) w₀ j i w
+Begun s off n src t w₀ j i w = Done off (runLength s) (scaledRun s n src t w₀) w₀ j i w
 
 module _ (s : Shape) (off n src : ℕ) (t : Float) (w₀ : List Float) (fits : off + sizeOf s ≤ length w₀) where
   pub begun-none : Begun s off n src t w₀ 0 0 w₀
-  begun-none = begun off (runLength s) (startedRun s n src t w₀) w₀ (runs s) fits
+  begun-none = begun off (runLength s) (scaledRun s n src t w₀) w₀ (runs s) fits
 
-  pub begun-all : (r : ℕ) → r ≡ runs s → (w : List Float) → Begun s off n src t w₀ r 0 w → w ≡ started s off n src t w₀
+  pub begun-all : (r : ℕ) → r ≡ runs s → (w : List Float) → Begun s off n src t w₀ r 0 w → w ≡ scaled s off n src t w₀
   unfolding fill
   begun-all r e w so =
-      ended off (runLength s) (startedRun s n src t w₀) w₀ (runs s) fits w (rw e at so)
+      ended off (runLength s) (scaledRun s n src t w₀) w₀ (runs s) fits w (rw e at so)
 
   -- a list of the first i cells of run j, stored at once
   pub begun-cells : (j i : ℕ) → j < runs s → i ≤ runLength s j → (w : List Float) → Begun s off n src t w₀ j 0 w
-      → (at : ℕ) → at ≡ off + start (runLength s) j → (l : List Float) → l ≡ tab i (startedRun s n src t w₀ j) → (w′ : List Float) → w′ ≡ store at l w
+      → (at : ℕ) → at ≡ off + start (runLength s) j → (l : List Float) → l ≡ tab i (scaledRun s n src t w₀ j) → (w′ : List Float) → w′ ≡ store at l w
       → Begun s off n src t w₀ j i w′
   unfolding tab
   begun-cells j i run here w so at e l f w′ q =
-      let L : List Float = cells (runLength s) j (startedRun s n src t w₀) in
-      let k : length L ≡ start (runLength s) j = length-cells (runLength s) j (startedRun s n src t w₀) in
+      let L : List Float = cells (runLength s) j (scaledRun s n src t w₀) in
+      let k : length L ≡ start (runLength s) j = length-cells (runLength s) j (scaledRun s n src t w₀) in
       let m : at ≡ off + length L = omega arith in
       let b : w ≡ store off L w₀ = so ∙ ap (λ (x : List Float). store off x w₀) (append-nil L) in
-      q ∙ ap₂ (λ (x : List Float) (h : ℕ). store h x w) f m ∙ ap (store (off + length L) (tab i (startedRun s n src t w₀ j))) b
-      ∙ store-more off L w₀ (omega (arith, start-below (runLength s) j (runs s) run)) (tab i (startedRun s n src t w₀ j))
+      q ∙ ap₂ (λ (x : List Float) (h : ℕ). store h x w) f m ∙ ap (store (off + length L) (tab i (scaledRun s n src t w₀ j))) b
+      ∙ store-more off L w₀ (omega (arith, start-below (runLength s) j (runs s) run)) (tab i (scaledRun s n src t w₀ j))
 
   -- pivot r, which ends its run
   pub begun-pivot : src + n ≤ length w₀ → (off + sizeOf s ≤ src) ⊎ (src + n ≤ off)
@@ -67,7 +67,7 @@ module _ (s : Shape) (off n src : ℕ) (t : Float) (w₀ : List Float) (fits : o
   begun-pivot from apart r h has last w so k e =
       let y = lies s r r has in
       let len : ℕ → ℕ = runLength s in
-      let b : ℕ → ℕ → Float = startedRun s n src t w₀ in
+      let b : ℕ → ℕ → Float = scaledRun s n src t w₀ in
       let j : ℕ = runOf s r r in
       let i : ℕ = inRun s r r in
       let here : i ≤ len j = omega arith in
@@ -76,15 +76,15 @@ module _ (s : Shape) (off n src : ℕ) (t : Float) (w₀ : List Float) (fits : o
       same-block off len b w₀ (runs s) fits j y.run i here w so src (diagonal n)
       (⊎-elim (λ x. inl x) (λ x. inr (omega (arith, start-single n))) apart) in
       let v : Float = diagonalCell ieee t (getD w (src + r) nan) in
-      let g : v ≡ startedCell n src t w₀ r r =
+      let g : v ≡ scaledCell n src t w₀ r r =
       ap (diagonalCell ieee t) (read-pivot src n w r h (omega arith) ∙ ap (λ (x : ℕ → ℕ → Float). x r r) a) ∙ rw (eq-eqb r r refl) in
       next-run off len b w₀ (runs s) fits j y.run (set w k v)
-      (rw (← last) (next off len b w₀ (runs s) fits j y.run i here w so y.within k e v (g ∙ sym (ap₂ (startedCell n src t w₀) y.row y.column))))
+      (rw (← last) (next off len b w₀ (runs s) fits j y.run i here w so y.within k e v (g ∙ sym (ap₂ (scaledCell n src t w₀) y.row y.column))))
 
 -- beside the pivot of row r all is 0
-pub beside-zero : (n src : ℕ) (t : Float) (w : List Float) (r : ℕ) → tab r (λ i. ieee .zero) ≡ tab r (startedCell n src t w r)
-beside-zero n src t w r =
-    tab-ext r (λ i. ieee .zero) (startedCell n src t w r) (λ i h. rw (ne-eqb r i (λ e. omega arith)))
+pub off-diagonal-zero : (n src : ℕ) (t : Float) (w : List Float) (r : ℕ) → tab r (λ i. ieee .zero) ≡ tab r (scaledCell n src t w r)
+off-diagonal-zero n src t w r =
+    tab-ext r (λ i. ieee .zero) (scaledCell n src t w r) (λ i h. rw (ne-eqb r i (λ e. omega arith)))
 
 -- ---- each entry over its pivot
 -- entry i over its pivot

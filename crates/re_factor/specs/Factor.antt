@@ -23,12 +23,12 @@ abbrev pub pivotAt : ℕ → Shape → List Float → ℕ → Float
 pivotAt off s w r = block off s w r r
 
 -- Record 4, begin: cell (r, c) is (t·t)·a + 1 on the diagonal, where a is pivot r of the n loaded ones at src, and 0 beside it
-abbrev pub startedCell : (n src : ℕ) → Float → List Float → ℕ → ℕ → Float
-startedCell n src t w r c = cond (eqb r c) (diagonalCell ieee t (pivotAt src (diagonal n) w r)) (ieee .zero)
+abbrev pub scaledCell : (n src : ℕ) → Float → List Float → ℕ → ℕ → Float
+scaledCell n src t w r c = cond (eqb r c) (diagonalCell ieee t (pivotAt src (diagonal n) w r)) (ieee .zero)
 
 -- the block of shape s at off, begun
-abbrev pub started : Shape → (off n src : ℕ) → Float → List Float → List Float
-started s off n src t w = store off (fill s (startedCell n src t w)) w
+abbrev pub scaled : Shape → (off n src : ℕ) → Float → List Float → List Float
+scaled s off n src t w = store off (fill s (scaledCell n src t w)) w
 
 -- Record 4, C: the answer p for the first pivot that is refused, and the list w′ where `left` stands at off for what stood there
 pub record Factored (first : Option ℕ) (left : Pivots → List Float) (off : ℕ) (w w′ : List Float) (p : Pivots) : Type 0 where

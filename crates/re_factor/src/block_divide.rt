@@ -4,14 +4,14 @@ ghost use Prim.Native.Nat.{_+_, _≤_};
 ghost use lib.ListN.{length};
 ghost use Rattle.re_factor.specs.Factor.{divided};
 
-// Each of the n entries at z of v divided by its pivot, which lies at off of w.
-pub fn divide(v: &mut [f64], z: usize, w: &[f64], off: usize, n: usize)
-    requires { ⌜ (z + n ≤ length (now v)) × (off + n ≤ length (now w)) ⌝ }
-    ensures { λ _. ⌜ now (v .exit) ≡ divided z off n (now (w .entry)) (now (v .entry)) ⌝ }
+// Each of the n entries at z of v divided by its pivot, which lies at off of `doubles`.
+pub fn divide(v: &mut [f64], z: usize, doubles: &[f64], off: usize, n: usize)
+    requires { ⌜ (z + n ≤ length (now v)) × (off + n ≤ length (now doubles)) ⌝ }
+    ensures { λ _. ⌜ now (v .exit) ≡ divided z off n (now (doubles .entry)) (now (v .entry)) ⌝ }
 {
     let mut i = 0;
     while i < n {
-        v[z + i] = v[z + i] / w[off + i];
+        v[z + i] = v[z + i] / doubles[off + i];
         i += 1;
     }
 }

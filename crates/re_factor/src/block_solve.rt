@@ -8,22 +8,22 @@ use re_lower::back_substitution;
 use re_lower::substitution;
 use re_lower::triangle_cells;
 
-// Forward substitution of the n entries at z of v with the packed factor at off of w.
-pub fn forward(v: &mut [f64], z: usize, w: &[f64], off: usize, n: usize)
-    requires { ⌜ (n ≤ 316) × (z + n ≤ length (now v)) × (off + sizeOf (packed n) ≤ length (now w)) ⌝ }
-    ensures { λ _. ⌜ now (v .exit) ≡ solvedForward z off n (now (w .entry)) (now (v .entry)) ⌝ }
+// Forward substitution of the n entries at z of v with the packed factor at off of `doubles`.
+pub fn forward(v: &mut [f64], z: usize, doubles: &[f64], off: usize, n: usize)
+    requires { ⌜ (n ≤ 316) × (z + n ≤ length (now v)) × (off + sizeOf (packed n) ≤ length (now doubles)) ⌝ }
+    ensures { λ _. ⌜ now (v .exit) ≡ solvedForward z off n (now (doubles .entry)) (now (v .entry)) ⌝ }
 {
     let last = z + n;
     let end = off + triangle_cells::row_start(n);
-    substitution::solve_row(&mut v[z..last], &w[off..end], n);
+    substitution::solve_row(&mut v[z..last], &doubles[off..end], n);
 }
 
 // Backward substitution of them.
-pub fn backward(v: &mut [f64], z: usize, w: &[f64], off: usize, n: usize)
-    requires { ⌜ (n ≤ 316) × (z + n ≤ length (now v)) × (off + sizeOf (packed n) ≤ length (now w)) ⌝ }
-    ensures { λ _. ⌜ now (v .exit) ≡ solvedBackward z off n (now (w .entry)) (now (v .entry)) ⌝ }
+pub fn backward(v: &mut [f64], z: usize, doubles: &[f64], off: usize, n: usize)
+    requires { ⌜ (n ≤ 316) × (z + n ≤ length (now v)) × (off + sizeOf (packed n) ≤ length (now doubles)) ⌝ }
+    ensures { λ _. ⌜ now (v .exit) ≡ solvedBackward z off n (now (doubles .entry)) (now (v .entry)) ⌝ }
 {
     let last = z + n;
     let end = off + triangle_cells::row_start(n);
-    back_substitution::backward(&mut v[z..last], &w[off..end], n);
+    back_substitution::backward(&mut v[z..last], &doubles[off..end], n);
 }

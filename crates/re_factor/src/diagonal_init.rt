@@ -4,17 +4,17 @@ ghost use mathlib.Core.Logic.{_⊎_};
 ghost use Prim.Native.Nat.{_+_, _≤_};
 ghost use lib.ListN.{length};
 ghost use Rattle.storage.specs.Shape.{diagonal};
-ghost use Rattle.re_factor.specs.Factor.{started};
+ghost use Rattle.re_factor.specs.Factor.{scaled};
 
 // Begin on a diagonal of n cells.
-pub fn init_diagonal(w: &mut [f64], off: usize, n: usize, src: usize, t: f64)
-    requires { ⌜ (off + n ≤ length (now w)) × (src + n ≤ length (now w)) ⌝ }
+pub fn init_diagonal(doubles: &mut [f64], off: usize, n: usize, src: usize, t: f64)
+    requires { ⌜ (off + n ≤ length (now doubles)) × (src + n ≤ length (now doubles)) ⌝ }
     requires { ⌜ (off + n ≤ src) ⊎ (src + n ≤ off) ⌝ }
-    ensures { λ _. ⌜ now (w .exit) ≡ started (diagonal n) off n src t (now (w .entry)) ⌝ }
+    ensures { λ _. ⌜ now (doubles .exit) ≡ scaled (diagonal n) off n src t (now (doubles .entry)) ⌝ }
 {
     let mut r = 0;
     while r < n {
-        w[off + r] = t * t * w[src + r] + 1.0;
+        doubles[off + r] = t * t * doubles[src + r] + 1.0;
         r += 1;
     }
 }

@@ -1,5 +1,5 @@
-// C on one diagonal block (document 01, Record 4; the Rust's `ReFactor::chol`), on the whole list of doubles in which the block lies from off on: the
-// target's cells are the rule's, every other double stays.
+// A diagonal block in the list of doubles (document 01, Records 4 and 7; the Rust's `ReFactor`): begin's scaling, C, logarithms of the pivots,
+// solves. The block lies from off on; its cells are the rule's, every other double stays. Definitions in specs/Factor.antt.
 pub mod block_divide;
 pub mod block_logs;
 pub mod block_solve;
@@ -15,19 +15,19 @@ use re_lower::diagonal_chol;
 use re_lower::triangle_cells;
 
 // C: the packed triangle of n rows at off becomes its factor, unless a pivot is refused.
-pub fn chol(w: &mut [f64], off: usize, n: usize) -> re_lower::Pivots
-    requires { ⌜ (n ≤ 316) × (off + sizeOf (packed n) ≤ length (now w)) ⌝ }
-    ensures { λ p. ⌜ TriangleFactored off n (now (w .entry)) (now (w .exit)) p ⌝ }
+pub fn chol(doubles: &mut [f64], off: usize, n: usize) -> re_lower::Pivots
+    requires { ⌜ (n ≤ 316) × (off + sizeOf (packed n) ≤ length (now doubles)) ⌝ }
+    ensures { λ p. ⌜ TriangleFactored off n (now (doubles .entry)) (now (doubles .exit)) p ⌝ }
 {
     let end = off + triangle_cells::row_start(n);
-    cholesky::chol(&mut w[off..end], n)
+    cholesky::chol(&mut doubles[off..end], n)
 }
 
 // C on a diagonal: its n cells become their roots, unless one is refused.
-pub fn chol_diagonal(w: &mut [f64], off: usize, n: usize) -> re_lower::Pivots
-    requires { ⌜ off + n ≤ length (now w) ⌝ }
-    ensures { λ p. ⌜ DiagonalFactored off n (now (w .entry)) (now (w .exit)) p ⌝ }
+pub fn chol_diagonal(doubles: &mut [f64], off: usize, n: usize) -> re_lower::Pivots
+    requires { ⌜ off + n ≤ length (now doubles) ⌝ }
+    ensures { λ p. ⌜ DiagonalFactored off n (now (doubles .entry)) (now (doubles .exit)) p ⌝ }
 {
     let end = off + n;
-    diagonal_chol::chol_diagonal(&mut w[off..end], n)
+    diagonal_chol::chol_diagonal(&mut doubles[off..end], n)
 }

@@ -11,7 +11,7 @@ use Rattle.storage.specs.Part.{store}
 use Rattle.storage.proofs.Starts.{start-triangle}
 use Rattle.storage.proofs.Parts.{store-before, store-in, store-nil}
 use Rattle.rules.specs.Arithmetic.{Arithmetic, ieee}
-use Rattle.rules.specs.Sums.{chain, lessFrom}
+use Rattle.rules.specs.Sums.{chain, subtractFrom}
 use Rattle.rules.specs.Cholesky.{at}
 use Rattle.rules.specs.Solves.{backward}
 use Rattle.re_lower.specs.Lower.{lower}
@@ -46,12 +46,12 @@ abbrev pub columnTo : Float → List Float → List Float → ℕ → ℕ → Fl
 columnTo s l t i x = chain ieee s (λ y. lower l (i + suc y) i) (λ y. at ieee t (i + suc y)) x
 
 pub column-none : (s : Float) (l t : List Float) (i : ℕ) → s ≡ columnTo s l t i (i + 1 - suc i)
-unfolding lessFrom
+unfolding subtractFrom
 column-none s l t i = let e : i + 1 - suc i ≡ 0 = omega arith in sym (ap (columnTo s l t i) e)
 
 pub column-turn : (s v : Float) (l t : List Float) (i q row x : ℕ) → q ≡ i + suc x → row ≡ start triangle q → row + i < length l → q < length t
     → v ≡ columnTo s l t i x → sub binary64 v (mul binary64 (getD l (row + i) nan) (getD t q nan)) ≡ columnTo s l t i (suc x)
-unfolding lessFrom
+unfolding subtractFrom
 column-turn s v l t i q row x e f h k g =
     ap₂ (sub binary64) g
     (ap₂ (mul binary64) (any-default l (row + i) nan ieee.zero h ∙ ap (λ (j : ℕ). at ieee l (j + i)) (f ∙ ap (start triangle) e))

@@ -14,7 +14,7 @@ use Rattle.storage.proofs.Starts.{start-below, start-le}
 use Rattle.storage.proofs.Cells.{length-tab, getD-tab, take-tab, length-cells, getD-cells, any-default}
 use Rattle.storage.proofs.Parts.{store-before, store-in, store-behind, store-one}
 use Rattle.rules.specs.Arithmetic.{ieee}
-use Rattle.rules.specs.Sums.{chain, lessFrom}
+use Rattle.rules.specs.Sums.{chain, subtractFrom}
 use Rattle.rules.specs.Cholesky.{at, forward, factor}
 use Rattle.re_lower.specs.Lower.{lower}
 use Rattle.re_lower.specs.Band.{
@@ -44,12 +44,12 @@ set-one {A} t i j v e h =
 -- ---- cell c of row i of a band
 module _ (x l : List Float) (i from c : ℕ) where
   pub lane-start : (z : ℕ) → z ≡ 4 * c + i → z < length x → getD x z nan ≡ laneChain (lane x i c) x i l from 0
-  unfolding lessFrom
+  unfolding subtractFrom
   lane-start z p h = any-default x z nan ieee.zero h ∙ ap (at ieee x) p
 
   pub lane-turn : (v : Float) (y y′ z q : ℕ) → suc y ≡ y′ → z ≡ 4 * y + i → q ≡ from + y → z < length x → q < length l → v ≡ laneChain (lane x i c) x i l from y
       → sub binary64 v (mul binary64 (getD x z nan) (getD l q nan)) ≡ laneChain (lane x i c) x i l from y′
-  unfolding lessFrom
+  unfolding subtractFrom
   lane-turn v y y′ z q g p f h k e =
       ap₂ (sub binary64) e
       (ap₂ (mul binary64) (any-default x z nan ieee.zero h ∙ ap (at ieee x) p) (any-default l q nan ieee.zero k ∙ ap (at ieee l) f))

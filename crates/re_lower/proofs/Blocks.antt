@@ -16,7 +16,7 @@ use Rattle.storage.proofs.Starts.{start-below, start-single}
 use Rattle.storage.proofs.Parts.{store-lent}
 use Rattle.storage.proofs.Blocks.{length-fill}
 use Rattle.rules.specs.Arithmetic.{Arithmetic, ieee}
-use Rattle.rules.specs.Cholesky.{at, forward, factor, radicand, besidePivot, next, firstBad, pivots}
+use Rattle.rules.specs.Cholesky.{at, forward, factor, radicand, leftOfPivot, next, firstBad, pivots}
 use Rattle.rules.specs.Solves.{backward}
 use Rattle.re_lower.specs.Lower.{answerOf, leftOfTriangle, TriangleDone, leftOfDiagonal, DiagonalDone, rowSolved, backSolved}
 use Rattle.re_lower.specs.declared.Pivots.{Pivots}
@@ -51,7 +51,7 @@ pub triangle-room : (b : ℕ → ℕ → Float) (n : ℕ) (p : Pivots) → p ≡
 triangle-room b n Accepted e = omega (arith, length-fill (packed n) (factor ieee b n))
 triangle-room b n (Refused r) e =
     let h : r < n = row-below ieee (radicand ieee b) n r (refused-some (pivots ieee (radicand ieee b) n) r e) in
-    let m : List Float = besidePivot ieee b (factor ieee b r) r in
+    let m : List Float = leftOfPivot ieee b (factor ieee b r) r in
     omega
     (arith, length-append (fill (packed r) (factor ieee b r)) m, length-fill (packed r) (factor ieee b r), length-forward ieee (b r) (factor ieee b r) r, start-below triangle r n h)
 

@@ -12,7 +12,7 @@ use lib.Seq.{ext-getD}
 use Rattle.storage.specs.Runs.{triangle, tab, cells}
 use Rattle.storage.proofs.Cells.{length-tab, getD-tab, tab-ext, cells-ext}
 use Rattle.rules.specs.Arithmetic.{Arithmetic}
-use Rattle.rules.specs.Cholesky.{at, forward, besidePivot, rowOf, factor, next, firstBad, pivots}
+use Rattle.rules.specs.Cholesky.{at, forward, leftOfPivot, rowOf, factor, next, firstBad, pivots}
 use Rattle.rules.proofs.Rows.{chain-ext, length-forward, row-stays, row-made}
 
 module _ (A : Arithmetic) where
@@ -30,7 +30,7 @@ module _ (A : Arithmetic) where
 
   module _ (b : ℕ → ℕ → A .Num) where
     pub length-row : (L : ℕ → ℕ → A .Num) (r : ℕ) → length (rowOf A b L r) ≡ suc r
-    length-row L r = length-append (besidePivot A b L r) _ ∙ omega (arith, length-forward A (b r) L r)
+    length-row L r = length-append (leftOfPivot A b L r) _ ∙ omega (arith, length-forward A (b r) L r)
 
     -- one row more of the factor
     pub rows-grow : (r : ℕ) → cells triangle (suc r) (factor A b (suc r)) ≡ cells triangle r (factor A b r) ++ rowOf A b (factor A b r) r

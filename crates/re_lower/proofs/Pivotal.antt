@@ -23,8 +23,8 @@ use Rattle.storage.proofs.Starts.{start-below, start-single}
 use Rattle.storage.proofs.Cells.{length-cells, getD-cells, length-tab, getD-tab}
 use Rattle.storage.proofs.Blocks.{fill-packed, fill-diagonal}
 use Rattle.rules.specs.Arithmetic.{ieee}
-use Rattle.rules.specs.Sums.{chain, lessFrom}
-use Rattle.rules.specs.Cholesky.{at, besidePivot, factor, radicand, pivots}
+use Rattle.rules.specs.Sums.{chain, subtractFrom}
+use Rattle.rules.specs.Cholesky.{at, leftOfPivot, factor, radicand, pivots}
 use Rattle.re_lower.specs.Lower.{lower, pivot, TriangleDone, DiagonalDone}
 use Rattle.re_lower.specs.declared.Pivots.the-variants.{Accepted}
 use Rattle.rules.proofs.Rows.{pivot-root, accepted-at}
@@ -35,12 +35,12 @@ abbrev pub AboveOrNaN : Float → Type 0
 AboveOrNaN y = (ieee.above y ≡ true) ⊎ (y ≡ nan)
 
 -- the double 0, by its sign and digits
-abbrev pub nought : Float
-nought = fin false 0 (pos 0)
+abbrev pub zeroFloat : Float
+zeroFloat = fin false 0 (pos 0)
 
-pub nought-is : ieee .zero ≡ nought
+pub zero-float-is : ieee .zero ≡ zeroFloat
 unfolding Ieee.ofBits
-nought-is = refl
+zero-float-is = refl
 
 -- ---- a double against 0: b stands for 0 in the units of both
 at-most : (s : Bool) (a b : ℕ) → b ≡ 0 → (s ≡ true) ⊎ (a ≡ 0) → (below s a false b || level s a false b) ≡ true
@@ -54,7 +54,7 @@ clash : {X : Type 0} (x : Bool) → x ≡ true → x ≡ false → X
 clash x e f = absurd (let z : _≡_ {A = ℕ} 0 1 = cc in omega arith)
 
 -- a radicand that is not refused is above 0, or NaN
-pub not-refused : (x : Float) → Ieee.le x nought ≡ false → T (positive x) ⊎ ((x ≡ inf false) ⊎ (x ≡ nan))
+pub not-refused : (x : Float) → Ieee.le x zeroFloat ≡ false → T (positive x) ⊎ ((x ≡ inf false) ⊎ (x ≡ nan))
 unfolding Ieee.le
 not-refused nan e = inr (inr refl)
 not-refused (inf false) e = inr (inl refl)
@@ -64,7 +64,7 @@ not-refused (fin false zero d) e = clash _ (at-most false (0 * up d * 1) (0 * 1 
 not-refused (fin false (suc m) d) e = inl (lt→ltb 0 (suc m) (zero-lt-suc m))
 
 -- what is above 0 by its sign and digits is so by the test
-pub positive-above : (y : Float) → T (positive y) → Ieee.lt nought y ≡ true
+pub positive-above : (y : Float) → T (positive y) → Ieee.lt zeroFloat y ≡ true
 unfolding Ieee.lt
 positive-above nan p = absurd p
 positive-above (inf s) p = absurd p
@@ -72,17 +72,17 @@ positive-above (fin true m d) p = absurd p
 positive-above (fin false m d) p =
     let k : 0 < m * up d = mul-pos (ltb→lt 0 m p) (up-pos d) in lt-ltb (0 * 1 * down d) (m * up d * 1) (omega arith)
 
-root-above : (x : Float) → T (fits binary64 x) → Ieee.le x nought ≡ false → (Ieee.lt nought (sqrtOf x) ≡ true) ⊎ (sqrtOf x ≡ nan)
+root-above : (x : Float) → T (fits binary64 x) → Ieee.le x zeroFloat ≡ false → (Ieee.lt zeroFloat (sqrtOf x) ≡ true) ⊎ (sqrtOf x ≡ nan)
 unfolding sqrtOf Ieee.lt
 root-above x f e =
     ⊎-elim (λ p. inl (positive-above (sqrtOf x) (sqrt-positive x f p)))
-    (⊎-elim (λ p. inl (ap (λ (y : Float). Ieee.lt nought (sqrtOf y)) p)) (λ p. inr (ap sqrtOf p))) (not-refused x e)
+    (⊎-elim (λ p. inl (ap (λ (y : Float). Ieee.lt zeroFloat (sqrtOf y)) p)) (λ p. inr (ap sqrtOf p))) (not-refused x e)
 
 -- The root of a radicand that is not refused is above 0 or NaN.
 pub root-of-accepted : (x : Float) → T (fits binary64 x) → ieee .refused x ≡ false → AboveOrNaN (sqrtOf x)
-root-of-accepted x f e = rw nought-is (root-above x f (rw nought-is at e))
+root-of-accepted x f e = rw zero-float-is (root-above x f (rw zero-float-is at e))
 
-above-not-null : (y : Float) → Ieee.lt nought y ≡ true → Ieee.eq y nought ≡ false
+above-not-null : (y : Float) → Ieee.lt zeroFloat y ≡ true → Ieee.eq y zeroFloat ≡ false
 unfolding Ieee.lt Ieee.eq
 above-not-null nan e = refl
 above-not-null (inf s) e = refl
@@ -92,12 +92,12 @@ above-not-null (fin false m d) e = rw (ne-eqb (m * up d * 1) (0 * 1 * down d) (�
 -- What is above 0 or NaN is not 0.
 pub never-null : (y : Float) → AboveOrNaN y → ieee .null y ≡ false
 unfolding Ieee.eq
-never-null y h = ⊎-elim (λ e. rw nought-is (above-not-null y (rw nought-is at e))) (λ e. rw e refl) h
+never-null y h = ⊎-elim (λ e. rw zero-float-is (above-not-null y (rw zero-float-is at e))) (λ e. rw e refl) h
 
 -- ---- the pivots that C leaves
 -- a double less any products is a double
 pub chain-fits : (s : Float) (a b : ℕ → Float) (n : ℕ) → T (fits binary64 s) → T (fits binary64 (chain ieee s a b n))
-unfolding lessFrom
+unfolding subtractFrom
 chain-fits s a b zero f = f
 chain-fits s a b (suc n) f = sub-fits binary64 (chain ieee s a b n) (ieee.times (a n) (b n))
 
@@ -115,7 +115,7 @@ triangle-pivots t t′ n fits′ doubles c r h =
     ∙ pivot-root ieee (lower t) r n h in
     subst AboveOrNaN (sym e)
     (root-of-accepted (radicand ieee (lower t) r)
-    (chain-fits (lower t r r) (at ieee (besidePivot ieee (lower t) (factor ieee (lower t) r) r)) (at ieee (besidePivot ieee (lower t) (factor ieee (lower t) r) r)) r (doubles r h))
+    (chain-fits (lower t r r) (at ieee (leftOfPivot ieee (lower t) (factor ieee (lower t) r) r)) (at ieee (leftOfPivot ieee (lower t) (factor ieee (lower t) r) r)) r (doubles r h))
     (accepted-at ieee (radicand ieee (lower t)) r n h (accepted-none (pivots ieee (radicand ieee (lower t)) n) c.answer)))
 
 -- So is every one of a diagonal.

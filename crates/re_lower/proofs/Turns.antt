@@ -15,8 +15,8 @@ use Rattle.storage.proofs.Starts.{start-below, start-single}
 use Rattle.storage.proofs.Cells.{length-tab, length-cells, getD-cells, any-default}
 use Rattle.storage.proofs.Parts.{store-before, store-in, store-behind, store-one, store-more}
 use Rattle.rules.specs.Arithmetic.{ieee}
-use Rattle.rules.specs.Sums.{chain, lessFrom, logsFrom}
-use Rattle.rules.specs.Cholesky.{at, forward, besidePivot, factor, radicand}
+use Rattle.rules.specs.Sums.{chain, subtractFrom, logsFrom}
+use Rattle.rules.specs.Cholesky.{at, forward, leftOfPivot, factor, radicand}
 use Rattle.re_lower.specs.Lower.{lower, pivot, chained}
 use Rattle.re_lower.specs.Band.{solvedTo}
 use Rattle.rules.proofs.Rows.{chain-ext, length-forward}
@@ -76,7 +76,7 @@ module _ (w₀ : List Float) (n : ℕ) (fits : start triangle n ≤ length w₀)
   made = cells triangle r (factor ieee (lower w₀) r)
 
   abbrev side : List Float
-  side = besidePivot ieee (lower w₀) (factor ieee (lower w₀) r) r
+  side = leftOfPivot ieee (lower w₀) (factor ieee (lower w₀) r) r
 
   tall : length made ≡ start triangle r
   tall = length-cells triangle r (factor ieee (lower w₀) r)
@@ -181,7 +181,7 @@ module _ (t₀ l : List Float) (x : ℕ) (h : x < length t₀) (t : List Float) 
 -- ---- a product and a logarithm more
 pub chain-turn : (s v : Float) (t l : List Float) (a b y i j : ℕ) → i ≡ a + y → j ≡ b + y → i < length t → j < length l → v ≡ chained s t a l b y
     → sub binary64 v (mul binary64 (getD t i nan) (getD l j nan)) ≡ chained s t a l b (suc y)
-unfolding lessFrom
+unfolding subtractFrom
 chain-turn s v t l a b y i j p q h k e =
     ap₂ (sub binary64) e
     (ap₂ (mul binary64) (any-default t i nan ieee.zero h ∙ ap (at ieee t) p) (any-default l j nan ieee.zero k ∙ ap (at ieee l) q))

@@ -61,8 +61,8 @@ abbrev pub solvedTo : List Float → ℕ → ℕ → List Float
 solvedTo t from c = forward ieee (λ x. at ieee t (from + x)) (lower t) c
 
 -- what row r, of which c cells were solved, is when all left of its pivot are: whatever list w it came from
-abbrev pub BesideFrom : List Float → List Float → ℕ → ℕ → ℕ → Type 0
-BesideFrom t t′ from c r = (w : List Float) → length w ≡ length t → t ≡ store from (solvedTo w from c) w → t′ ≡ store from (solvedTo w from r) w
+abbrev pub LeftOfPivotFrom : List Float → List Float → ℕ → ℕ → ℕ → Type 0
+LeftOfPivotFrom t t′ from c r = (w : List Float) → length w ≡ length t → t ≡ store from (solvedTo w from c) w → t′ ≡ store from (solvedTo w from r) w
 
 -- the band from `base` on has the first cells of row r solved
 abbrev pub RowReady : List Float → List Float → ℕ → ℕ → ℕ → Type 0

@@ -8,7 +8,7 @@ use Rattle.storage.specs.Shape.{packed, diagonal, fill, cell, placeOf}
 use Rattle.storage.specs.Part.{store}
 use Rattle.rules.specs.Arithmetic.{ieee}
 use Rattle.rules.specs.Sums.{chain, logsFrom}
-use Rattle.rules.specs.Cholesky.{at, forward, besidePivot, factor, radicand, pivots}
+use Rattle.rules.specs.Cholesky.{at, forward, leftOfPivot, factor, radicand, pivots}
 use Rattle.rules.specs.Solves.{backward}
 use Rattle.re_lower.specs.declared.Pivots.{Pivots}
 use Rattle.re_lower.specs.declared.Pivots.the-variants.{Accepted, Refused}
@@ -30,8 +30,8 @@ abbrev pub chained : Float → List Float → ℕ → List Float → ℕ → ℕ
 chained s t a l b n = chain ieee s (λ y. at ieee t (a + y)) (λ y. at ieee l (b + y)) n
 
 -- row r, from `from` on, left of its pivot, solved with the rows above it; all else as it was
-abbrev pub besideDone : List Float → ℕ → ℕ → List Float
-besideDone t from r = store from (forward ieee (λ c. at ieee t (from + c)) (lower t) r) t
+abbrev pub leftOfPivotDone : List Float → ℕ → ℕ → List Float
+leftOfPivotDone t from r = store from (forward ieee (λ c. at ieee t (from + c)) (lower t) r) t
 
 -- the answer for the first pivot that is refused, if there is one
 abbrev pub answerOf : Option ℕ → Pivots
@@ -41,7 +41,7 @@ answerOf (some r) = Refused r
 -- what C leaves where the triangle b of n rows stood: its factor; or the factor's rows before the refused one, and that row left of its pivot
 abbrev pub leftOfTriangle : (ℕ → ℕ → Float) → ℕ → Pivots → List Float
 leftOfTriangle b n Accepted = fill (packed n) (factor ieee b n)
-leftOfTriangle b n (Refused r) = fill (packed r) (factor ieee b r) ++ besidePivot ieee b (factor ieee b r) r
+leftOfTriangle b n (Refused r) = fill (packed r) (factor ieee b r) ++ leftOfPivot ieee b (factor ieee b r) r
 
 -- C on the packed triangle of n rows that t begins with: the answer p and the list t′ that is left. All behind the triangle is as it was.
 pub record TriangleDone (t t′ : List Float) (n : ℕ) (p : Pivots) : Type 0 where

@@ -3,15 +3,15 @@ ghost use mathlib.Core.Path.{_≡_};
 ghost use Prim.Native.Nat.{_+_, _*_, _≤_, _<_};
 ghost use lib.ListN.{length};
 ghost use Rattle.storage.specs.Runs.{start, triangle};
-ghost use Rattle.re_lower.specs.Lower.{besideDone};
-ghost use Rattle.re_lower.specs.Band.{BesideFrom, RowReady};
+ghost use Rattle.re_lower.specs.Lower.{leftOfPivotDone};
+ghost use Rattle.re_lower.specs.Band.{LeftOfPivotFrom, RowReady};
 use crate::four_rows;
 
 // Row r, which lies from `from` on, left of its pivot: its first c0 cells are solved, and the others are with the rows above it, in place.
 // Row c0 lies from `first` on.
-fn row_beside(t: &mut [f64], from: usize, first: usize, c0: usize, r: usize)
+fn row_left_of_pivot(t: &mut [f64], from: usize, first: usize, c0: usize, r: usize)
     requires { ⌜ (from ≡ start triangle r) × (from + r ≤ length (now t)) × (first ≡ start triangle c0) × (c0 ≤ r) ⌝ }
-    ensures { λ _. ⌜ BesideFrom (now (t .entry)) (now (t .exit)) from c0 r ⌝ }
+    ensures { λ _. ⌜ LeftOfPivotFrom (now (t .entry)) (now (t .exit)) from c0 r ⌝ }
 {
     let mut c = c0;
     let mut at = first;
@@ -31,8 +31,8 @@ pub fn band_row(t: &mut [f64], x: &[f64], from: usize, base: usize, r: usize)
         × (0 < base → r < base + 4)
         × (4 * base ≤ length (now x))
         × RowReady (now t) (now x) from base r ⌝ }
-    ensures { λ _. ⌜ now (t .exit) ≡ besideDone (now (t .entry)) from r ⌝ }
+    ensures { λ _. ⌜ now (t .exit) ≡ leftOfPivotDone (now (t .entry)) from r ⌝ }
 {
     four_rows::put_row(t, x, from, r - base, base);
-    row_beside(t, from, base * (base + 1) / 2, base, r);
+    row_left_of_pivot(t, from, base * (base + 1) / 2, base, r);
 }

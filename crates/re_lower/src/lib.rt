@@ -1,4 +1,5 @@
-// What a packed lower triangle and a diagonal hold (document 01, Record 4): definitions and laws; whether a pivot is refused, and a cell less products.
+// A packed lower triangle (document 01, Record 4; the Rust's `ReLower`) and a diagonal: Cholesky, forward and backward substitution, logarithms of
+// the pivots. At the root whether a pivot is refused, and a cell less products. Definitions in specs/Lower.antt.
 pub mod back_substitution;
 mod band_row;
 pub mod cholesky;

@@ -1,4 +1,4 @@
-// Refusals of document 01, "Refused because of the input" and "Refused because of the state".
+// A refusal's number and two places (document 01, the two tables of refusals), and the answer of a call that has no other.
 
 // The number and the two places, 0 where there is none.
 pub struct Refusal {

@@ -14,9 +14,9 @@ use Rattle.refusal.specs.Numbers.{refusal}
 use Rattle.rules.specs.Arithmetic.{ieee}
 use Rattle.layout.specs.declared.Layout.{Layout}
 use Rattle.layout.specs.Shapes.{loadedLength, sumAt, doublesNeeded}
-use Rattle.heading_format.specs.Heading.{layoutOf, lawful, idle, headed}
+use Rattle.heading_format.specs.Heading.{layoutOf, validLayout, idle, validHeading}
 use Rattle.workspace.specs.Memory.{headingWith}
-use Rattle.workspace.specs.Answers.{space, accept, firstInfinite}
+use Rattle.workspace.specs.Answers.{workspace, accept, firstInfinite}
 use Rattle.workspace.specs.Response.{responded, replaceOf}
 use Rattle.heading_format.proofs.Fits.{fits}
 use Rattle.replace_response.specs.write_rows.Strided.{responseRows}
@@ -39,11 +39,11 @@ fault y zy xy yl =
 
 module _ (h : List ℕ) (w zy xy yl : List Float) where
   -- 20
-  pub not-headed : headed h (length w) ≡ false → (f : Refusal) → f ≡ refusal 20 0 0 → record { answer = Refused f; left = space h w } ≡ replaceOf h w zy xy yl
+  pub not-valid-heading : validHeading h (length w) ≡ false → (f : Refusal) → f ≡ refusal 20 0 0 → record { answer = Refused f; left = workspace h w } ≡ replaceOf h w zy xy yl
   unfolding replaceOf
-  not-headed e f q = rw (e, q) refl
+  not-valid-heading e f q = rw (e, q) refl
 
-  module _ (ok : headed h (length w) ≡ true) where
+  module _ (ok : validHeading h (length w) ≡ true) where
     in-turn : replaceOf h w zy xy yl ≡ unlessRefused h w (fault (layoutOf h) zy xy yl) (responded h w zy xy (getD yl 0 (ieee .zero)))
     unfolding replaceOf
     in-turn =
@@ -57,19 +57,19 @@ module _ (h : List ℕ) (w zy xy yl : List Float) where
     -- the layout that was read, and what was found
     module _ (y : Layout) (is : y ≡ layoutOf h) (a b f : Refusal) (lengths : a ≡ lengthFault (eqb (length zy) (y .q)) (eqb (length xy) (y .p)) (eqb (length yl) 1))
         (words : b ≡ wordFault (firstInfinite 0 zy) (firstInfinite 0 xy) (firstInfinite 0 yl)) (found : f ≡ firstOf a b) where
-      told : f ≡ fault y zy xy yl
-      told = found ∙ ap₂ firstOf lengths words
+      fault-is : f ≡ fault y zy xy yl
+      fault-is = found ∙ ap₂ firstOf lengths words
 
-      in-turn-told : replaceOf h w zy xy yl ≡ unlessRefused h w f (responded h w zy xy (getD yl 0 (ieee .zero)))
-      in-turn-told = in-turn ∙ ap (λ (g : Refusal). unlessRefused h w g (responded h w zy xy (getD yl 0 ieee.zero))) (sym (told ∙ ap (λ (z : Layout). fault z zy xy yl) is))
+      in-turn-reported : replaceOf h w zy xy yl ≡ unlessRefused h w f (responded h w zy xy (getD yl 0 (ieee .zero)))
+      in-turn-reported = in-turn ∙ ap (λ (g : Refusal). unlessRefused h w g (responded h w zy xy (getD yl 0 ieee.zero))) (sym (fault-is ∙ ap (λ (z : Layout). fault z zy xy yl) is))
 
       -- 13 and 14
-      pub list-refused : (f .number ≡ 0 → ⊥) → record { answer = Refused f; left = space h w } ≡ replaceOf h w zy xy yl
-      list-refused n = sym (in-turn-told ∙ rw (ne-eqb f.number 0 n) refl)
+      pub list-refused : (f .number ≡ 0 → ⊥) → record { answer = Refused f; left = workspace h w } ≡ replaceOf h w zy xy yl
+      list-refused n = sym (in-turn-reported ∙ rw (ne-eqb f.number 0 n) refl)
 
       module _ (fine : f .number ≡ 0) where
         -- what is written to
-        pub ready : (128 ≤ length h) × (lawful y ≡ true) × (loadedLength y ≤ length w) × (length zy ≡ y .q) × (length xy ≡ y .p) × (length yl ≡ 1)
+        pub ready : (128 ≤ length h) × (validLayout y ≡ true) × (loadedLength y ≤ length w) × (length zy ≡ y .q) × (length xy ≡ y .p) × (length yl ≡ 1)
         ready =
             let none : a .number ≡ 0 = first-none a b (ap (λ (g : Refusal). g .number) (sym found) ∙ fine) in
             let t = all-right (eqb (length zy) y.q) (eqb (length xy) y.p) (eqb (length yl) 1) (ap (λ (g : Refusal). g .number) (sym lengths) ∙ none) in
@@ -89,4 +89,4 @@ module _ (h : List ℕ) (w zy xy yl : List Float) where
             let k = fits h (length w) ok in
             let t : (length zy ≡ layoutOf h .q) × (length xy ≡ layoutOf h .p) = (ready.3 ∙ ap (λ (z : Layout). z .q) is, ready.4 ∙ ap (λ (z : Layout). z .p) is) in
             ap₂ accept (rw is at p.0) (rw is at p.1 ∙ rows-stored h w zy xy yl k.layout (loaded-below (layoutOf h) (length w) k.room) t.0 t.1 ready.5)
-            ∙ sym (in-turn-told ∙ rw (eq-eqb f.number 0 fine) refl)
+            ∙ sym (in-turn-reported ∙ rw (eq-eqb f.number 0 fine) refl)

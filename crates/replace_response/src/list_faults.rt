@@ -20,11 +20,11 @@ pub fn refused(number: u64, first: u64, second: u64) -> Refusal
 }
 
 // 13 of the first list that has another length than the layout says: Z'y, X'y, y'y. Number 0 where there is none.
-pub fn length_fault(y: Layout, zty: usize, xty: usize, yty: usize) -> Refusal
-    ensures { λ r. ⌜ r ≡ lengthFault (eqb zty (y .q)) (eqb xty (y .p)) (eqb yty 1) ⌝ }
+pub fn length_fault(layout: Layout, zty: usize, xty: usize, yty: usize) -> Refusal
+    ensures { λ r. ⌜ r ≡ lengthFault (eqb zty (layout .q)) (eqb xty (layout .p)) (eqb yty 1) ⌝ }
 {
-    if zty as u64 == y.q {
-        if xty as u64 == y.p {
+    if zty as u64 == layout.q {
+        if xty as u64 == layout.p {
             if yty == 1 {
                 return refused(0, 0, 0);
             }

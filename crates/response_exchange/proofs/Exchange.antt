@@ -23,13 +23,13 @@ use Rattle.layout.specs.Shapes.{pick, Target, target, targets, before, levels, 
 use Rattle.layout.proofs.Places.{before-here, before-later, member-later, in-targets, size-loaded, loaded-inside}
 use Rattle.heading_format.specs.Heading.{layoutOf, entryRow, idle}
 use Rattle.heading_format.proofs.Heading.{layout-back, progress-stored}
-use Rattle.workspace.specs.Memory.{noughts, cellOf, headingWith}
-use Rattle.workspace.specs.Answers.{space}
+use Rattle.workspace.specs.Memory.{zeros, cellOf, headingWith}
+use Rattle.workspace.specs.Answers.{workspace}
 use Rattle.workspace.specs.Loaded.{sheetRow, sortedLayout, layoutOfSheet, entryRowIn, double, loadedWord, loadedFrom, loadedNumbers}
 use Rattle.workspace.specs.Load.{headingOf, doublesOf}
 use Rattle.workspace.specs.Response.{responseCell, respondedBlock, responded}
 use Rattle.workspace.proofs.Lengths.{length-loaded}
-use Rattle.workspace.proofs.Headed.{length-m, length-order}
+use Rattle.workspace.proofs.ValidHeading.{length-m, length-order}
 use Rattle.demand3.proofs.frame.Response.{rows-unasked, responded-behind, responded-else, responded-own}
 use Rattle.load_numbers.proofs.sheet_words.Numbers.{tiled-numbers}
 use Rattle.response_exchange.specs.Exchange.{withResponse, doubles}
@@ -178,11 +178,11 @@ exchanged-numbers sheet zy xy yy =
 -- A new response on a freshly loaded workspace leaves heading and doubles as load of the sheet with that response leaves them.
 pub exchanged : (sheet : Sheet) (zy xy : List ℕ) (yy : ℕ)
     → responded (headingOf sheet (layoutOfSheet sheet)) (doublesOf sheet (layoutOfSheet sheet)) (doubles zy) (doubles xy) (double yy) .left
-    ≡ space (headingOf (withResponse sheet zy xy yy) (layoutOfSheet (withResponse sheet zy xy yy))) (doublesOf (withResponse sheet zy xy yy) (layoutOfSheet (withResponse sheet zy xy yy)))
+    ≡ workspace (headingOf (withResponse sheet zy xy yy) (layoutOfSheet (withResponse sheet zy xy yy))) (doublesOf (withResponse sheet zy xy yy) (layoutOfSheet (withResponse sheet zy xy yy)))
 unfolding layoutOfSheet sortedLayout doublesOf headingOf responded
 exchanged sheet zy xy yy =
-    ap₂ space
+    ap₂ workspace
     (ap (λ (z : Layout). headingWith (headingOf sheet (layoutOfSheet sheet)) (idle z.k)) (heading-layout sheet zy xy yy [])
     ∙ progress-stored (layoutOfSheet sheet) (idle (layoutOfSheet sheet .k)) (idle (layoutOfSheet sheet .k))
     (pick (layoutOfSheet sheet .sparse) (tab (levels (layoutOfSheet sheet) 0) (entryRowIn sheet (layoutOfSheet sheet))) []))
-    (exchanged-doubles sheet zy xy yy (noughts (layoutOfSheet sheet)))
+    (exchanged-doubles sheet zy xy yy (zeros (layoutOfSheet sheet)))

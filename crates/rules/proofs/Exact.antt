@@ -10,8 +10,8 @@ use native.Mathlib.Omega.{arith}
 use lib.ListN.{getD, List·getD-append}
 use lib.Seq.{getD-at}
 use Rattle.rules.specs.Arithmetic.{Arithmetic}
-use Rattle.rules.specs.Sums.{dot, chain, sumFrom, lessFrom}
-use Rattle.rules.specs.Cholesky.{at, forward, besidePivot, cellOf, rowOf, rows, factor, radicand, pivots}
+use Rattle.rules.specs.Sums.{dot, chain, sumFrom, subtractFrom}
+use Rattle.rules.specs.Cholesky.{at, forward, leftOfPivot, cellOf, rowOf, rows, factor, radicand, pivots}
 use Rattle.rules.specs.Exact.{Exact, Solves, Factors}
 use Rattle.rules.proofs.Rows.{chain-ext, length-forward, rows-stay, row-made, pivot-root, accepted-at}
 
@@ -54,10 +54,10 @@ module _ (A : Arithmetic) where
     row-is n r h = rows-stay A b r (suc r) n (omega arith) h ∙ row-made A b r
 
     -- row r, left of its pivot
-    beside : (n r x : ℕ) → r < n → x < r → factor A b n r x ≡ at A (besidePivot A (b) (cellOf A (rows A b r)) r) x
-    beside n r x h k =
+    left-cell : (n r x : ℕ) → r < n → x < r → factor A b n r x ≡ at A (leftOfPivot A (b) (cellOf A (rows A b r)) r) x
+    left-cell n r x h k =
         ap (λ (l : List A.Num). at A l x) (row-is n r h)
-        ∙ List·getD-append (besidePivot A b (cellOf A (rows A b r)) r) _ A.zero x (omega (arith, length-forward A (b r) (cellOf A (rows A b r)) r))
+        ∙ List·getD-append (leftOfPivot A b (cellOf A (rows A b r)) r) _ A.zero x (omega (arith, length-forward A (b r) (cellOf A (rows A b r)) r))
 
     -- the rows before r are the same in every longer list
     same-cell : (n r c x : ℕ) → r < n → c < r → factor A b n c x ≡ cellOf A (rows A b r) c x
@@ -66,7 +66,7 @@ module _ (A : Arithmetic) where
   module _ (X : Exact A) where
     -- the sum of some products, and what is left of s without them, make s
     pub dot-chain : (s : A .Num) (f g : ℕ → A .Num) (n : ℕ) → A .plus (dot A f g n) (chain A s f g n) ≡ s
-    unfolding sumFrom lessFrom
+    unfolding sumFrom subtractFrom
     dot-chain s f g zero = X.zero-plus s
     dot-chain s f g (suc n) = X.plus-minus (dot A f g n) (chain A s f g n) (A.times (f n) (g n)) ∙ dot-chain s f g n
 
@@ -95,16 +95,16 @@ module _ (A : Arithmetic) where
 
       left-of-pivot : (r c : ℕ) → r < n → c < r → dot A (factor A b n r) (factor A b n c) (suc c) ≡ b r c
       left-of-pivot r c h k =
-          dot-ext (factor A b n r) (at A (besidePivot A b (cellOf A (rows A b r)) r)) (factor A b n c) (cellOf A (rows A b r) c) (suc c)
-          (λ x l. beside b n r x h (omega arith)) (λ x l. same-cell b n r c x h k)
+          dot-ext (factor A b n r) (at A (leftOfPivot A b (cellOf A (rows A b r)) r)) (factor A b n c) (cellOf A (rows A b r) c) (suc c)
+          (λ x l. left-cell b n r x h (omega arith)) (λ x l. same-cell b n r c x h k)
           ∙ forward-solves (b r) (cellOf A (rows A b r)) r (λ y l. pivot-some r y h l) c k
 
       at-pivot : (r : ℕ) → r < n → dot A (factor A b n r) (factor A b n r) (suc r) ≡ b r r
       unfolding sumFrom
       at-pivot r h =
-          let row : ℕ → A .Num = at A (besidePivot A b (cellOf A (rows A b r)) r) in
+          let row : ℕ → A .Num = at A (leftOfPivot A b (cellOf A (rows A b r)) r) in
           ap₂ A.plus
-          (dot-ext (factor A b n r) row (factor A b n r) row r (λ x l. beside b n r x h l) (λ x l. beside b n r x h l))
+          (dot-ext (factor A b n r) row (factor A b n r) row r (λ x l. left-cell b n r x h l) (λ x l. left-cell b n r x h l))
           (ap (λ (v : A .Num). A .times v v) (pivot-root A b r n h)
           ∙ X.root-square (radicand A b r) (accepted-at A (radicand A b) r n h accepted))
           ∙ dot-chain (b r r) row row r

@@ -6,7 +6,7 @@ use mathlib.Core.Logic.{_⊎_, inl, inr}
 use native.Mathlib.Omega.{arith}
 use lib.Dec.{eqb}
 use Rattle.rules.specs.Arithmetic.{Arithmetic}
-use Rattle.rules.specs.Sums.{dot, chain, sumFrom, lessFrom}
+use Rattle.rules.specs.Sums.{dot, chain, sumFrom, subtractFrom}
 use Rattle.rules.specs.Steps.{subtractDense, subtractDiagonal, subtractLast, subtractSparse}
 use Rattle.rules.specs.Exact.{Exact, spread}
 use Rattle.rules.proofs.Exact.{chain-is}
@@ -20,19 +20,19 @@ module _ (A : Arithmetic) (X : Exact A) where
   take-or-leave true s f g = refl
   take-or-leave false s f g = sym (ap (A.minus s) (X.times-zero f) ∙ X.minus-zero s)
 
-  less-chain :
-      (s : A .Num) (counts : ℕ → Bool) (f g : ℕ → A .Num) (n : ℕ) → lessFrom A s counts f g n ≡ chain A s f (λ x. cond (counts x) (g x) (A .zero)) n
-  unfolding lessFrom
-  less-chain s counts f g zero = refl
-  less-chain s counts f g (suc n) =
-      take-or-leave (counts n) (lessFrom A s counts f g n) (f n) (g n)
-      ∙ ap (λ (v : A .Num). A .minus v (A.times (f n) (cond (counts n) (g n) A.zero))) (less-chain s counts f g n)
+  subtract-chain :
+      (s : A .Num) (counts : ℕ → Bool) (f g : ℕ → A .Num) (n : ℕ) → subtractFrom A s counts f g n ≡ chain A s f (λ x. cond (counts x) (g x) (A .zero)) n
+  unfolding subtractFrom
+  subtract-chain s counts f g zero = refl
+  subtract-chain s counts f g (suc n) =
+      take-or-leave (counts n) (subtractFrom A s counts f g n) (f n) (g n)
+      ∙ ap (λ (v : A .Num). A .minus v (A.times (f n) (cond (counts n) (g n) A.zero))) (subtract-chain s counts f g n)
 
   pub sparse-is-dense :
       (row : ℕ → ℕ) (t a : ℕ → ℕ → A .Num) (v : ℕ → A .Num) (inner r c : ℕ)
       → subtractSparse A row t a v inner r c ≡ subtractDense A t a (spread A row v) inner r c
   sparse-is-dense row t a v inner r c =
-      less-chain (t r c) (λ x. eqb (row x) c) (a r) v inner ∙ chain-is A X (t r c) (a r) (spread A row v c) inner
+      subtract-chain (t r c) (λ x. eqb (row x) c) (a r) v inner ∙ chain-is A X (t r c) (a r) (spread A row v c) inner
 
   -- ---- diagonal: a cell that was not loaded is 0
   add-or-leave : (b : Bool) (s f : A .Num) → (b ≡ false → f ≡ A .zero) → cond b (A .plus s (A .times f f)) s ≡ A .plus s (A .times f f)
@@ -62,7 +62,7 @@ module _ (A : Arithmetic) (X : Exact A) where
   dot-zero f g (suc n) h =
       ap₂ A.plus (dot-zero f g n (λ x l. h x (omega arith))) (product-zero (f n) (g n) (h n (omega arith))) ∙ X.plus-zero A.zero
 
-  pub beside-stays :
+  pub left-of-pivot-stays :
       (t a : ℕ → ℕ → A .Num) (inner r c : ℕ) → ((x : ℕ) → x < inner → (a r x ≡ A .zero) ⊎ (a c x ≡ A .zero))
       → subtractDense A t a a inner r c ≡ t r c
-  beside-stays t a inner r c h = ap (A.minus (t r c)) (dot-zero (a r) (a c) inner h) ∙ X.minus-zero (t r c)
+  left-of-pivot-stays t a inner r c h = ap (A.minus (t r c)) (dot-zero (a r) (a c) inner h) ∙ X.minus-zero (t r c)

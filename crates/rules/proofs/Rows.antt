@@ -10,14 +10,14 @@ use native.Mathlib.Omega.{arith}
 use lib.ListN.{length, getD, length-append, List·getD-append}
 use lib.Seq.{getD-at}
 use Rattle.rules.specs.Arithmetic.{Arithmetic}
-use Rattle.rules.specs.Sums.{chain, lessFrom}
-use Rattle.rules.specs.Cholesky.{at, forward, besidePivot, rowOf, rows, factor, radicand, next, firstBad, pivots}
+use Rattle.rules.specs.Sums.{chain, subtractFrom}
+use Rattle.rules.specs.Cholesky.{at, forward, leftOfPivot, rowOf, rows, factor, radicand, next, firstBad, pivots}
 
 module _ (A : Arithmetic) where
   -- a chain depends on its start and on its n factors of each side
   pub chain-ext : (s s′ : A .Num) (a a′ b b′ : ℕ → A .Num) (n : ℕ) → s ≡ s′ → ((y : ℕ) → y < n → a y ≡ a′ y) → ((y : ℕ) → y < n → b y ≡ b′ y)
       → chain A s a b n ≡ chain A s′ a′ b′ n
-  unfolding lessFrom
+  unfolding subtractFrom
   chain-ext s s′ a a′ b b′ zero e h k = e
   chain-ext s s′ a a′ b b′ (suc n) e h k =
       ap₂ A.minus (chain-ext s s′ a a′ b b′ n e (λ y l. h y (omega arith)) (λ y l. k y (omega arith)))
@@ -60,7 +60,7 @@ module _ (A : Arithmetic) where
         (λ l. let e : r ≡ n = omega arith in
         rw e
         (ap (λ (z : List A.Num). at A z n) (row-made n)
-        ∙ getD-at (besidePivot A b (factor A b n) n) _ [] A.zero n (length-forward (b n) (factor A b n) n)))
+        ∙ getD-at (leftOfPivot A b (factor A b n) n) _ [] A.zero n (length-forward (b n) (factor A b n) n)))
 
   -- ---- no pivot is refused, so this one is not
   step-none : (o : Option ℕ) (bad : Bool) (n : ℕ) → next A o bad n ≡ none → (o ≡ none) × (bad ≡ false)

@@ -19,11 +19,11 @@ module _ (A : Arithmetic) where
       row ++ (A .over (chain A (b c) (at row) (L c) c) (L c c) ∷ [])
 
   -- row r of the factor left of its pivot, and what is left for the pivot, given the rows before
-  abbrev pub besidePivot : (b : ℕ → ℕ → A .Num) (L : ℕ → ℕ → A .Num) → ℕ → List (A .Num)
-  besidePivot b L r = forward (b r) L r
+  abbrev pub leftOfPivot : (b : ℕ → ℕ → A .Num) (L : ℕ → ℕ → A .Num) → ℕ → List (A .Num)
+  leftOfPivot b L r = forward (b r) L r
 
   abbrev pub radicandOf : (b : ℕ → ℕ → A .Num) (L : ℕ → ℕ → A .Num) → ℕ → A .Num
-  radicandOf b L r = let row = besidePivot b L r in chain A (b r r) (at row) (at row) r
+  radicandOf b L r = let row = leftOfPivot b L r in chain A (b r r) (at row) (at row) r
 
   -- cell (r, c) of rows that are listed
   abbrev pub cellOf : List (List (A .Num)) → ℕ → ℕ → A .Num
@@ -31,7 +31,7 @@ module _ (A : Arithmetic) where
 
   -- the next row of the factor: its cells left of the pivot, and the pivot
   abbrev pub rowOf : (b : ℕ → ℕ → A .Num) (L : ℕ → ℕ → A .Num) → ℕ → List (A .Num)
-  rowOf b L r = besidePivot b L r ++ (A .root (radicandOf b L r) ∷ [])
+  rowOf b L r = leftOfPivot b L r ++ (A .root (radicandOf b L r) ∷ [])
 
   -- the first n rows of the factor of the triangle b
   unfoldable pub rows : (b : ℕ → ℕ → A .Num) → ℕ → List (List (A .Num))

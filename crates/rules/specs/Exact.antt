@@ -1,5 +1,5 @@
--- Exact arithmetic, and what a factor and a solved row are there: the matrix identities of Bates et al. 2015 (L L' = the scaled cross-products).
--- Doubles are no such arithmetic. Rules that meet these identities wherever nothing is rounded are the paper's, and only their order is document 01's.
+-- Exact arithmetic, and what a factor and a solved row are there: L L' = the block that C was given, x L' = the row that T was given.
+-- Doubles are no such arithmetic.
 use Prim.Native.Nat.{ℕ, suc, _≤_, _<_}
 use mathlib.Core.Path.{_≡_}
 use mathlib.Core.Bool.{false, cond}

@@ -3,7 +3,7 @@ use Prim.Native.Nat.{ℕ}
 use mathlib.Core.Bool.{Bool}
 use lib.Dec.{eqb}
 use Rattle.rules.specs.Arithmetic.{Arithmetic}
-use Rattle.rules.specs.Sums.{dot, chain, sumFrom, lessFrom}
+use Rattle.rules.specs.Sums.{dot, chain, sumFrom, subtractFrom}
 
 module _ (A : Arithmetic) where
   -- S of a dense target: the products are summed from 0.0 by rising inner index, and the sum is subtracted once
@@ -20,7 +20,7 @@ module _ (A : Arithmetic) where
 
   -- S(k,1,0) with a sparse cross block, whose column x has its one entry v x in row `row x`: product by product
   abbrev pub subtractSparse : (row : ℕ → ℕ) (t a : ℕ → ℕ → A .Num) (v : ℕ → A .Num) → ℕ → ℕ → ℕ → A .Num
-  subtractSparse row t a v inner r c = lessFrom A (t r c) (λ x. eqb (row x) c) (a r) v inner
+  subtractSparse row t a v inner r c = subtractFrom A (t r c) (λ x. eqb (row x) c) (a r) v inner
 
   -- T by a diagonal factor: each column divided by its pivot
   abbrev pub divide : (t : ℕ → ℕ → A .Num) (pivot : ℕ → A .Num) → ℕ → ℕ → A .Num

@@ -12,10 +12,10 @@ module _ (A : Arithmetic) where
       cond (counts n) (A .plus so (A .times (a n) (b n))) so
 
   -- s less those of n products that count, one by one
-  unfoldable pub lessFrom : A .Num → (ℕ → Bool) → (ℕ → A .Num) → (ℕ → A .Num) → ℕ → A .Num
-  lessFrom s counts a b zero = s
-  lessFrom s counts a b (suc n) =
-      let so = lessFrom s counts a b n in
+  unfoldable pub subtractFrom : A .Num → (ℕ → Bool) → (ℕ → A .Num) → (ℕ → A .Num) → ℕ → A .Num
+  subtractFrom s counts a b zero = s
+  subtractFrom s counts a b (suc n) =
+      let so = subtractFrom s counts a b n in
       cond (counts n) (A .minus so (A .times (a n) (b n))) so
 
   -- every product counts
@@ -28,7 +28,7 @@ module _ (A : Arithmetic) where
 
   -- s less n products, product by product
   abbrev pub chain : A .Num → (ℕ → A .Num) → (ℕ → A .Num) → ℕ → A .Num
-  chain s a b n = lessFrom s all a b n
+  chain s a b n = subtractFrom s all a b n
 
   -- s plus the logarithms of n numbers, one by one
   unfoldable pub logsFrom : A .Num → (ℕ → A .Num) → ℕ → A .Num

@@ -16,8 +16,8 @@ use Rattle.rules.specs.Sums.{dot, chain}
 use Rattle.block_runs.specs.blocks.Blocks.{block}
 use Rattle.block_runs.proofs.blocks.Runs.{Writing, writing-same, writing-more, writing-cell}
 use Rattle.block_runs.specs.axpy.Axpy.{at, run, along, products}
-use Rattle.block_runs.proofs.axpy.Sums.{sum-along, less-along, along-swap, summed}
-use Rattle.schur.specs.Schur.{lessSums, lessProducts}
+use Rattle.block_runs.proofs.axpy.Sums.{sum-along, subtract-along, along-swap, summed}
+use Rattle.schur.specs.Schur.{subtractSums, subtractProducts}
 
 -- a cell less its products: of two rows of one block the later comes first in the rule
 pub sums-dot : (n : ℕ) (z : Float) (x y : ℕ → Float) → ieee .minus z (along (ieee .plus) (ieee .zero) x y n) ≡ ieee .minus z (dot ieee x y n)
@@ -27,19 +27,19 @@ pub sums-swapped : (n : ℕ) (z : Float) (x y : ℕ → Float) → ieee .minus z
 sums-swapped n z x y = ap (ieee.minus z) (along-swap ieee.plus ieee.zero x y n) ∙ sums-dot n z y x
 
 pub products-swapped : (n : ℕ) (z : Float) (x y : ℕ → Float) → along (ieee .minus) z x y n ≡ chain ieee z y x n
-products-swapped n z x y = along-swap ieee.minus z x y n ∙ less-along z y x n
+products-swapped n z x y = along-swap ieee.minus z x y n ∙ subtract-along z y x n
 
 module _ (w w′ acc acc₁ acc₂ : List Float) (to n a rows b step r inner : ℕ) (room : n ≤ length acc) where
-  pub sums-less : acc₁ ≡ run 0 n (λ i. ieee .zero) acc → acc₂ ≡ products (ieee .plus) acc₁ n w a rows w b step r inner
-      → w′ ≡ run to n (λ i. ieee .minus (at w (to + i)) (at acc₂ i)) w → w′ ≡ lessSums to n a rows b step r inner w
-  sums-less first then so =
+  pub sums-subtracted : acc₁ ≡ run 0 n (λ i. ieee .zero) acc → acc₂ ≡ products (ieee .plus) acc₁ n w a rows w b step r inner
+      → w′ ≡ run to n (λ i. ieee .minus (at w (to + i)) (at acc₂ i)) w → w′ ≡ subtractSums to n a rows b step r inner w
+  sums-subtracted first then so =
       so
       ∙ ap (λ (l : List Float). store to l w)
       (tab-ext n _ _
       (λ i l. ap (ieee.minus (at w (to + i))) (summed ieee.plus n w a rows w b step r inner acc acc₁ acc₂ (λ x. ieee .zero) room first then i l)))
 
   pub products-put : acc₁ ≡ run 0 n (λ i. at w (to + i)) acc → acc₂ ≡ products (ieee .minus) acc₁ n w a rows w b step r inner
-      → w′ ≡ run to n (at acc₂) w → w′ ≡ lessProducts to n a rows b step r inner w
+      → w′ ≡ run to n (at acc₂) w → w′ ≡ subtractProducts to n a rows b step r inner w
   products-put first then so =
       so
       ∙ ap (λ (l : List Float). store to l w)

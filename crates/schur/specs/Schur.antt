@@ -33,28 +33,28 @@ subtractedLast off rows a inner w =
 
 -- ---- one run of n doubles, from `to` on: a column of a dense block, a row of a triangle
 -- less the sums of the products of rows 0 to n - 1 of block a and row r of block b
-abbrev pub lessSums : (to n a rows b step r inner : ℕ) → List Float → List Float
-lessSums to n a rows b step r inner w =
+abbrev pub subtractSums : (to n a rows b step r inner : ℕ) → List Float → List Float
+subtractSums to n a rows b step r inner w =
     run to n
     (λ i. ieee .minus (at w (to + i)) (along (ieee .plus) (ieee .zero) (block a (columns rows inner) w i) (block b (columns step inner) w r) inner))
     w
 
 -- less those products, one by one
-abbrev pub lessProducts : (to n a rows b step r inner : ℕ) → List Float → List Float
-lessProducts to n a rows b step r inner w =
+abbrev pub subtractProducts : (to n a rows b step r inner : ℕ) → List Float → List Float
+subtractProducts to n a rows b step r inner w =
     run to n (λ i. along (ieee .minus) (at w (to + i)) (block a (columns rows inner) w i) (block b (columns step inner) w r) inner) w
 
 -- ---- cell i of run j of each target, by the rule
 -- cell r of column c of a dense S
-abbrev pub lessDots : (off rows cols a b inner : ℕ) → List Float → ℕ → ℕ → Float
-lessDots off rows cols a b inner w c r =
+abbrev pub subtractDots : (off rows cols a b inner : ℕ) → List Float → ℕ → ℕ → Float
+subtractDots off rows cols a b inner w c r =
     subtractDense ieee (block off (columns rows cols) w) (block a (columns rows inner) w) (block b (columns cols inner) w) inner r c
 
 -- cell c of row r of a triangle's S
-abbrev pub lessSquares : (off rows a inner : ℕ) → List Float → ℕ → ℕ → Float
-lessSquares off rows a inner w =
+abbrev pub subtractSquares : (off rows a inner : ℕ) → List Float → ℕ → ℕ → Float
+subtractSquares off rows a inner w =
     subtractDense ieee (block off (packed rows) w) (block a (columns rows inner) w) (block a (columns rows inner) w) inner
 
 -- cell c of row r of the last triangle's S
-abbrev pub lessLast : (off rows a inner : ℕ) → List Float → ℕ → ℕ → Float
-lessLast off rows a inner w = subtractLast ieee (block off (packed rows) w) (block a (columns rows inner) w) inner
+abbrev pub subtractLastCell : (off rows a inner : ℕ) → List Float → ℕ → ℕ → Float
+subtractLastCell off rows a inner w = subtractLast ieee (block off (packed rows) w) (block a (columns rows inner) w) inner

@@ -4,7 +4,7 @@ ghost use mathlib.Core.Logic.{_⊎_};
 ghost use Prim.Native.Nat.{_+_, _≤_, _<_};
 ghost use lib.ListN.{length};
 ghost use Rattle.storage.specs.Shape.{columns, sizeOf};
-ghost use Rattle.schur.specs.Schur.{lessSums};
+ghost use Rattle.schur.specs.Schur.{subtractSums};
 use block_runs::axpy_pair;
 use block_runs::run_copies;
 use block_runs::run_differences;
@@ -12,7 +12,7 @@ use block_runs::run_differences;
 // Twice n doubles of the block at off, from `to` and from `to + n` on within it: less the sums of the products of rows 0 to n - 1 of block a and
 // row r of block b, and row r + 1.
 pub fn subtract_pair(
-    w: &mut [f64],
+    doubles: &mut [f64],
     acc: &mut [f64],
     acc2: &mut [f64],
     off: usize,
@@ -26,14 +26,14 @@ pub fn subtract_pair(
     r: usize,
     inner: usize,
 )
-    requires { ⌜ (n ≤ rows) × (n ≤ length (now acc)) × (n ≤ length (now acc2)) × (r + 1 < step) × (off + (to + n + n) ≤ end) × (end ≤ length (now w)) × (a + sizeOf (columns rows inner) ≤ length (now w)) × (b + sizeOf (columns step inner) ≤ length (now w)) ⌝ }
+    requires { ⌜ (n ≤ rows) × (n ≤ length (now acc)) × (n ≤ length (now acc2)) × (r + 1 < step) × (off + (to + n + n) ≤ end) × (end ≤ length (now doubles)) × (a + sizeOf (columns rows inner) ≤ length (now doubles)) × (b + sizeOf (columns step inner) ≤ length (now doubles)) ⌝ }
     requires { ⌜ (end ≤ a) ⊎ (a + sizeOf (columns rows inner) ≤ off) ⌝ }
     requires { ⌜ (end ≤ b) ⊎ (b + sizeOf (columns step inner) ≤ off) ⌝ }
-    ensures { λ _. ⌜ now (w .exit) ≡ lessSums (off + (to + n)) n a rows b step (r + 1) inner (lessSums (off + to) n a rows b step r inner (now (w .entry))) ⌝ }
+    ensures { λ _. ⌜ now (doubles .exit) ≡ subtractSums (off + (to + n)) n a rows b step (r + 1) inner (subtractSums (off + to) n a rows b step r inner (now (doubles .entry))) ⌝ }
 {
     run_copies::clear(acc, n);
     run_copies::clear(acc2, n);
-    axpy_pair::add_products_pair(acc, acc2, n, w, a, rows, w, b, step, r, inner);
-    run_differences::less(w, off, end, to, n, acc);
-    run_differences::less(w, off, end, to + n, n, acc2);
+    axpy_pair::add_products_pair(acc, acc2, n, doubles, a, rows, doubles, b, step, r, inner);
+    run_differences::subtract(doubles, off, end, to, n, acc);
+    run_differences::subtract(doubles, off, end, to + n, n, acc2);
 }

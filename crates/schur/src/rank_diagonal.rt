@@ -1,5 +1,5 @@
-// S of a diagonal block (document 01, Record 4), on the whole list of doubles. Each row's sum is taken in an array beside the list and subtracted
-// once.
+// S of a block that is stored as a diagonal (document 01, Record 4), on the whole list of doubles. Each row's sum, over the cells that were loaded
+// non-zero, is taken in an array beside the list and subtracted once; it is never skipped (docs/DIFFERENCES.md).
 ghost use mathlib.Core.Path.{_≡_};
 ghost use mathlib.Core.Logic.{_⊎_};
 ghost use mathlib.Core.Bool.{true};
@@ -8,7 +8,7 @@ ghost use lib.ListN.{length};
 ghost use Rattle.storage.specs.Runs.{start, dense};
 ghost use Rattle.storage.specs.Shape.{diagonal, columns, sizeOf};
 ghost use Rattle.schur.specs.rank_diagonal.Diagonal.{subtractedDiagonal};
-ghost use Rattle.schur.specs.rank_diagonal.Rows.{plusSquare, Zeros, Summed, Added, lessEach};
+ghost use Rattle.schur.specs.rank_diagonal.Rows.{plusSquare, Zeros, Summed, Added, subtractEach};
 use block_runs::run_differences;
 
 // y plus the square of v, unless the loaded cell is ±0.
@@ -22,17 +22,17 @@ pub fn plus_square(cell: f64, v: f64, y: f64) -> f64
 }
 
 // Each of the m doubles at `at` less the sum of its row. The target is lent as the part that starts there.
-pub fn less_sums(w: &mut [f64], at: usize, m: usize, sums: &[f64])
-    requires { ⌜ (at + m ≤ length (now w)) × (m ≤ length (now sums)) ⌝ }
-    ensures { λ _. ⌜ now (w .exit) ≡ lessEach at m (now (sums .entry)) (now (w .entry)) ⌝ }
+pub fn subtract_sums(doubles: &mut [f64], at: usize, m: usize, sums: &[f64])
+    requires { ⌜ (at + m ≤ length (now doubles)) × (m ≤ length (now sums)) ⌝ }
+    ensures { λ _. ⌜ now (doubles .exit) ≡ subtractEach at m (now (sums .entry)) (now (doubles .entry)) ⌝ }
 {
-    run_differences::less(w, at, at + m, 0, m, sums);
+    run_differences::subtract(doubles, at, at + m, 0, m, sums);
 }
 
 // The sums of n rows with column x of the dense block: its working cells start at p, its loaded ones at q.
 fn add_column(
     sums: &mut [f64],
-    w: &[f64],
+    doubles: &[f64],
     n: usize,
     a: usize,
     inner: usize,
@@ -41,13 +41,13 @@ fn add_column(
     p: usize,
     q: usize,
 )
-    requires { ⌜ (n ≤ length (now sums)) × (x < inner) × (p ≡ a + start (dense n) x) × (q ≡ src + start (dense n) x) × (a + sizeOf (columns n inner) ≤ length (now w)) × (src + sizeOf (columns n inner) ≤ length (now w)) ⌝ }
-    ensures { λ _. ⌜ Added (columns n inner) a src (now (w .entry)) 0 n x (now (sums .entry)) (now (sums .exit)) ⌝ }
+    requires { ⌜ (n ≤ length (now sums)) × (x < inner) × (p ≡ a + start (dense n) x) × (q ≡ src + start (dense n) x) × (a + sizeOf (columns n inner) ≤ length (now doubles)) × (src + sizeOf (columns n inner) ≤ length (now doubles)) ⌝ }
+    ensures { λ _. ⌜ Added (columns n inner) a src (now (doubles .entry)) 0 n x (now (sums .entry)) (now (sums .exit)) ⌝ }
 {
     let mut r = 0;
     while r < n {
-        let cell = w[q + r];
-        let v = w[p + r];
+        let cell = doubles[q + r];
+        let v = doubles[p + r];
         let y = sums[r];
         sums[r] = plus_square(cell, v, y);
         r += 1;
@@ -55,16 +55,16 @@ fn add_column(
 }
 
 // The sums of the n rows of the dense block.
-fn sum_columns(sums: &mut [f64], w: &[f64], n: usize, a: usize, inner: usize, src: usize)
-    requires { ⌜ (n ≤ length (now sums)) × (a + sizeOf (columns n inner) ≤ length (now w)) × (src + sizeOf (columns n inner) ≤ length (now w)) ⌝ }
+fn sum_columns(sums: &mut [f64], doubles: &[f64], n: usize, a: usize, inner: usize, src: usize)
+    requires { ⌜ (n ≤ length (now sums)) × (a + sizeOf (columns n inner) ≤ length (now doubles)) × (src + sizeOf (columns n inner) ≤ length (now doubles)) ⌝ }
     requires { ⌜ Zeros n (now sums) ⌝ }
-    ensures { λ _. ⌜ Summed (columns n inner) a src (now (w .entry)) 0 n inner (now (sums .exit)) ⌝ }
+    ensures { λ _. ⌜ Summed (columns n inner) a src (now (doubles .entry)) 0 n inner (now (sums .exit)) ⌝ }
 {
     let mut x = 0;
     let mut p = a;
     let mut q = src;
     while x < inner {
-        add_column(sums, w, n, a, inner, src, x, p, q);
+        add_column(sums, doubles, n, a, inner, src, x, p, q);
         p += n;
         q += n;
         x += 1;
@@ -72,13 +72,20 @@ fn sum_columns(sums: &mut [f64], w: &[f64], n: usize, a: usize, inner: usize, sr
 }
 
 // S of the diagonal of n pivots at off, with a dense cross block at a that was loaded from src.
-pub fn rank_sub_diagonal(w: &mut [f64], off: usize, n: usize, a: usize, inner: usize, src: usize)
-    requires { ⌜ (n ≤ 316) × (off + sizeOf (diagonal n) ≤ length (now w)) × (a + sizeOf (columns n inner) ≤ length (now w)) × (src + sizeOf (columns n inner) ≤ length (now w)) ⌝ }
+pub fn rank_sub_diagonal(
+    doubles: &mut [f64],
+    off: usize,
+    n: usize,
+    a: usize,
+    inner: usize,
+    src: usize,
+)
+    requires { ⌜ (n ≤ 316) × (off + sizeOf (diagonal n) ≤ length (now doubles)) × (a + sizeOf (columns n inner) ≤ length (now doubles)) × (src + sizeOf (columns n inner) ≤ length (now doubles)) ⌝ }
     requires { ⌜ (off + sizeOf (diagonal n) ≤ a) ⊎ (a + sizeOf (columns n inner) ≤ off) ⌝ }
     requires { ⌜ (off + sizeOf (diagonal n) ≤ src) ⊎ (src + sizeOf (columns n inner) ≤ off) ⌝ }
-    ensures { λ _. ⌜ now (w .exit) ≡ subtractedDiagonal off n (columns n inner) a inner src (now (w .entry)) ⌝ }
+    ensures { λ _. ⌜ now (doubles .exit) ≡ subtractedDiagonal off n (columns n inner) a inner src (now (doubles .entry)) ⌝ }
 {
     let mut sums = [0.0; 316];
-    sum_columns(&mut sums, w, n, a, inner, src);
-    less_sums(w, off, n, &sums);
+    sum_columns(&mut sums, doubles, n, a, inner, src);
+    subtract_sums(doubles, off, n, &sums);
 }

@@ -6,7 +6,7 @@ ghost use lib.ListN.{length};
 ghost use Rattle.storage.specs.Shape.{diagonal, entries, sizeOf};
 ghost use Rattle.block_runs.specs.blocks.Blocks.{rowFrom};
 ghost use Rattle.schur.specs.rank_diagonal.Diagonal.{subtractedDiagonal};
-ghost use Rattle.schur.specs.rank_diagonal.Rows.{Zeros, Summed, AddedEntry, lessRows};
+ghost use Rattle.schur.specs.rank_diagonal.Rows.{Zeros, Summed, AddedEntry, subtractRows};
 use crate::rank_diagonal;
 
 // A row's number as an index.
@@ -37,45 +37,45 @@ fn sum_entries(
     sums: &mut [f64],
     from: usize,
     m: usize,
-    w: &[f64],
+    doubles: &[f64],
     a: usize,
     inner: usize,
     src: usize,
-    h: &[u32],
+    heading: &[u32],
     first: usize,
 )
-    requires { ⌜ (m ≤ length (now sums)) × (a + inner ≤ length (now w)) × (src + inner ≤ length (now w)) × (first + inner ≤ length (now h)) ⌝ }
+    requires { ⌜ (m ≤ length (now sums)) × (a + inner ≤ length (now doubles)) × (src + inner ≤ length (now doubles)) × (first + inner ≤ length (now heading)) ⌝ }
     requires { ⌜ Zeros m (now sums) ⌝ }
-    ensures { λ _. ⌜ Summed (entries inner (rowFrom (now (h .entry)) first)) a src (now (w .entry)) from m inner (now (sums .exit)) ⌝ }
+    ensures { λ _. ⌜ Summed (entries inner (rowFrom (now (heading .entry)) first)) a src (now (doubles .entry)) from m inner (now (sums .exit)) ⌝ }
 {
     let mut x = 0;
     while x < inner {
-        let row = wide(h[first + x]);
-        let cell = w[src + x];
-        let v = w[a + x];
+        let row = wide(heading[first + x]);
+        let cell = doubles[src + x];
+        let v = doubles[a + x];
         add_entry(sums, from, m, row, cell, v);
         x += 1;
     }
 }
 
 // The m pivots from row `from` on, at most 8,192, less their sums over the sparse block.
-fn less_rows(
-    w: &mut [f64],
+fn subtract_rows(
+    doubles: &mut [f64],
     off: usize,
     from: usize,
     m: usize,
     a: usize,
     inner: usize,
     src: usize,
-    h: &[u32],
+    heading: &[u32],
     first: usize,
 )
-    requires { ⌜ (m ≤ 8192) × (off + from + m ≤ length (now w)) × (a + inner ≤ length (now w)) × (src + inner ≤ length (now w)) × (first + inner ≤ length (now h)) ⌝ }
-    ensures { λ _. ⌜ now (w .exit) ≡ lessRows off (entries inner (rowFrom (now (h .entry)) first)) a inner src from m (now (w .entry)) ⌝ }
+    requires { ⌜ (m ≤ 8192) × (off + from + m ≤ length (now doubles)) × (a + inner ≤ length (now doubles)) × (src + inner ≤ length (now doubles)) × (first + inner ≤ length (now heading)) ⌝ }
+    ensures { λ _. ⌜ now (doubles .exit) ≡ subtractRows off (entries inner (rowFrom (now (heading .entry)) first)) a inner src from m (now (doubles .entry)) ⌝ }
 {
     let mut sums = [0.0; 8192];
-    sum_entries(&mut sums, from, m, w, a, inner, src, h, first);
-    rank_diagonal::less_sums(w, off + from, m, &sums);
+    sum_entries(&mut sums, from, m, doubles, a, inner, src, heading, first);
+    rank_diagonal::subtract_sums(doubles, off + from, m, &sums);
 }
 
 // How many rows are summed at a time, of those that are left.
@@ -90,24 +90,24 @@ fn chunk(left: usize) -> usize
 
 // S of the diagonal of n pivots at off, with a sparse cross block at a that was loaded from src.
 pub fn rank_sub_diagonal_sparse(
-    w: &mut [f64],
+    doubles: &mut [f64],
     off: usize,
     n: usize,
     a: usize,
     inner: usize,
     src: usize,
-    h: &[u32],
+    heading: &[u32],
     first: usize,
 )
-    requires { ⌜ (off + sizeOf (diagonal n) ≤ length (now w)) × (a + inner ≤ length (now w)) × (src + inner ≤ length (now w)) × (first + inner ≤ length (now h)) ⌝ }
+    requires { ⌜ (off + sizeOf (diagonal n) ≤ length (now doubles)) × (a + inner ≤ length (now doubles)) × (src + inner ≤ length (now doubles)) × (first + inner ≤ length (now heading)) ⌝ }
     requires { ⌜ (off + sizeOf (diagonal n) ≤ a) ⊎ (a + inner ≤ off) ⌝ }
     requires { ⌜ (off + sizeOf (diagonal n) ≤ src) ⊎ (src + inner ≤ off) ⌝ }
-    ensures { λ _. ⌜ now (w .exit) ≡ subtractedDiagonal off n (entries inner (rowFrom (now (h .entry)) first)) a inner src (now (w .entry)) ⌝ }
+    ensures { λ _. ⌜ now (doubles .exit) ≡ subtractedDiagonal off n (entries inner (rowFrom (now (heading .entry)) first)) a inner src (now (doubles .entry)) ⌝ }
 {
     let mut from = 0;
     while from < n {
         let m = chunk(n - from);
-        less_rows(w, off, from, m, a, inner, src, h, first);
+        subtract_rows(doubles, off, from, m, a, inner, src, heading, first);
         from += m;
     }
 }

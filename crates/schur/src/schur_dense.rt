@@ -10,7 +10,7 @@ use crate::few_rows;
 
 // S of the dense block at off, two columns at a time: the sums of a column lie side by side.
 fn subtract_columns(
-    w: &mut [f64],
+    doubles: &mut [f64],
     off: usize,
     rows: usize,
     cols: usize,
@@ -18,10 +18,10 @@ fn subtract_columns(
     b: usize,
     inner: usize,
 )
-    requires { ⌜ (rows ≤ 316) × (off + sizeOf (columns rows cols) ≤ length (now w)) × (a + sizeOf (columns rows inner) ≤ length (now w)) × (b + sizeOf (columns cols inner) ≤ length (now w)) ⌝ }
+    requires { ⌜ (rows ≤ 316) × (off + sizeOf (columns rows cols) ≤ length (now doubles)) × (a + sizeOf (columns rows inner) ≤ length (now doubles)) × (b + sizeOf (columns cols inner) ≤ length (now doubles)) ⌝ }
     requires { ⌜ (off + sizeOf (columns rows cols) ≤ a) ⊎ (a + sizeOf (columns rows inner) ≤ off) ⌝ }
     requires { ⌜ (off + sizeOf (columns rows cols) ≤ b) ⊎ (b + sizeOf (columns cols inner) ≤ off) ⌝ }
-    ensures { λ _. ⌜ now (w .exit) ≡ subtractedDense off rows cols a b inner (now (w .entry)) ⌝ }
+    ensures { λ _. ⌜ now (doubles .exit) ≡ subtractedDense off rows cols a b inner (now (doubles .entry)) ⌝ }
 {
     let end = off + cols * rows;
     let mut acc = [0.0; 316];
@@ -30,7 +30,7 @@ fn subtract_columns(
     let mut to = 0;
     while cols - c >= 2 {
         column_pair::subtract_pair(
-            w,
+            doubles,
             &mut acc,
             &mut acc2,
             off,
@@ -48,13 +48,26 @@ fn subtract_columns(
         to += 2 * rows;
     }
     if c < cols {
-        crate::subtract_run(w, &mut acc, off, end, to, rows, a, rows, b, cols, c, inner);
+        crate::subtract_run(
+            doubles,
+            &mut acc,
+            off,
+            end,
+            to,
+            rows,
+            a,
+            rows,
+            b,
+            cols,
+            c,
+            inner,
+        );
     }
 }
 
 // S of the dense block at off: less block a times block b transposed.
 pub fn subtract_dense(
-    w: &mut [f64],
+    doubles: &mut [f64],
     off: usize,
     rows: usize,
     cols: usize,
@@ -62,15 +75,15 @@ pub fn subtract_dense(
     b: usize,
     inner: usize,
 )
-    requires { ⌜ (rows ≤ 316) × (off + sizeOf (columns rows cols) ≤ length (now w)) × (a + sizeOf (columns rows inner) ≤ length (now w)) × (b + sizeOf (columns cols inner) ≤ length (now w)) ⌝ }
+    requires { ⌜ (rows ≤ 316) × (off + sizeOf (columns rows cols) ≤ length (now doubles)) × (a + sizeOf (columns rows inner) ≤ length (now doubles)) × (b + sizeOf (columns cols inner) ≤ length (now doubles)) ⌝ }
     requires { ⌜ (off + sizeOf (columns rows cols) ≤ a) ⊎ (a + sizeOf (columns rows inner) ≤ off) ⌝ }
     requires { ⌜ (off + sizeOf (columns rows cols) ≤ b) ⊎ (b + sizeOf (columns cols inner) ≤ off) ⌝ }
-    ensures { λ _. ⌜ now (w .exit) ≡ subtractedDense off rows cols a b inner (now (w .entry)) ⌝ }
+    ensures { λ _. ⌜ now (doubles .exit) ≡ subtractedDense off rows cols a b inner (now (doubles .entry)) ⌝ }
 {
     // The longer side of the target is the one that packed loops run over.
     if rows <= 12 && rows < cols && cols <= 316 {
-        few_rows::subtract_few(w, off, rows, cols, a, b, inner);
+        few_rows::subtract_few(doubles, off, rows, cols, a, b, inner);
         return;
     }
-    subtract_columns(w, off, rows, cols, a, b, inner);
+    subtract_columns(doubles, off, rows, cols, a, b, inner);
 }

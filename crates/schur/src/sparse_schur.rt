@@ -5,7 +5,7 @@ ghost use Prim.Native.Nat.{_+_, _≤_};
 ghost use lib.ListN.{length};
 ghost use Rattle.storage.specs.Shape.{columns, sizeOf};
 ghost use Rattle.block_runs.specs.blocks.Blocks.{rowFrom, RowsBelow};
-ghost use Rattle.cross_block.specs.Blocks.{subtractedSparse, lessColumn};
+ghost use Rattle.cross_block.specs.Blocks.{subtractedSparse, subtractColumn};
 use block_runs::run_copies;
 use block_runs::run_products;
 
@@ -17,8 +17,8 @@ fn wide(x: u32) -> usize
 }
 
 // A column of the block at off, from `to` on within it, less f times the one at ax.
-fn less_column(
-    w: &mut [f64],
+fn subtract_column(
+    doubles: &mut [f64],
     acc: &mut [f64],
     off: usize,
     end: usize,
@@ -27,39 +27,39 @@ fn less_column(
     ax: usize,
     f: f64,
 )
-    requires { ⌜ (rows ≤ length (now acc)) × (off + (to + rows) ≤ end) × (end ≤ length (now w)) × (ax + rows ≤ length (now w)) ⌝ }
-    ensures { λ _. ⌜ now (w .exit) ≡ lessColumn (off + to) rows ax f (now (w .entry)) ⌝ }
+    requires { ⌜ (rows ≤ length (now acc)) × (off + (to + rows) ≤ end) × (end ≤ length (now doubles)) × (ax + rows ≤ length (now doubles)) ⌝ }
+    ensures { λ _. ⌜ now (doubles .exit) ≡ subtractColumn (off + to) rows ax f (now (doubles .entry)) ⌝ }
 {
-    run_copies::read(acc, rows, w, ax);
-    run_products::less_times(w, off, end, to, rows, acc, f);
+    run_copies::read(acc, rows, doubles, ax);
+    run_products::subtract_times(doubles, off, end, to, rows, acc, f);
 }
 
 // S(k,1,0) of the fixed rows at off with a sparse block whose entries are at v: product by product.
 pub fn subtract_sparse(
-    w: &mut [f64],
+    doubles: &mut [f64],
     off: usize,
     rows: usize,
     cols: usize,
     a: usize,
     v: usize,
     inner: usize,
-    h: &[u32],
+    heading: &[u32],
     first: usize,
 )
-    requires { ⌜ (rows ≤ 316) × (off + sizeOf (columns rows cols) ≤ length (now w)) × (a + sizeOf (columns rows inner) ≤ length (now w)) × (v + inner ≤ length (now w)) × (first + inner ≤ length (now h)) ⌝ }
+    requires { ⌜ (rows ≤ 316) × (off + sizeOf (columns rows cols) ≤ length (now doubles)) × (a + sizeOf (columns rows inner) ≤ length (now doubles)) × (v + inner ≤ length (now doubles)) × (first + inner ≤ length (now heading)) ⌝ }
     requires { ⌜ (off + sizeOf (columns rows cols) ≤ a) ⊎ (a + sizeOf (columns rows inner) ≤ off) ⌝ }
     requires { ⌜ (off + sizeOf (columns rows cols) ≤ v) ⊎ (v + inner ≤ off) ⌝ }
-    requires { ⌜ RowsBelow (now h) first inner cols ⌝ }
-    ensures { λ _. ⌜ now (w .exit) ≡ subtractedSparse off rows cols a v inner (rowFrom (now (h .entry)) first) (now (w .entry)) ⌝ }
+    requires { ⌜ RowsBelow (now heading) first inner cols ⌝ }
+    ensures { λ _. ⌜ now (doubles .exit) ≡ subtractedSparse off rows cols a v inner (rowFrom (now (heading .entry)) first) (now (doubles .entry)) ⌝ }
 {
     let end = off + cols * rows;
     let mut acc = [0.0; 316];
     let mut x = 0;
     let mut ax = a;
     while x < inner {
-        let c = wide(h[first + x]);
-        let f = w[v + x];
-        less_column(w, &mut acc, off, end, c * rows, rows, ax, f);
+        let c = wide(heading[first + x]);
+        let f = doubles[v + x];
+        subtract_column(doubles, &mut acc, off, end, c * rows, rows, ax, f);
         x += 1;
         ax += rows;
     }

@@ -8,8 +8,9 @@ use borrow.Author.Tests.{eqb-true}
 use lib.Dec.{eqb}
 use Rattle.sheet.specs.declared.Reading.{Reading}
 use Rattle.sheet.specs.declared.Reading.the-variants.{Sheet as Read, Refused}
+use Rattle.sheet.specs.declared.Starts.{Starts}
 use Rattle.sheet.specs.Sheet.{Sheet, Outcome, accepted, refused}
-use Rattle.sheet.specs.Fault.{Faulty, refusalOf, Names, Refuses}
+use Rattle.sheet.specs.Fault.{Faulty, faultNumber, Names, Refuses}
 use Rattle.sheet.specs.Answer.{answerOf, Answers}
 use Rattle.sheet.proofs.Faults.{refused-somewhere}
 
@@ -17,9 +18,9 @@ pub some-answer : (o : Outcome) → (r : Reading) × Answers o r
 some-answer (refused number line) = (Refused number line, refl)
 some-answer (accepted sheet starts) = go (refused-somewhere sheet)
   where
-    go : (refusalOf sheet ≡ 0) ⊎ ((line : ℕ) × Refuses sheet (refusalOf sheet) line) → (r : Reading) × Answers (accepted sheet starts) r
+    go : (faultNumber sheet ≡ 0) ⊎ ((line : ℕ) × Refuses sheet (faultNumber sheet) line) → (r : Reading) × Answers (accepted sheet starts) r
     go (inl none) = (Read starts, (none, refl))
-    go (inr (line, r)) = (Refused (refusalOf sheet) line, r)
+    go (inr (line, r)) = (Refused (faultNumber sheet) line, r)
 
 pub one-number : (o : Outcome) (r t : Reading) → Answers o r → Answers o t → answerOf r .number ≡ answerOf t .number
 one-number (refused number line) r t a b = ap (λ (x : Reading). answerOf x .number) (a ∙ sym b)
@@ -49,3 +50,10 @@ one-answer (accepted sheet starts) (Refused number line) (Refused other place) a
         let l : line ≡ 0 = no-line sheet number line e a.names in
         let p : place ≡ 0 = no-line sheet other place (ap (λ (n : ℕ). eqb n 9) (sym same) ∙ e) b.names in
         inl (ap (λ (n : ℕ). Refused n line) same ∙ ap (λ (k : ℕ). Refused other k) (l ∙ sym p))
+
+-- Number and places, as document 01's table has them: the first place is the line, and there is no second; what is read has none.
+line-in-first-place : answerOf (Refused 9 5) ≡ record { number = 9; first = 5; second = 0 }
+line-in-first-place = refl
+
+read-has-number-0 : (starts : Starts) → answerOf (Read starts) ≡ record { number = 0; first = 0; second = 0 }
+read-has-number-0 starts = refl

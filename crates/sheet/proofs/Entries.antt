@@ -11,7 +11,7 @@ use lib.ListN.{length}
 use Rattle.sheet.specs.declared.Cursor.{Cursor}
 use Rattle.sheet.specs.Field.{isFinite}
 use Rattle.sheet.specs.Line.{zzTag, tagTo, inForm, pairLine}
-use Rattle.sheet.specs.Run.{Run, Entry, ended, before, entryIn, reaches, entryVerdict, entriesFrom, passOf, keptFrom, pastFrom}
+use Rattle.sheet.specs.Run.{Run, Entry, ended, before, entryIn, notBefore, entryVerdict, entriesFrom, passOf, keptFrom, pastFrom}
 use Rattle.sheet.specs.Whole.{Each, Earlier, Rising, EntryInRange}
 use Rattle.sheet.proofs.Lines.{both, in-order, Passed, passed}
 
@@ -19,8 +19,8 @@ use Rattle.sheet.proofs.Lines.{both, in-order, Passed, passed}
 abbrev From : ℕ → ℕ → Entry → Type 0
 From col row e = (col < e .col) ⊎ ((col ≡ e .col) × (row ≤ e .row))
 
-from-reaches : (col row : ℕ) (e : Entry) → reaches col row (e .col) (e .row) ≡ true → From col row e
-from-reaches col row e h = go (ltb col e.col) (eqb col e.col) (leb row e.row) refl refl refl h
+from-not-before : (col row : ℕ) (e : Entry) → notBefore col row (e .col) (e .row) ≡ true → From col row e
+from-not-before col row e h = go (ltb col e.col) (eqb col e.col) (leb row e.row) refl refl refl h
   where
     go : (x y z : Bool) → ltb col (e .col) ≡ x → eqb col (e .col) ≡ y → leb row (e .row) ≡ z → (x || (y && z)) ≡ true → From col row e
     go true y z u v w g = inl (ltb-true col e.col u)
@@ -65,8 +65,8 @@ module _ (s : List ℕ) (q : ℕ) where
       let e = entryIn c.line l in
       let n = length more.items in
       let p : Passed c (entryVerdict q col row l) l.next = passed c (entryVerdict q col row l) l.next m.open-before in
-      let v = in-order (inForm l.next && reaches col row l.first l.second) (isFinite l.word) (ltb l.first q && ltb l.second q) p.verdict in
-      let f : From col row e = from-reaches col row e (both (inForm l.next) (reaches col row l.first l.second) v.0 .1) in
+      let v = in-order (inForm l.next && notBefore col row l.first l.second) (isFinite l.word) (ltb l.first q && ltb l.second q) p.verdict in
+      let f : From col row e = from-not-before col row e (both (inForm l.next) (notBefore col row l.first l.second) v.0 .1) in
       let w = both (ltb l.first q) (ltb l.second q) v.2 in
       record {
         open-before = p.open-before;

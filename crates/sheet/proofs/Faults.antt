@@ -10,7 +10,7 @@ use lib.Dec.{eqb}
 use Rattle.sheet.specs.Field.{isZero}
 use Rattle.sheet.specs.Run.{Entry}
 use Rattle.sheet.specs.Sheet.{Sheet}
-use Rattle.sheet.specs.Fault.{anyOf, blockOf, Mirror, Fault, zero-word, inside-block, no-mirror, Faulty, isMirror, isInside, isFault, anyFaulty, hasSlope, coversRows, refusalOf, Refuses}
+use Rattle.sheet.specs.Fault.{anyOf, blockOf, Mirror, Fault, zero-word, inside-block, no-mirror, Faulty, isMirror, isInside, isFault, anyFaulty, hasSlope, coversRows, faultNumber, Refuses}
 use Rattle.sheet.proofs.Lines.{both}
 
 -- ---- a test over a list
@@ -103,33 +103,33 @@ chain-none false false false true false e = refl
 
 module _ (sheet : Sheet) where
   -- flag 0 comes before all others
-  pub five-first : sheet .counts .flag ≡ 0 → refusalOf sheet ≡ 5
-  unfolding refusalOf
+  pub five-first : sheet .counts .flag ≡ 0 → faultNumber sheet ≡ 5
+  unfolding faultNumber
   five-first e = simp (eq-eqb _ 0 e)
 
   -- where 5 to 8 do not apply, 9 comes exactly where some line is faulty; and it is refused with each faulty line, and no other
-  pub nine-faulty : refusalOf sheet ≡ 9 → (line : ℕ) × Faulty sheet line
-  unfolding refusalOf
+  pub nine-faulty : faultNumber sheet ≡ 9 → (line : ℕ) × Faulty sheet line
+  unfolding faultNumber
   nine-faulty e = faulty-line sheet (chain-nine (eqb sheet.counts.flag 0) (eqb sheet.counts.k 0) (hasSlope sheet) (coversRows sheet) (anyFaulty sheet) e)
 
-  pub none-faulty : refusalOf sheet ≡ 0 → (line : ℕ) → Faulty sheet line → ⊥
-  unfolding refusalOf
+  pub none-faulty : faultNumber sheet ≡ 0 → (line : ℕ) → Faulty sheet line → ⊥
+  unfolding faultNumber
   none-faulty e line f =
       true≢false
       (sym (line-faulty sheet line f)
       ∙ chain-none (eqb sheet.counts.flag 0) (eqb sheet.counts.k 0) (hasSlope sheet) (coversRows sheet) (anyFaulty sheet) e)
 
-  pub nine-lines : refusalOf sheet ≡ 9 → (line : ℕ) → Refuses sheet 9 line ↔ Faulty sheet line
+  pub nine-lines : faultNumber sheet ≡ 9 → (line : ℕ) → Refuses sheet 9 line ↔ Faulty sheet line
   nine-lines e line = (λ r. r .names, λ f. record { applies = omega arith; first = e; names = f })
 
   -- every sheet is accepted or has a refusal to answer
-  pub refused-somewhere : (refusalOf sheet ≡ 0) ⊎ ((line : ℕ) × Refuses sheet (refusalOf sheet) line)
-  refused-somewhere = go (refusalOf sheet) (eqb (refusalOf sheet) 9) refl refl
+  pub refused-somewhere : (faultNumber sheet ≡ 0) ⊎ ((line : ℕ) × Refuses sheet (faultNumber sheet) line)
+  refused-somewhere = go (faultNumber sheet) (eqb (faultNumber sheet) 9) refl refl
     where
-      go : (n : ℕ) (t : Bool) → refusalOf sheet ≡ n → eqb (refusalOf sheet) 9 ≡ t → (n ≡ 0) ⊎ ((line : ℕ) × Refuses sheet n line)
+      go : (n : ℕ) (t : Bool) → faultNumber sheet ≡ n → eqb (faultNumber sheet) 9 ≡ t → (n ≡ 0) ⊎ ((line : ℕ) × Refuses sheet n line)
       go zero t e u = inl refl
       go (suc n) true e u =
-          let nine : refusalOf sheet ≡ 9 = eqb-true _ 9 u in
+          let nine : faultNumber sheet ≡ 9 = eqb-true _ 9 u in
           let f = nine-faulty nine in
           inr (f.0, record { applies = omega arith; first = e; names = rw (eq-eqb (suc n) 9 (sym e ∙ nine)) f.1 })
       go (suc n) false e u = inr (0, record { applies = omega arith; first = e; names = rw (ap (λ (m : ℕ). eqb m 9) (sym e) ∙ u) refl })

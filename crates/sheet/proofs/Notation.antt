@@ -7,7 +7,7 @@ use lib.ListN.{take, drop}
 use Rattle.sheet.specs.declared.Reading.{Reading}
 use Rattle.sheet.specs.Run.{Entry}
 use Rattle.sheet.specs.Sheet.{Outcome, accepted, refused, readSheet, sheetOf}
-use Rattle.sheet.specs.Fault.{isFault, refusalOf}
+use Rattle.sheet.specs.Fault.{isFault, faultNumber}
 use Rattle.sheet.specs.Answer.{readingOf}
 use Rattle.sheet.specs.Text.{reading}
 
@@ -26,7 +26,7 @@ load s = readingOf (sheetOf s)
 
 -- the number of its refusal, 1 to 9, or 0
 abbrev pub numberOf : Outcome → ℕ
-numberOf (accepted sheet starts) = refusalOf sheet
+numberOf (accepted sheet starts) = faultNumber sheet
 numberOf (refused number line) = number
 
 unfoldable pub refusal : List ℕ → ℕ

@@ -14,8 +14,8 @@ use Rattle.sheet.specs.declared.Line.{Line}
 use Rattle.sheet.specs.declared.Starts.{Starts}
 use Rattle.sheet.specs.Field.{isFinite}
 use Rattle.sheet.specs.Line.{zzTag, zxTag, zyTag, xyTag, tagTo, inForm, sizeLine, blockLine, pairLine, singleLine, verdictOf}
-use Rattle.sheet.specs.Run.{ended, before, entryIn, isBetween, reaches, blockIn, wordIn, givenVerdict, blockVerdict, entryVerdict, blocksOf, entriesFrom, wordsOf, rowsFrom, passOf}
-use Rattle.sheet.specs.Sheet.{Sheet, Outcome, accepted, refused, countsWithin, settled, readLines, afterSize, readSheet, sheetOf, alone}
+use Rattle.sheet.specs.Run.{ended, before, entryIn, isBetween, notBefore, blockIn, wordIn, prescribedVerdict, blockVerdict, entryVerdict, blocksOf, entriesFrom, wordsOf, rowsFrom, passOf}
+use Rattle.sheet.specs.Sheet.{Sheet, Outcome, accepted, refused, countsWithin, outcomeAt, readLines, afterSize, readSheet, sheetOf, alone}
 use Rattle.sheet.proofs.Lines.{lines-keep}
 use Rattle.sheet.proofs.Opened.{zzRun, xxRun, yyRun}
 use Rattle.sheet.proofs.Whole.{read-whole}
@@ -46,8 +46,8 @@ pass-sound c number next v h = go (eqb c.number 0) (eqb number 0)
 
 words-sound : (read : ℕ → Line) (width : ℕ → ℕ) (n : ℕ) (c : Cursor) → Sound c → Sound (wordsOf read width n c .past)
 words-sound read width n =
-    lines-keep read givenVerdict wordIn Sound
-    (λ c i l. pass-sound c (givenVerdict i l) l.next
+    lines-keep read prescribedVerdict wordIn Sound
+    (λ c i l. pass-sound c (prescribedVerdict i l) l.next
     (verdict-of-line (inForm l.next && eqb l.first i.0 && eqb l.second i.1) (isFinite l.word) true))
     (rowsFrom width 0 n)
 
@@ -64,7 +64,7 @@ module _ (s : List ℕ) where
   entries-sound zero q col row c h = h
   entries-sound (suc left) q col row c h =
       let l = pairLine zzTag s c.at in
-      let v = verdict-of-line (inForm l.next && reaches col row l.first l.second) (isFinite l.word) (ltb l.first q && ltb l.second q) in
+      let v = verdict-of-line (inForm l.next && notBefore col row l.first l.second) (isFinite l.word) (ltb l.first q && ltb l.second q) in
       go (entries-sound left q l.first (l.second + 1) (passOf c (entryVerdict q col row l) l.next) (pass-sound c (entryVerdict q col row l) l.next v h))
       (eqb c.number 0 && inForm (tagTo zzTag s c.at .next))
     where
@@ -85,8 +85,8 @@ of-cursor : (number line : ℕ) → (number ≡ 0 → ⊥) → OfLine number × 
 of-cursor number line h (inl z, l) = absurd (h z)
 of-cursor number line h (inr r, l) = (r.0, r.1, l)
 
-settled-refusal : (c : Cursor) (sheet : Sheet) (starts : Starts) (number line : ℕ) → Sound c → settled c sheet starts ≡ refused number line → OnLine number line
-settled-refusal c sheet starts number line h e = go (eqb c.number 0) refl e
+outcome-refusal : (c : Cursor) (sheet : Sheet) (starts : Starts) (number line : ℕ) → Sound c → outcomeAt c sheet starts ≡ refused number line → OnLine number line
+outcome-refusal c sheet starts number line h e = go (eqb c.number 0) refl e
   where
     go : (t : Bool) → eqb (c .number) 0 ≡ t → cond t (accepted sheet starts) (refused (c .number) (c .line)) ≡ refused number line → OnLine number line
     go true u g = let z : _≡_ {A = ℕ} 0 1 = cc in absurd (omega arith)
@@ -103,7 +103,7 @@ lines-refusal s z at number line e =
     let hz : Sound (zzRun s z at .past) = entries-sound s (length s) z.q 0 0 _ (blocks-sound s z.k c (inl refl, omega arith)) in
     let hx : Sound (xxRun s z at .past) =
     words-sound _ _ z.p _ (words-sound (singleLine zyTag s) (λ r. 1) z.q _ (words-sound (pairLine zxTag s) (λ r. z .p) z.q _ hz)) in
-    settled-refusal (yyRun s z at .past) _ _ number line (words-sound _ _ 1 _ (words-sound (singleLine xyTag s) (λ r. 1) z.p _ hx)) e
+    outcome-refusal (yyRun s z at .past) _ _ number line (words-sound _ _ 1 _ (words-sound (singleLine xyTag s) (λ r. 1) z.p _ hx)) e
 
 -- THE CLAIM
 pub read-refusal : (s : List ℕ) (number line : ℕ) → readSheet s ≡ refused number line → Refusal number line

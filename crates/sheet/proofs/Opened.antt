@@ -11,13 +11,13 @@ use Rattle.sheet.specs.declared.Counts.{Counts}
 use Rattle.sheet.specs.declared.Cursor.{Cursor}
 use Rattle.sheet.specs.declared.Starts.{Starts}
 use Rattle.sheet.specs.Line.{zxTag, zyTag, xxTag, xyTag, yyTag, pairLine, singleLine, bareLine}
-use Rattle.sheet.specs.Run.{Block, Entry, Run, wordIn, givenVerdict, blocksOf, entriesFrom, wordsOf, rowsFrom}
-use Rattle.sheet.specs.Sheet.{Sheet, accepted, refused, settled, readLines}
+use Rattle.sheet.specs.Run.{Block, Entry, Run, wordIn, prescribedVerdict, blocksOf, entriesFrom, wordsOf, rowsFrom}
+use Rattle.sheet.specs.Sheet.{Sheet, accepted, refused, outcomeAt, readLines}
 use Rattle.sheet.proofs.Lines.{ran}
 use Rattle.sheet.proofs.Entries.{listed}
 
-settled-open : (c : Cursor) (a sheet : Sheet) (b starts : Starts) → settled c a b ≡ accepted sheet starts → (c .number ≡ 0) × (a ≡ sheet) × (b ≡ starts)
-settled-open c a sheet b starts e = go (eqb c.number 0) refl e
+outcome-open : (c : Cursor) (a sheet : Sheet) (b starts : Starts) → outcomeAt c a b ≡ accepted sheet starts → (c .number ≡ 0) × (a ≡ sheet) × (b ≡ starts)
+outcome-open c a sheet b starts e = go (eqb c.number 0) refl e
   where
     go : (t : Bool) → eqb (c .number) 0 ≡ t → cond t (accepted a b) (refused (c .number) (c .line)) ≡ accepted sheet starts → (c .number ≡ 0) × (a ≡ sheet) × (b ≡ starts)
     go true u g = (eqb-true _ 0 u, cc, cc)
@@ -85,12 +85,12 @@ module _ (s : List ℕ) (z : Counts) (at : ℕ) where
   pub opened : (sheet : Sheet) (starts : Starts) → readLines s z (record { at = at; line = 2; number = 0 }) ≡ accepted sheet starts → Opened sheet starts
   unfolding readLines
   opened sheet starts e =
-      let o = settled-open yyRun.past sheetRead sheet startsRead starts e in
-      let xy = ran (bareLine yyTag s) givenVerdict wordIn (rowsFrom (λ r. 1) 0 1) xyRun.past o.0 .open-before in
-      let xx = ran (singleLine xyTag s) givenVerdict wordIn (rowsFrom (λ r. 1) 0 z.p) xxRun.past xy .open-before in
-      let zy = ran (pairLine xxTag s) givenVerdict wordIn (rowsFrom (λ r. r + 1) 0 z.p) zyRun.past xx .open-before in
-      let zx = ran (singleLine zyTag s) givenVerdict wordIn (rowsFrom (λ r. 1) 0 z.q) zxRun.past zy .open-before in
-      let zz = ran (pairLine zxTag s) givenVerdict wordIn (rowsFrom (λ r. z .p) 0 z.q) zzRun.past zx .open-before in
+      let o = outcome-open yyRun.past sheetRead sheet startsRead starts e in
+      let xy = ran (bareLine yyTag s) prescribedVerdict wordIn (rowsFrom (λ r. 1) 0 1) xyRun.past o.0 .open-before in
+      let xx = ran (singleLine xyTag s) prescribedVerdict wordIn (rowsFrom (λ r. 1) 0 z.p) xxRun.past xy .open-before in
+      let zy = ran (pairLine xxTag s) prescribedVerdict wordIn (rowsFrom (λ r. r + 1) 0 z.p) zyRun.past xx .open-before in
+      let zx = ran (singleLine zyTag s) prescribedVerdict wordIn (rowsFrom (λ r. 1) 0 z.q) zxRun.past zy .open-before in
+      let zz = ran (pairLine zxTag s) prescribedVerdict wordIn (rowsFrom (λ r. z .p) 0 z.q) zzRun.past zx .open-before in
       record {
         blocks = listed s z.q (length s) 0 0 blocksRun.past zz .open-before;
         zz = zz;

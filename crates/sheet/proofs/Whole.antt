@@ -13,7 +13,7 @@ use Rattle.sheet.specs.declared.Line.{Line}
 use Rattle.sheet.specs.declared.Starts.{Starts}
 use Rattle.sheet.specs.Field.{isFinite}
 use Rattle.sheet.specs.Line.{zzTag, zxTag, zyTag, xxTag, xyTag, yyTag, inForm, sizeLine, blockLine, pairLine, singleLine, bareLine, verdictOf}
-use Rattle.sheet.specs.Run.{isBetween, blockIn, entryIn, wordIn, givenVerdict, blockVerdict, wordsOf, rowsFrom, keptFrom, pastFrom}
+use Rattle.sheet.specs.Run.{isBetween, blockIn, entryIn, wordIn, prescribedVerdict, blockVerdict, wordsOf, rowsFrom, keptFrom, pastFrom}
 use Rattle.sheet.specs.Sheet.{Sheet, Outcome, accepted, refused, countsWithin, readLines, afterSize, readSheet, sheetOf, alone}
 use Rattle.sheet.specs.Whole.{Each, InRange, BlockInRange, Finite, WordsFrom, Whole}
 use Rattle.sheet.proofs.Lines.{both, in-order, ran, each, lines-length, grid-length, triangle-length}
@@ -26,7 +26,7 @@ unfolding keptFrom
 any-line read zero line at = refl
 any-line read (suc n) line at = ap (λ (l : List ℕ). read at .word ∷ l) (any-line read n (line + 1) (read at .next) ∙ sym (any-line read n (0 + 1) (read at .next)))
 
-word-finite : (i : ℕ × ℕ) (line : ℕ) (l : Line) → givenVerdict i l ≡ 0 → Finite (wordIn line l)
+word-finite : (i : ℕ × ℕ) (line : ℕ) (l : Line) → prescribedVerdict i l ≡ 0 → Finite (wordIn line l)
 word-finite i line l v = in-order (inForm l.next && eqb l.first i.0 && eqb l.second i.1) (isFinite l.word) true v .1
 
 record RanWords (read : ℕ → Line) (width : ℕ → ℕ) (n : ℕ) (c : Cursor) : Type 0 where
@@ -38,8 +38,8 @@ record RanWords (read : ℕ → Line) (width : ℕ → ℕ) (n : ℕ) (c : Curso
 ran-words : (read : ℕ → Line) (width : ℕ → ℕ) (n : ℕ) (c : Cursor) → wordsOf read width n c .past .number ≡ 0 → RanWords read width n c
 ran-words read width n c e =
     let is = rowsFrom width 0 n in
-    let r = ran read givenVerdict wordIn is c e in
-    let k : length (wordsOf read width n c .items) ≡ length is = lines-length read givenVerdict wordIn is c in
+    let r = ran read prescribedVerdict wordIn is c e in
+    let k : length (wordsOf read width n c .items) ≡ length is = lines-length read prescribedVerdict wordIn is c in
     record {
       count = k;
       line = omega (arith, r.line);
@@ -47,7 +47,7 @@ ran-words read width n c e =
         r .items ∙ any-line read (length is) c.line c.at ∙ ap (λ (m : ℕ). keptFrom read wordIn m 0 c.at) (sym k),
         r .at ∙ ap (λ (m : ℕ). pastFrom read m c.at) (sym k),
       );
-      finite = each read givenVerdict wordIn Finite word-finite is c e;
+      finite = each read prescribedVerdict wordIn Finite word-finite is c e;
     }
 
 block-in-range : (i : ℕ × ℕ) (line : ℕ) (l : Line) → blockVerdict i l ≡ 0 → BlockInRange (blockIn line l)

@@ -65,8 +65,8 @@ abbrev pub coversRows : Sheet → Bool
 coversRows sheet = eqb (sheet .counts .q) (levelsOf (sheet .blocks))
 
 -- the first that applies, or 0
-unfoldable pub refusalOf : Sheet → ℕ
-refusalOf sheet =
+unfoldable pub faultNumber : Sheet → ℕ
+faultNumber sheet =
     cond (eqb (sheet .counts .flag) 0) 5
     (cond (eqb (sheet .counts .k) 0) 6 (cond (hasSlope sheet) 7 (cond (not (coversRows sheet)) 8 (cond (anyFaulty sheet) 9 0))))
 
@@ -76,5 +76,5 @@ Names sheet number line = cond (eqb number 9) (Faulty sheet line) (line ≡ 0)
 
 pub record Refuses (sheet : Sheet) (number line : ℕ) : Type 0 where
   pub applies : 0 < number
-  pub first : refusalOf sheet ≡ number
+  pub first : faultNumber sheet ≡ number
   pub names : Names sheet number line

@@ -45,14 +45,14 @@ rowsFrom width r zero = []
 rowsFrom width r (suc n) = rowFrom r 0 (width r) ++ rowsFrom width (r + 1) n
 
 -- ---- lines whose indexes are prescribed: any others are out of sequence
-abbrev pub givenVerdict : ℕ × ℕ → Line → ℕ
-givenVerdict i l = verdictOf (inForm (l .next) && eqb (l .first) (i .0) && eqb (l .second) (i .1)) (isFinite (l .word)) true
+abbrev pub prescribedVerdict : ℕ × ℕ → Line → ℕ
+prescribedVerdict i l = verdictOf (inForm (l .next) && eqb (l .first) (i .0) && eqb (l .second) (i .1)) (isFinite (l .word)) true
 
 abbrev pub wordIn : ℕ → Line → ℕ
 wordIn line l = l .word
 
 abbrev pub wordsOf : (ℕ → Line) → (ℕ → ℕ) → ℕ → Cursor → Run ℕ
-wordsOf read width n c = linesOf read givenVerdict wordIn (rowsFrom width 0 n) c
+wordsOf read width n c = linesOf read prescribedVerdict wordIn (rowsFrom width 0 n) c
 
 -- ---- block lines: levels and effects per level
 pub record Block : Type 0 where
@@ -82,13 +82,13 @@ abbrev pub entryIn : ℕ → Line → Entry
 entryIn line l = record { line = line; col = l .first; row = l .second; word = l .word }
 
 -- (col, row) is not before (col₀, row₀), by column then row
-abbrev pub reaches : ℕ → ℕ → ℕ → ℕ → Bool
-reaches col₀ row₀ col row = ltb col₀ col || (eqb col₀ col && leb row₀ row)
+abbrev pub notBefore : ℕ → ℕ → ℕ → ℕ → Bool
+notBefore col₀ row₀ col row = ltb col₀ col || (eqb col₀ col && leb row₀ row)
 
 -- a zz line where (col, row) is the first place that comes past the line before: in form and rising, finite, and within q columns and rows
 abbrev pub entryVerdict : ℕ → ℕ → ℕ → Line → ℕ
 entryVerdict q col row l =
-    verdictOf (inForm (l .next) && reaches col row (l .first) (l .second)) (isFinite (l .word)) (ltb (l .first) q && ltb (l .second) q)
+    verdictOf (inForm (l .next) && notBefore col row (l .first) (l .second)) (isFinite (l .word)) (ltb (l .first) q && ltb (l .second) q)
 
 -- All zz lines from the cursor on, `left` of them at most. The first line with another tag ends them.
 unfoldable pub entriesFrom : ℕ → List ℕ → ℕ → ℕ → ℕ → Cursor → Run Entry

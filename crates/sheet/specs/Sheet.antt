@@ -33,8 +33,8 @@ countsWithin z =
     isBetween 1 (z .n) 1000000000 && isBetween 1 (z .p) 32 && isBetween 0 (z .q) 524280 && isBetween 0 (z .k) 8 && isBetween 0 (z .flag) 1
 
 -- the outcome at the cursor past the yy line
-abbrev pub settled : Cursor → Sheet → Starts → Outcome
-settled c sheet starts = cond (eqb (c .number) 0) (accepted sheet starts) (refused (c .number) (c .line))
+abbrev pub outcomeAt : Cursor → Sheet → Starts → Outcome
+outcomeAt c sheet starts = cond (eqb (c .number) 0) (accepted sheet starts) (refused (c .number) (c .line))
 
 -- The lines after the size line, in their sequence: k block lines; zz lines, of which there are fewer than bytes (proofs/Enough.antt); zx, q rows of p;
 -- zy, q rows of one; xx, p rows of 1, 2, .. p; xy, p rows of one; yy.
@@ -47,7 +47,7 @@ readLines s z c =
     let xx = wordsOf (pairLine xxTag s) (λ r. r + 1) (z .p) (zy .past) in
     let xy = wordsOf (singleLine xyTag s) (λ r. 1) (z .p) (xx .past) in
     let yy = wordsOf (bareLine yyTag s) (λ r. 1) 1 (xy .past) in
-    settled (yy .past)
+    outcomeAt (yy .past)
     (record {
       counts = z;
       blocks = blocks .items;

@@ -1,4 +1,5 @@
-// The sheet of cross-products (document 01, Record 1): its fields, its lines, and where they stand in the bytes.
+// The sheet of cross-products and its refusals 1 to 9 (document 01, Record 1), as definitions in specs/: fields, lines, runs of lines, faults; and
+// the structs that say where lines stand in the bytes.
 
 // What stands at a position: a number or a word, and the position past the byte that ends it.
 // Where nothing in form stands there, the value is 0 and next is 2^64 - 1, a position at which nothing stands.

@@ -14,7 +14,7 @@ use Rattle.sheet.specs.declared.Reading.the-variants.{Sheet as Read, Refused}
 use Rattle.sheet.specs.declared.Starts.{Starts}
 use Rattle.sheet.specs.Sheet.{Sheet, Outcome, accepted, refused, readSheet, sheetOf}
 use Rattle.sheet.specs.Whole.{Shape}
-use Rattle.sheet.specs.Fault.{levelsOf, hasSlope, coversRows, anyFaulty, refusalOf, Names}
+use Rattle.sheet.specs.Fault.{levelsOf, hasSlope, coversRows, anyFaulty, faultNumber, Names}
 use Rattle.sheet.specs.Answer.{readingOf, Answers}
 use Rattle.sheet.proofs.Whole.{read-whole, alone-read}
 use Rattle.sheet.proofs.Faults.{line-faulty}
@@ -46,7 +46,7 @@ module _ (s : List ℕ) {z : Starts} (e : (sheet : Sheet) × (readSheet s ≡ ac
   shape = read-whole s e.0 z (read) .shape
 
   -- a refusal, or none
-  refuses : (number line : ℕ) → 0 < number → refusalOf (e .0) ≡ number → Names (e .0) number line → Answers (readSheet s) (Refused number line)
+  refuses : (number line : ℕ) → 0 < number → faultNumber (e .0) ≡ number → Names (e .0) number line → Answers (readSheet s) (Refused number line)
   refuses number line a f n = subst (λ (o : Outcome). Answers o (Refused number line)) (sym e.1) (record { applies = a; first = f; names = n })
 
   -- the tests, over the places' counts
@@ -57,11 +57,11 @@ module _ (s : List ℕ) {z : Starts} (e : (sheet : Sheet) × (readSheet s ≡ ac
   blocks-is q = ap (λ (c : Counts). eqb c.k 0) (sym shape.same-counts) ∙ q
 
   pub five : z .counts .flag ≡ 0 → Answers (readSheet s) (Refused 5 0)
-  unfolding refusalOf
+  unfolding faultNumber
   five f = refuses 5 0 (omega arith) (simp (flag-is (eq-eqb _ 0 f))) refl
 
   pub six : (z .counts .flag ≡ 0 → ⊥) → z .counts .k ≡ 0 → Answers (readSheet s) (Refused 6 0)
-  unfolding refusalOf
+  unfolding faultNumber
   six f k = refuses 6 0 (omega arith) (simp (flag-is (ne-eqb _ 0 f), blocks-is (eq-eqb _ 0 k))) refl
 
   -- what `levels` says
@@ -93,13 +93,13 @@ module _ (s : List ℕ) {z : Starts} (e : (sheet : Sheet) × (readSheet s ≡ ac
     slope = sym (told e.0 read)
 
     pub seven : v ≡ true → Answers (readSheet s) (Refused 7 0)
-    unfolding refusalOf
+    unfolding faultNumber
     seven u = refuses 7 0 (omega arith) (simp (flag-is (ne-eqb _ 0 f), blocks-is (ne-eqb _ 0 k), slope ∙ u)) refl
 
     -- where 7 does not apply
     module _ (u : v ≡ false) {m : List ℕ} (levels : (sheet : Sheet) → readSheet s ≡ accepted sheet z → m ≡ padded 8 (levelList (sheet .blocks))) {t : ℕ} (total : t ≡ sum (λ i. getD m i 0) 8) where
       pub eight : not (eqb t (z .counts .q)) ≡ true → Answers (readSheet s) (Refused 8 0)
-      unfolding refusalOf
+      unfolding faultNumber
       eight w =
           refuses 8 0 (omega arith)
           (simp
@@ -107,8 +107,8 @@ module _ (s : List ℕ) {z : Starts} (e : (sheet : Sheet) × (readSheet s ≡ ac
 
       -- where 8 does not apply; and what `faulty_line` says
       module _ (w : not (eqb t (z .counts .q)) ≡ false) {r : ℕ} (found : (sheet : Sheet) → readSheet s ≡ accepted sheet z → m ≡ padded 8 (levelList (sheet .blocks)) → Found sheet r) where
-        from-nine : {b : Bool} → anyFaulty (e .0) ≡ b → refusalOf (e .0) ≡ cond b 9 0
-        unfolding refusalOf
+        from-nine : {b : Bool} → anyFaulty (e .0) ≡ b → faultNumber (e .0) ≡ cond b 9 0
+        unfolding faultNumber
         from-nine q = simp (flag-is (ne-eqb _ 0 f), blocks-is (ne-eqb _ 0 k), slope ∙ u, covered levels total w, q)
 
         answer : Found (e .0) r

@@ -17,15 +17,15 @@ ghost use Rattle.layout.specs.Blocks.{padded, sum};
 ghost use Rattle.sheet_checks.specs.levels.Held.{Holds, levelList, blocksAt};
 
 // The levels of k blocks whose lines start at a position, 0 past the last.
-fn levels_at(s: &[u8], from: usize, k: u64) -> [u64; 8]
+fn levels_at(bytes: &[u8], from: usize, k: u64) -> [u64; 8]
     requires { ⌜ k ≤ 8 ⌝ }
-    ensures { λ r. ⌜ r ≡ padded 8 (levelList (blocksAt (now (s .entry)) k from)) ⌝ }
+    ensures { λ r. ⌜ r ≡ padded 8 (levelList (blocksAt (now (bytes .entry)) k from)) ⌝ }
 {
     let mut m: [u64; 8] = [0; 8];
     let mut at = from;
     let mut i: usize = 0;
     while (i as u64) < k {
-        let l = block_line::block_line(s, at);
+        let l = block_line::block_line(bytes, at);
         m[i] = l.first;
         at = l.next;
         i += 1;
@@ -34,21 +34,21 @@ fn levels_at(s: &[u8], from: usize, k: u64) -> [u64; 8]
 }
 
 // The levels of each block of the sheet, in its order.
-pub fn levels(s: &[u8], z: Starts) -> [u64; 8]
-    requires { ⌜ Holds (now s) z ⌝ }
-    ensures { λ r. ⌜ ((sheet : Sheet) → readSheet (now (s .entry)) ≡ accepted sheet z → r ≡ padded 8 (levelList (sheet .blocks))) ⌝ }
+pub fn levels(bytes: &[u8], starts: Starts) -> [u64; 8]
+    requires { ⌜ Holds (now bytes) starts ⌝ }
+    ensures { λ r. ⌜ ((sheet : Sheet) → readSheet (now (bytes .entry)) ≡ accepted sheet starts → r ≡ padded 8 (levelList (sheet .blocks))) ⌝ }
 {
-    levels_at(s, z.block, z.counts.k)
+    levels_at(bytes, starts.block, starts.counts.k)
 }
 
 // Whether one of k blocks whose lines start at a position has an e that is not 1.
-fn slope_at(s: &[u8], from: usize, k: u64) -> bool
-    ensures { λ r. ⌜ r ≡ anyOf (λ (b : Block). not (eqb (b .e) 1)) (blocksAt (now (s .entry)) k from) ⌝ }
+fn slope_at(bytes: &[u8], from: usize, k: u64) -> bool
+    ensures { λ r. ⌜ r ≡ anyOf (λ (b : Block). not (eqb (b .e) 1)) (blocksAt (now (bytes .entry)) k from) ⌝ }
 {
     let mut at = from;
     let mut left = k;
     while 0 < left {
-        let l = block_line::block_line(s, at);
+        let l = block_line::block_line(bytes, at);
         if l.second != 1 {
             return true;
         }
@@ -59,11 +59,11 @@ fn slope_at(s: &[u8], from: usize, k: u64) -> bool
 }
 
 // Whether an e of the sheet is not 1, number 7.
-pub fn has_slope(s: &[u8], z: Starts) -> bool
-    requires { ⌜ Holds (now s) z ⌝ }
-    ensures { λ r. ⌜ ((sheet : Sheet) → readSheet (now (s .entry)) ≡ accepted sheet z → r ≡ hasSlope sheet) ⌝ }
+pub fn has_slope(bytes: &[u8], starts: Starts) -> bool
+    requires { ⌜ Holds (now bytes) starts ⌝ }
+    ensures { λ r. ⌜ ((sheet : Sheet) → readSheet (now (bytes .entry)) ≡ accepted sheet starts → r ≡ hasSlope sheet) ⌝ }
 {
-    slope_at(s, z.block, z.counts.k)
+    slope_at(bytes, starts.block, starts.counts.k)
 }
 
 // The sum of the first n levels: the row where block n of the sheet starts.
@@ -97,10 +97,10 @@ fn other_lines(c: Counts) -> u64
 }
 
 // How many zz lines a sheet has: all its lines but the others.
-pub fn entries(z: Starts) -> u64
-    requires { ⌜ ((s : List ℕ) × Holds s z) ⌝ }
-    ensures { λ r. ⌜ ((s : List ℕ) (sheet : Sheet) → readSheet s ≡ accepted sheet z → r ≡ length (sheet .zz)) × (z .line < 18446744073709551616) ⌝ }
+pub fn entries(starts: Starts) -> u64
+    requires { ⌜ ((s : List ℕ) × Holds s starts) ⌝ }
+    ensures { λ r. ⌜ ((s : List ℕ) (sheet : Sheet) → readSheet s ≡ accepted sheet starts → r ≡ length (sheet .zz)) × (starts .line < 18446744073709551616) ⌝ }
 {
-    let c = z.counts;
-    z.line - other_lines(c)
+    let c = starts.counts;
+    starts.line - other_lines(c)
 }

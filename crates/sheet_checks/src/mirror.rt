@@ -14,33 +14,33 @@ use crate::mirror_scan;
 use sheet::Starts;
 
 // A pass for at most 1,024 columns: a small sheet sets up 8 KiB of cursors, not 512.
-fn few(s: &[u8], z: Starts, m: [u64; 8], n: u64) -> u64
-    requires { ⌜ Given (now s) z n × Levelled (now s) m × (0 < n) ⌝ }
-    ensures { λ r. ⌜ Judged (held (now (s .entry))) 0 1024 r ⌝ }
+fn few(bytes: &[u8], starts: Starts, m: [u64; 8], n: u64) -> u64
+    requires { ⌜ Given (now bytes) starts n × Levelled (now bytes) m × (0 < n) ⌝ }
+    ensures { λ r. ⌜ Judged (held (now (bytes .entry))) 0 1024 r ⌝ }
 {
-    let first = z.zz;
+    let first = starts.zz;
     let mut cur = [first; 1024];
-    mirror_scan::pass(s, z, m, n, 0, &mut cur)
+    mirror_scan::pass(bytes, starts, m, n, 0, &mut cur)
 }
 
 // A pass for the 65,536 columns from `base` on.
-fn many(s: &[u8], z: Starts, m: [u64; 8], n: u64, base: u64) -> u64
-    requires { ⌜ Given (now s) z n × Levelled (now s) m × (0 < n) × (base < 4294967296) ⌝ }
-    ensures { λ r. ⌜ Judged (held (now (s .entry))) base 65536 r ⌝ }
+fn many(bytes: &[u8], starts: Starts, m: [u64; 8], n: u64, base: u64) -> u64
+    requires { ⌜ Given (now bytes) starts n × Levelled (now bytes) m × (0 < n) × (base < 4294967296) ⌝ }
+    ensures { λ r. ⌜ Judged (held (now (bytes .entry))) base 65536 r ⌝ }
 {
-    let first = z.zz;
+    let first = starts.zz;
     let mut cur = [first; 65536];
-    mirror_scan::pass(s, z, m, n, base, &mut cur)
+    mirror_scan::pass(bytes, starts, m, n, base, &mut cur)
 }
 
 // Every group of columns in turn; at most 65,536 columns are one group.
-fn groups(s: &[u8], z: Starts, m: [u64; 8], n: u64) -> u64
-    requires { ⌜ Given (now s) z n × Levelled (now s) m × (0 < n) ⌝ }
-    ensures { λ r. ⌜ Found (held (now (s .entry))) r ⌝ }
+fn groups(bytes: &[u8], starts: Starts, m: [u64; 8], n: u64) -> u64
+    requires { ⌜ Given (now bytes) starts n × Levelled (now bytes) m × (0 < n) ⌝ }
+    ensures { λ r. ⌜ Found (held (now (bytes .entry))) r ⌝ }
 {
     let mut base: u64 = 0;
-    while base < z.counts.q {
-        let r = many(s, z, m, n, base);
+    while base < starts.counts.q {
+        let r = many(bytes, starts, m, n, base);
         if 0 < r {
             return r;
         }
@@ -50,16 +50,16 @@ fn groups(s: &[u8], z: Starts, m: [u64; 8], n: u64) -> u64
 }
 
 // The number of a line with a fault of number 9, or 0. The zz lines are read again where they stand. m: the blocks' levels in sheet order, 0 past the last.
-pub fn faulty_line(s: &[u8], z: Starts, m: [u64; 8]) -> u64
-    requires { ⌜ ((sheet : Sheet) × (readSheet (now s) ≡ accepted sheet z) × (coversRows sheet ≡ true) × (m ≡ padded 8 (levelList (sheet .blocks)))) ⌝ }
-    ensures { λ r. ⌜ ((sheet : Sheet) → readSheet (now (s .entry)) ≡ accepted sheet z → m ≡ padded 8 (levelList (sheet .blocks)) → Found sheet r) ⌝ }
+pub fn faulty_line(bytes: &[u8], starts: Starts, m: [u64; 8]) -> u64
+    requires { ⌜ ((sheet : Sheet) × (readSheet (now bytes) ≡ accepted sheet starts) × (coversRows sheet ≡ true) × (m ≡ padded 8 (levelList (sheet .blocks)))) ⌝ }
+    ensures { λ r. ⌜ ((sheet : Sheet) → readSheet (now (bytes .entry)) ≡ accepted sheet starts → m ≡ padded 8 (levelList (sheet .blocks)) → Found sheet r) ⌝ }
 {
-    let n = levels::entries(z);
+    let n = levels::entries(starts);
     if n == 0 {
         return 0;
     }
-    if z.counts.q <= 1024 {
-        return few(s, z, m, n);
+    if starts.counts.q <= 1024 {
+        return few(bytes, starts, m, n);
     }
-    groups(s, z, m, n)
+    groups(bytes, starts, m, n)
 }

@@ -10,16 +10,16 @@ use sheet::Starts;
 use sheet_reader::pair_line;
 
 // At the end of a pass: the number of the line at a cursor whose mirror never came, or 0.
-fn unmet(s: &[u8], z: Starts, n: u64, base: u64, cur: &[usize], due: u64) -> u64
-    requires { ⌜ Given (now s) z n × Pass (now s) z base (now cur) due n (placeOf (now s) z n) × (base + length (now cur) < 1152921504606846976) ⌝ }
-    ensures { λ r. ⌜ Closed (held (now (s .entry))) base (length (now (cur .entry))) r ⌝ }
+fn unmatched_line(bytes: &[u8], starts: Starts, n: u64, base: u64, cur: &[usize], due: u64) -> u64
+    requires { ⌜ Given (now bytes) starts n × Pass (now bytes) starts base (now cur) due n (placeOf (now bytes) starts n) × (base + length (now cur) < 1152921504606846976) ⌝ }
+    ensures { λ r. ⌜ Closed (held (now (bytes .entry))) base (length (now (cur .entry))) r ⌝ }
 {
     let mut col = base;
     while col < due {
         let j = (col - base) as usize;
-        let o = pair_line::pair_line(b"zz\t", s, cur[j]);
+        let o = pair_line::pair_line(b"zz\t", bytes, cur[j]);
         if (o.first == col) & (col < o.second) {
-            return mirror_step::number_of(s, z, n, o.first, o.second);
+            return mirror_step::line_number_of(bytes, starts, n, o.first, o.second);
         }
         col += 1;
     }
@@ -27,15 +27,15 @@ fn unmet(s: &[u8], z: Starts, n: u64, base: u64, cur: &[usize], due: u64) -> u64
 }
 
 // One pass over the lines, for the columns of `cur` from `base` on. Every cursor starts at the first zz line.
-pub fn pass(s: &[u8], z: Starts, m: [u64; 8], n: u64, base: u64, cur: &mut [usize]) -> u64
-    requires { ⌜ Given (now s) z n × Levelled (now s) m × (0 < n) × (base + length (now cur) < 1152921504606846976) × (now cur ≡ replicate (length (now cur)) (z .zz)) ⌝ }
-    ensures { λ r. ⌜ Judged (held (now (s .entry))) base (length (now (cur .entry))) r ⌝ }
+pub fn pass(bytes: &[u8], starts: Starts, m: [u64; 8], n: u64, base: u64, cur: &mut [usize]) -> u64
+    requires { ⌜ Given (now bytes) starts n × Levelled (now bytes) m × (0 < n) × (base + length (now cur) < 1152921504606846976) × (now cur ≡ replicate (length (now cur)) (starts .zz)) ⌝ }
+    ensures { λ r. ⌜ Judged (held (now (bytes .entry))) base (length (now (cur .entry))) r ⌝ }
 {
     let mut due: u64 = 0;
-    let mut at = z.zz;
+    let mut at = starts.zz;
     let mut i: u64 = 0;
     while i < n {
-        let t = mirror_step::turn(s, z, m, n, base, cur, due, i, at);
+        let t = mirror_step::check_entry(bytes, starts, m, n, base, cur, due, i, at);
         if 0 < t.fault {
             return t.fault;
         }
@@ -43,5 +43,5 @@ pub fn pass(s: &[u8], z: Starts, m: [u64; 8], n: u64, base: u64, cur: &mut [usiz
         at = t.next;
         i += 1;
     }
-    unmet(s, z, n, base, cur, due)
+    unmatched_line(bytes, starts, n, base, cur, due)
 }

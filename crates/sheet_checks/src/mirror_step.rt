@@ -3,7 +3,7 @@ ghost use mathlib.Core.Path.{_≡_};
 ghost use Prim.Native.Nat.{ℕ, _+_, _<_};
 ghost use lib.ListN.{length};
 ghost use Rattle.sheet_checks.specs.mirror_cursor.Held.{held, entryOf, Given, Levelled};
-ghost use Rattle.sheet_checks.specs.mirror_cursor.Turns.{Blamed, Pass, Turned};
+ghost use Rattle.sheet_checks.specs.mirror_cursor.Turns.{FaultyOfPair, Pass, Turned};
 use crate::mirror_cursor;
 use crate::mirror_cursor::After;
 use sheet::Line;
@@ -11,15 +11,15 @@ use sheet::Starts;
 use sheet_reader::pair_line;
 
 // The number of the line of the entry (col, row).
-pub fn number_of(s: &[u8], z: Starts, n: u64, col: u64, row: u64) -> u64
-    requires { ⌜ Given (now s) z n ⌝ }
-    ensures { λ r. ⌜ ((t : ℕ) → t < n → entryOf (held (now (s .entry))) t .col ≡ col → entryOf (held (now (s .entry))) t .row ≡ row → r ≡ entryOf (held (now (s .entry))) t .line) ⌝ }
+pub fn line_number_of(bytes: &[u8], starts: Starts, n: u64, col: u64, row: u64) -> u64
+    requires { ⌜ Given (now bytes) starts n ⌝ }
+    ensures { λ r. ⌜ ((t : ℕ) → t < n → entryOf (held (now (bytes .entry))) t .col ≡ col → entryOf (held (now (bytes .entry))) t .row ≡ row → r ≡ entryOf (held (now (bytes .entry))) t .line) ⌝ }
 {
-    let first = z.counts.k + 2;
-    let mut at = z.zz;
+    let first = starts.counts.k + 2;
+    let mut at = starts.zz;
     let mut i: u64 = 0;
     while i < n {
-        let l = pair_line::pair_line(b"zz\t", s, at);
+        let l = pair_line::pair_line(b"zz\t", bytes, at);
         if (l.first == col) & (l.second == row) {
             return first + i;
         }
@@ -30,20 +30,20 @@ pub fn number_of(s: &[u8], z: Starts, n: u64, col: u64, row: u64) -> u64
 }
 
 // The faulty line where entry i, in the line l above the diagonal, does not meet its mirror in the line o at its cursor: o's, if its mirror did not come, else l's.
-fn blamed(s: &[u8], z: Starts, n: u64, i: u64, l: Line, o: Line) -> u64
-    requires { ⌜ Given (now s) z n × (i < n) ⌝ }
-    ensures { λ r. ⌜ Blamed (now (s .entry)) z n i l o r ⌝ }
+fn faulty_of_pair(bytes: &[u8], starts: Starts, n: u64, i: u64, l: Line, o: Line) -> u64
+    requires { ⌜ Given (now bytes) starts n × (i < n) ⌝ }
+    ensures { λ r. ⌜ FaultyOfPair (now (bytes .entry)) starts n i l o r ⌝ }
 {
     if mirror_cursor::is_passed(l, o) {
-        return number_of(s, z, n, o.first, o.second);
+        return line_number_of(bytes, starts, n, o.first, o.second);
     }
-    z.counts.k + 2 + i
+    starts.counts.k + 2 + i
 }
 
 // The line of entry i. Below the diagonal it starts its column, if it is the first there; above, it must be the mirror of the entry at its cursor.
-pub fn turn(
-    s: &[u8],
-    z: Starts,
+pub fn check_entry(
+    bytes: &[u8],
+    starts: Starts,
     m: [u64; 8],
     n: u64,
     base: u64,
@@ -52,16 +52,16 @@ pub fn turn(
     i: u64,
     at: usize,
 ) -> After
-    requires { ⌜ Given (now s) z n × Levelled (now s) m × Pass (now s) z base (now cur) due i at × (i < n) × (base + length (now cur) < 1152921504606846976) ⌝ }
-    ensures { λ r. ⌜ Turned (now (s .entry)) z base (now (cur .entry)) (now (cur .exit)) i r ⌝ }
+    requires { ⌜ Given (now bytes) starts n × Levelled (now bytes) m × Pass (now bytes) starts base (now cur) due i at × (i < n) × (base + length (now cur) < 1152921504606846976) ⌝ }
+    ensures { λ r. ⌜ Turned (now (bytes .entry)) starts base (now (cur .entry)) (now (cur .exit)) i r ⌝ }
 {
-    let l = pair_line::pair_line(b"zz\t", s, at);
+    let l = pair_line::pair_line(b"zz\t", bytes, at);
     if mirror_cursor::in_group(base, cur.len() as u64, l) {
         if mirror_cursor::is_unfit(m, l) {
             return After {
                 due: due,
                 next: l.next,
-                fault: z.counts.k + 2 + i,
+                fault: starts.counts.k + 2 + i,
             };
         }
         if l.first < l.second {
@@ -82,7 +82,7 @@ pub fn turn(
         }
         if l.second < l.first {
             let j = (l.second - base) as usize;
-            let o = pair_line::pair_line(b"zz\t", s, cur[j]);
+            let o = pair_line::pair_line(b"zz\t", bytes, cur[j]);
             if mirror_cursor::is_mirror(l, o) {
                 cur[j] = o.next;
                 return After {
@@ -94,7 +94,7 @@ pub fn turn(
             return After {
                 due: due,
                 next: l.next,
-                fault: blamed(s, z, n, i, l, o),
+                fault: faulty_of_pair(bytes, starts, n, i, l, o),
             };
         }
     }

@@ -48,14 +48,14 @@ fn grow(v: u64, d: u64) -> u64
 }
 
 // The rest of a number whose first digit was read.
-fn digits(s: &[u8], from: usize, end: u8, first: u64) -> Field
+fn digits(bytes: &[u8], from: usize, end: u8, first: u64) -> Field
     requires { ⌜ first < 10 ⌝ }
-    ensures { λ r. ⌜ r ≡ digitsFrom end first from (drop from (now (s .entry))) ⌝ }
+    ensures { λ r. ⌜ r ≡ digitsFrom end first from (drop from (now (bytes .entry))) ⌝ }
 {
     let mut v = first;
     let mut i = from;
-    while i < s.len() {
-        let b = s[i];
+    while i < bytes.len() {
+        let b = bytes[i];
         let d = digit(b);
         if d < 10 {
             if v == 0 {
@@ -77,15 +77,15 @@ fn digits(s: &[u8], from: usize, end: u8, first: u64) -> Field
 }
 
 // A number with no leading zero, and the byte `end`.
-pub fn number(s: &[u8], at: usize, end: u8) -> Field
-    ensures { λ r. ⌜ r ≡ numberTo end (now (s .entry)) at ⌝ }
+pub fn number(bytes: &[u8], at: usize, end: u8) -> Field
+    ensures { λ r. ⌜ r ≡ numberTo end (now (bytes .entry)) at ⌝ }
 {
-    if s.len() <= at {
+    if bytes.len() <= at {
         return UNFOUND;
     }
-    let d = digit(s[at]);
+    let d = digit(bytes[at]);
     if d < 10 {
-        return digits(s, at + 1, end, d);
+        return digits(bytes, at + 1, end, d);
     }
     UNFOUND
 }

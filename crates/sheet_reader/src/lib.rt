@@ -1,5 +1,5 @@
-// Reads a sheet (document 01, Record 1) and finds its refusals 1 to 4: 1 first; then the lines downwards, on a line 2, 3, 4. What each answers
-// is defined in the crate sheet, specs/Sheet.antt and specs/Answer.antt.
+// Reads a sheet (document 01, Record 1) and finds its refusals 1 to 4: 1 first; then the lines downwards, on a line 2, 3, 4. What it answers is
+// defined in the crate sheet, specs/Sheet.antt and specs/Answer.antt.
 pub mod block_line;
 pub mod field;
 mod line_groups;
@@ -22,20 +22,20 @@ use sheet::Cursor;
 use sheet::Reading;
 
 // A sheet, whatever stands behind its yy line.
-pub fn read(s: &[u8]) -> Reading
-    ensures { λ r. ⌜ r ≡ readingOf (readSheet (now (s .entry))) ⌝ }
+pub fn read_prefix(bytes: &[u8]) -> Reading
+    ensures { λ r. ⌜ r ≡ readingOf (readSheet (now (bytes .entry))) ⌝ }
 {
-    if 16777216 < s.len() {
+    if 16777216 < bytes.len() {
         return Reading::Refused { number: 1, line: 0 };
     }
-    let z = size_line::size_line(s, 0);
+    let z = size_line::size_line(bytes, 0);
     let counts = z.counts;
     if z.next == NOWHERE {
         return Reading::Refused { number: 2, line: 1 };
     }
     if size_ranges::counts_within(counts) {
         return sheet_lines::lines(
-            s,
+            bytes,
             counts,
             Cursor {
                 at: z.next,
@@ -48,13 +48,13 @@ pub fn read(s: &[u8]) -> Reading
 }
 
 // The sheet that load is given: all of the bytes.
-pub fn sheet(s: &[u8]) -> Reading
-    ensures { λ r. ⌜ r ≡ readingOf (sheetOf (now (s .entry))) ⌝ }
+pub fn read_sheet(bytes: &[u8]) -> Reading
+    ensures { λ r. ⌜ r ≡ readingOf (sheetOf (now (bytes .entry))) ⌝ }
 {
-    let r = read(s);
+    let r = read_prefix(bytes);
     match r {
         Reading::Sheet(starts) => {
-            if starts.end == s.len() {
+            if starts.end == bytes.len() {
                 return r;
             }
             Reading::Refused {

@@ -3,7 +3,7 @@
 ghost use mathlib.Core.Path.{_≡_};
 ghost use Prim.Native.Nat.{_+_, _*_, _<_};
 ghost use lib.ListN.{length};
-ghost use Rattle.sheet.specs.Run.{linesOf, rowFrom, rowsFrom, blocksOf, entriesFrom, givenVerdict, wordIn, wordsOf};
+ghost use Rattle.sheet.specs.Run.{linesOf, rowFrom, rowsFrom, blocksOf, entriesFrom, prescribedVerdict, wordIn, wordsOf};
 ghost use Rattle.sheet_reader.specs.line_verdict.Words.{lineOf};
 use crate::block_line;
 use crate::field::NOWHERE;
@@ -16,9 +16,9 @@ use sheet::Cursor;
 use sheet::Line;
 
 // The k block lines.
-pub fn blocks(s: &[u8], k: u64, c: Cursor) -> Cursor
+pub fn blocks(bytes: &[u8], k: u64, c: Cursor) -> Cursor
     requires { ⌜ c .line + k < 9223372036854775808 ⌝ }
-    ensures { λ r. ⌜ r ≡ blocksOf (now (s .entry)) k c .past ⌝ }
+    ensures { λ r. ⌜ r ≡ blocksOf (now (bytes .entry)) k c .past ⌝ }
 {
     let mut d = c;
     let mut i: u64 = 0;
@@ -26,7 +26,7 @@ pub fn blocks(s: &[u8], k: u64, c: Cursor) -> Cursor
         if d.number != 0 {
             return d;
         }
-        let l = block_line::block_line(s, d.at);
+        let l = block_line::block_line(bytes, d.at);
         d = line_verdict::block(l, d);
         i += 1;
     }
@@ -34,23 +34,23 @@ pub fn blocks(s: &[u8], k: u64, c: Cursor) -> Cursor
 }
 
 // All zz lines: the first line with another tag ends them.
-pub fn entries(s: &[u8], q: u64, c: Cursor) -> Cursor
-    requires { ⌜ c .line + length (now s) < 9223372036854775808 ⌝ }
-    ensures { λ r. ⌜ r ≡ entriesFrom (length (now (s .entry))) (now (s .entry)) q 0 0 c .past ⌝ }
+pub fn entries(bytes: &[u8], q: u64, c: Cursor) -> Cursor
+    requires { ⌜ c .line + length (now bytes) < 9223372036854775808 ⌝ }
+    ensures { λ r. ⌜ r ≡ entriesFrom (length (now (bytes .entry))) (now (bytes .entry)) q 0 0 c .past ⌝ }
 {
     let mut d = c;
     let mut col: u64 = 0;
     let mut row: u64 = 0;
-    let mut left = s.len();
+    let mut left = bytes.len();
     while 0 < left {
         if d.number != 0 {
             return d;
         }
-        let t = tag_field::tag(s, d.at, b"zz\t");
+        let t = tag_field::tag(bytes, d.at, b"zz\t");
         if t.next == NOWHERE {
             return d;
         }
-        let l = pair_line::pair_line(b"zz\t", s, d.at);
+        let l = pair_line::pair_line(b"zz\t", bytes, d.at);
         d = line_verdict::entry(l, q, col, row, d);
         col = l.first;
         row = l.second + 1;
@@ -60,22 +60,22 @@ pub fn entries(s: &[u8], q: u64, c: Cursor) -> Cursor
 }
 
 // A line of `numbers` numbers (2, 1 or 0) and a word.
-fn word_line(s: &[u8], t: &[u8], numbers: u64, at: usize) -> Line
-    ensures { λ r. ⌜ r ≡ lineOf numbers (now (t .entry)) (now (s .entry)) at ⌝ }
+fn word_line(bytes: &[u8], t: &[u8], numbers: u64, at: usize) -> Line
+    ensures { λ r. ⌜ r ≡ lineOf numbers (now (t .entry)) (now (bytes .entry)) at ⌝ }
 {
     if numbers == 2 {
-        return pair_line::pair_line(t, s, at);
+        return pair_line::pair_line(t, bytes, at);
     }
     if numbers == 1 {
-        return single_line::single_line(t, s, at);
+        return single_line::single_line(t, bytes, at);
     }
-    yy_line::bare_line(t, s, at)
+    yy_line::bare_line(t, bytes, at)
 }
 
 // The lines of one row, `width` of them.
-fn row_words(s: &[u8], t: &[u8], numbers: u64, row: u64, width: u64, c: Cursor) -> Cursor
+fn row_words(bytes: &[u8], t: &[u8], numbers: u64, row: u64, width: u64, c: Cursor) -> Cursor
     requires { ⌜ c .line + width < 9223372036854775808 ⌝ }
-    ensures { λ r. ⌜ r ≡ linesOf (lineOf numbers (now (t .entry)) (now (s .entry))) givenVerdict wordIn (rowFrom row 0 width) c .past ⌝ }
+    ensures { λ r. ⌜ r ≡ linesOf (lineOf numbers (now (t .entry)) (now (bytes .entry))) prescribedVerdict wordIn (rowFrom row 0 width) c .past ⌝ }
 {
     let mut d = c;
     let mut col: u64 = 0;
@@ -83,8 +83,8 @@ fn row_words(s: &[u8], t: &[u8], numbers: u64, row: u64, width: u64, c: Cursor) 
         if d.number != 0 {
             return d;
         }
-        let l = word_line(s, t, numbers, d.at);
-        d = line_verdict::given(l, row, col, d);
+        let l = word_line(bytes, t, numbers, d.at);
+        d = line_verdict::prescribed(l, row, col, d);
         col += 1;
     }
     d
@@ -92,7 +92,7 @@ fn row_words(s: &[u8], t: &[u8], numbers: u64, row: u64, width: u64, c: Cursor) 
 
 // The lines of `rows` rows, first + step * r of them in row r: each of `numbers` numbers (2, 1 or 0) and a word.
 pub fn words(
-    s: &[u8],
+    bytes: &[u8],
     t: &[u8],
     numbers: u64,
     first: u64,
@@ -101,7 +101,7 @@ pub fn words(
     c: Cursor,
 ) -> Cursor
     requires { ⌜ c .line + length (rowsFrom (λ r. first + step * r) 0 rows) < 9223372036854775808 ⌝ }
-    ensures { λ r. ⌜ r ≡ wordsOf (lineOf numbers (now (t .entry)) (now (s .entry))) (λ r. first + step * r) rows c .past ⌝ }
+    ensures { λ r. ⌜ r ≡ wordsOf (lineOf numbers (now (t .entry)) (now (bytes .entry))) (λ r. first + step * r) rows c .past ⌝ }
 {
     let mut d = c;
     let mut r: u64 = 0;
@@ -109,7 +109,7 @@ pub fn words(
         if d.number != 0 {
             return d;
         }
-        d = row_words(s, t, numbers, r, first + step * r, d);
+        d = row_words(bytes, t, numbers, r, first + step * r, d);
         r += 1;
     }
     d

@@ -3,7 +3,7 @@
 ghost use mathlib.Core.Path.{_≡_};
 ghost use Prim.Native.Nat.{_+_, _<_};
 ghost use Rattle.sheet.specs.Line.{verdictOf};
-ghost use Rattle.sheet.specs.Run.{passOf, isBetween, blockVerdict, reaches, entryVerdict, givenVerdict};
+ghost use Rattle.sheet.specs.Run.{passOf, isBetween, blockVerdict, notBefore, entryVerdict, prescribedVerdict};
 use crate::field::NOWHERE;
 use crate::word_class;
 use sheet::Cursor;
@@ -68,8 +68,8 @@ pub fn block(l: Line, c: Cursor) -> Cursor
 }
 
 // Whether (col, row) is not before (col0, row0), by column then row.
-fn reach(col0: u64, row0: u64, col: u64, row: u64) -> bool
-    ensures { λ r. ⌜ r ≡ reaches col0 row0 col row ⌝ }
+fn not_before(col0: u64, row0: u64, col: u64, row: u64) -> bool
+    ensures { λ r. ⌜ r ≡ notBefore col0 row0 col row ⌝ }
 {
     (col0 < col) | ((col0 == col) & (row0 <= row))
 }
@@ -79,7 +79,7 @@ pub fn entry(l: Line, q: u64, col: u64, row: u64, c: Cursor) -> Cursor
     requires { ⌜ c .line < 9223372036854775808 ⌝ }
     ensures { λ r. ⌜ r ≡ passOf c (entryVerdict q col row l) (l .next) ⌝ }
 {
-    let form = (l.next != NOWHERE) & reach(col, row, l.first, l.second);
+    let form = (l.next != NOWHERE) & not_before(col, row, l.first, l.second);
     let v = verdict(
         form,
         word_class::is_finite(l.word),
@@ -89,9 +89,9 @@ pub fn entry(l: Line, q: u64, col: u64, row: u64, c: Cursor) -> Cursor
 }
 
 // Past a line with a word, whose numbers are to be (row, col).
-pub fn given(l: Line, row: u64, col: u64, c: Cursor) -> Cursor
+pub fn prescribed(l: Line, row: u64, col: u64, c: Cursor) -> Cursor
     requires { ⌜ c .line < 9223372036854775808 ⌝ }
-    ensures { λ r. ⌜ r ≡ passOf c (givenVerdict (row, col) l) (l .next) ⌝ }
+    ensures { λ r. ⌜ r ≡ passOf c (prescribedVerdict (row, col) l) (l .next) ⌝ }
 {
     let form = (l.next != NOWHERE) & (l.first == row) & (l.second == col);
     let v = verdict(form, word_class::is_finite(l.word), true);

@@ -9,13 +9,13 @@ use crate::word_field;
 use sheet::Line;
 
 // A tag, two numbers and a word.
-pub fn pair_line(t: &[u8], s: &[u8], at: usize) -> Line
-    ensures { λ r. ⌜ r ≡ pairLine (now (t .entry)) (now (s .entry)) at ⌝ }
+pub fn pair_line(t: &[u8], bytes: &[u8], at: usize) -> Line
+    ensures { λ r. ⌜ r ≡ pairLine (now (t .entry)) (now (bytes .entry)) at ⌝ }
 {
-    let o = tag_field::tag(s, at, t);
-    let a = field::number(s, o.next, TAB);
-    let b = field::number(s, a.next, TAB);
-    let w = word_field::word(s, b.next);
+    let o = tag_field::tag(bytes, at, t);
+    let a = field::number(bytes, o.next, TAB);
+    let b = field::number(bytes, a.next, TAB);
+    let w = word_field::word(bytes, b.next);
     Line {
         first: a.value,
         second: b.value,

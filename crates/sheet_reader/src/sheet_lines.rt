@@ -12,7 +12,7 @@ use sheet::Reading;
 use sheet::Starts;
 
 // The answer at the cursor past the yy line.
-fn settle(c: Cursor, starts: Starts) -> Reading
+fn reading_at(c: Cursor, starts: Starts) -> Reading
     ensures { λ r. ⌜ r ≡ readingAt c starts ⌝ }
 {
     if c.number == 0 {
@@ -25,18 +25,18 @@ fn settle(c: Cursor, starts: Starts) -> Reading
 }
 
 // The lines after the size line, in their sequence.
-pub fn lines(s: &[u8], z: Counts, c: Cursor) -> Reading
-    requires { ⌜ (length (now s) ≤ 16777216) × (c .line ≡ 2) × Small z ⌝ }
-    ensures { λ r. ⌜ r ≡ readingOf (readLines (now (s .entry)) z c) ⌝ }
+pub fn lines(bytes: &[u8], z: Counts, c: Cursor) -> Reading
+    requires { ⌜ (length (now bytes) ≤ 16777216) × (c .line ≡ 2) × Small z ⌝ }
+    ensures { λ r. ⌜ r ≡ readingOf (readLines (now (bytes .entry)) z c) ⌝ }
 {
-    let zz = line_groups::blocks(s, z.k, c);
-    let zx = line_groups::entries(s, z.q, zz);
-    let zy = line_groups::words(s, b"zx\t", 2, z.p, 0, z.q, zx);
-    let xx = line_groups::words(s, b"zy\t", 1, 1, 0, z.q, zy);
-    let xy = line_groups::words(s, b"xx\t", 2, 1, 1, z.p, xx);
-    let yy = line_groups::words(s, b"xy\t", 1, 1, 0, z.p, xy);
-    let end = line_groups::words(s, b"yy\t", 0, 1, 0, 1, yy);
-    settle(
+    let zz = line_groups::blocks(bytes, z.k, c);
+    let zx = line_groups::entries(bytes, z.q, zz);
+    let zy = line_groups::words(bytes, b"zx\t", 2, z.p, 0, z.q, zx);
+    let xx = line_groups::words(bytes, b"zy\t", 1, 1, 0, z.q, zy);
+    let xy = line_groups::words(bytes, b"xx\t", 2, 1, 1, z.p, xx);
+    let yy = line_groups::words(bytes, b"xy\t", 1, 1, 0, z.p, xy);
+    let end = line_groups::words(bytes, b"yy\t", 0, 1, 0, 1, yy);
+    reading_at(
         end,
         Starts {
             counts: z,

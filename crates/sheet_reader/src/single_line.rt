@@ -8,12 +8,12 @@ use crate::word_field;
 use sheet::Line;
 
 // A tag, a number and a word.
-pub fn single_line(t: &[u8], s: &[u8], at: usize) -> Line
-    ensures { λ r. ⌜ r ≡ singleLine (now (t .entry)) (now (s .entry)) at ⌝ }
+pub fn single_line(t: &[u8], bytes: &[u8], at: usize) -> Line
+    ensures { λ r. ⌜ r ≡ singleLine (now (t .entry)) (now (bytes .entry)) at ⌝ }
 {
-    let o = tag_field::tag(s, at, t);
-    let i = field::number(s, o.next, TAB);
-    let w = word_field::word(s, i.next);
+    let o = tag_field::tag(bytes, at, t);
+    let i = field::number(bytes, o.next, TAB);
+    let w = word_field::word(bytes, i.next);
     Line {
         first: i.value,
         second: 0,

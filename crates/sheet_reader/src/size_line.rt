@@ -9,15 +9,15 @@ use sheet::Counts;
 use sheet::Size;
 
 // `size` and five numbers.
-pub fn size_line(s: &[u8], at: usize) -> Size
-    ensures { λ r. ⌜ r ≡ sizeLine (now (s .entry)) at ⌝ }
+pub fn size_line(bytes: &[u8], at: usize) -> Size
+    ensures { λ r. ⌜ r ≡ sizeLine (now (bytes .entry)) at ⌝ }
 {
-    let t = tag_field::tag(s, at, b"size\t");
-    let n = field::number(s, t.next, TAB);
-    let p = field::number(s, n.next, TAB);
-    let q = field::number(s, p.next, TAB);
-    let k = field::number(s, q.next, TAB);
-    let f = field::number(s, k.next, LF);
+    let t = tag_field::tag(bytes, at, b"size\t");
+    let n = field::number(bytes, t.next, TAB);
+    let p = field::number(bytes, n.next, TAB);
+    let q = field::number(bytes, p.next, TAB);
+    let k = field::number(bytes, q.next, TAB);
+    let f = field::number(bytes, k.next, LF);
     Size {
         counts: Counts {
             n: n.value,

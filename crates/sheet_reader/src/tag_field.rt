@@ -6,16 +6,16 @@ use crate::field::UNFOUND;
 use sheet::Field;
 
 // The bytes `t` at a position, and the position past them.
-pub fn tag(s: &[u8], at: usize, t: &[u8]) -> Field
-    ensures { λ r. ⌜ r ≡ tagTo (now (t .entry)) (now (s .entry)) at ⌝ }
+pub fn tag(bytes: &[u8], at: usize, t: &[u8]) -> Field
+    ensures { λ r. ⌜ r ≡ tagTo (now (t .entry)) (now (bytes .entry)) at ⌝ }
 {
     let mut i = at;
     let mut k: usize = 0;
     while k < t.len() {
-        if s.len() <= i {
+        if bytes.len() <= i {
             return UNFOUND;
         }
-        if s[i] != t[k] {
+        if bytes[i] != t[k] {
             return UNFOUND;
         }
         i += 1;

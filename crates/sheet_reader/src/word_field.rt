@@ -9,11 +9,11 @@ use crate::field::UNFOUND;
 use sheet::Field;
 
 // The LF after a value.
-fn ended(s: &[u8], at: usize, v: u64) -> Field
-    ensures { λ r. ⌜ r ≡ endAt lf v at (drop at (now (s .entry))) ⌝ }
+fn ended(bytes: &[u8], at: usize, v: u64) -> Field
+    ensures { λ r. ⌜ r ≡ endAt lf v at (drop at (now (bytes .entry))) ⌝ }
 {
-    if at < s.len() {
-        if s[at] == LF {
+    if at < bytes.len() {
+        if bytes[at] == LF {
             return Field {
                 value: v,
                 next: at + 1,
@@ -285,13 +285,13 @@ const DIGITS: [u8; 256] = [
 
 // A word of 16 lower-case hexadecimal digits, and LF. Which digit comes cannot be guessed, so no branch looks at one: the sum of the entries says
 // behind the last whether all were digits. The table is named once, since each naming copies it.
-pub fn word(s: &[u8], at: usize) -> Field
-    ensures { λ r. ⌜ r ≡ wordTo (now (s .entry)) at ⌝ }
+pub fn word(bytes: &[u8], at: usize) -> Field
+    ensures { λ r. ⌜ r ≡ wordTo (now (bytes .entry)) at ⌝ }
 {
-    if s.len() < 17 {
+    if bytes.len() < 17 {
         return UNFOUND;
     }
-    if s.len() - 17 < at {
+    if bytes.len() - 17 < at {
         return UNFOUND;
     }
     let digits = DIGITS;
@@ -299,7 +299,7 @@ pub fn word(s: &[u8], at: usize) -> Field
     let mut sum: u64 = 0;
     let mut k: usize = 0;
     while k < 16 {
-        let d = digits[s[at + k] as usize] as u64;
+        let d = digits[bytes[at + k] as usize] as u64;
         v = std::num::wrapping_add_u64(v % 1152921504606846976 * 16, d);
         sum += d;
         k += 1;
@@ -307,5 +307,5 @@ pub fn word(s: &[u8], at: usize) -> Field
     if 255 <= sum {
         return UNFOUND;
     }
-    ended(s, at + 16, v)
+    ended(bytes, at + 16, v)
 }

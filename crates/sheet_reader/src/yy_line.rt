@@ -6,11 +6,11 @@ use crate::word_field;
 use sheet::Line;
 
 // A tag and a word.
-pub fn bare_line(t: &[u8], s: &[u8], at: usize) -> Line
-    ensures { λ r. ⌜ r ≡ bareLine (now (t .entry)) (now (s .entry)) at ⌝ }
+pub fn bare_line(t: &[u8], bytes: &[u8], at: usize) -> Line
+    ensures { λ r. ⌜ r ≡ bareLine (now (t .entry)) (now (bytes .entry)) at ⌝ }
 {
-    let o = tag_field::tag(s, at, t);
-    let w = word_field::word(s, o.next);
+    let o = tag_field::tag(bytes, at, t);
+    let w = word_field::word(bytes, o.next);
     Line {
         first: 0,
         second: 0,

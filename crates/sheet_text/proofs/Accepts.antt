@@ -18,7 +18,7 @@ use Rattle.sheet.specs.declared.Reading.the-variants.{Sheet as Read, Refused as
 use Rattle.sheet.specs.declared.Starts.{Starts}
 use Rattle.sheet.specs.Sheet.{Sheet, accepted, refused, sheetOf}
 use Rattle.sheet.specs.Sheet as Sheets
-use Rattle.sheet.specs.Fault.{Faulty, hasSlope, coversRows, anyFaulty, levelsOf, refusalOf}
+use Rattle.sheet.specs.Fault.{Faulty, hasSlope, coversRows, anyFaulty, levelsOf, faultNumber}
 use Rattle.sheet.specs.Answer.{Answers}
 use Rattle.sheet.specs.Whole.{Each}
 use Rattle.sheet.proofs.Faults.{faulty-line, none-faulty}
@@ -29,8 +29,8 @@ use Rattle.layout.specs.declared.Pair.the-variants.{Dense, Sparse, Refused as D
 use Rattle.layout.specs.Gate.{thin, pairOf}
 use Rattle.layout.specs.Shapes.{Target, target, levels, across, pairs}
 use Rattle.workspace.specs.Answers.{Outcome}
-use Rattle.workspace.specs.Loaded.{countOf, ofPair, oneEach, pairIn, denied, firstDenied, sortedLayout, layoutOfSheet}
-use Rattle.workspace.specs.Load.{roomy, afterGate, loadSheet, loadParsed, loadOf, Loads}
+use Rattle.workspace.specs.Loaded.{countOf, ofPair, oneEach, pairIn, orRefused, firstRefusedPair, sortedLayout, layoutOfSheet}
+use Rattle.workspace.specs.Load.{hasRoom, afterGate, loadSheet, loadParsed, loadOf, Loads}
 use Rattle.sheet_text.specs.Listed.{
   Listed,
   too-long,
@@ -45,7 +45,7 @@ use Rattle.sheet_text.specs.Listed.{
   too-short,
 }
 use Rattle.sheet.proofs.Whole.{not-accepted}
-use Rattle.workspace.proofs.Lawful.{allowed-pairs}
+use Rattle.workspace.proofs.Valid.{allowed-pairs}
 use Rattle.sheet_text.proofs.Long.{one-long}
 
 -- ---- the pairs of k blocks: (i, j) with j < i < k
@@ -81,14 +81,14 @@ module _ (sheet : Sheet) (y : Layout) where
       go false false false e = inr (let z : 11 ≡ n = cc in sym z)
 
   -- the refusal found is that of one of the pairs
-  found : (k : ℕ) (l : List Target) → Each (Below k) l → (r : Refusal) → firstDenied sheet y l ≡ some r
+  found : (k : ℕ) (l : List Target) → Each (Below k) l → (r : Refusal) → firstRefusedPair sheet y l ≡ some r
       → (i : ℕ) × (j : ℕ) × (i < k) × (j < i) × (pairIn sheet y i j ≡ Denied (r .number))
-  unfolding firstDenied
+  unfolding firstRefusedPair
   found k [] a r e = absurd (let z : _≡_ {A = ℕ} 0 1 = cc in omega arith)
   found k (t ∷ l) a r e = go (found k l a.1 r) (pairIn sheet y t.row t.col) refl e
     where
-      go : (firstDenied sheet y l ≡ some r → (i : ℕ) × (j : ℕ) × (i < k) × (j < i) × (pairIn sheet y i j ≡ Denied (r .number)))
-          → (p : Pair) → pairIn sheet y (t .row) (t .col) ≡ p → denied p t (firstDenied sheet y l) ≡ some r
+      go : (firstRefusedPair sheet y l ≡ some r → (i : ℕ) × (j : ℕ) × (i < k) × (j < i) × (pairIn sheet y i j ≡ Denied (r .number)))
+          → (p : Pair) → pairIn sheet y (t .row) (t .col) ≡ p → orRefused p t (firstRefusedPair sheet y l) ≡ some r
           → (i : ℕ) × (j : ℕ) × (i < k) × (j < i) × (pairIn sheet y i j ≡ Denied (r .number))
       go f Dense q e = f e
       go f Sparse q e = f e
@@ -98,14 +98,14 @@ module _ (sheet : Sheet) (y : Layout) where
   abbrev Allowed : ℕ → ℕ → Type 0
   Allowed i j = (n : ℕ) → pairIn sheet y i j ≡ Denied n → ⊥
 
-  alone-allowed : (i j : ℕ) → firstDenied sheet y (target i j ∷ []) ≡ none → Allowed i j
-  unfolding firstDenied
+  alone-allowed : (i j : ℕ) → firstRefusedPair sheet y (target i j ∷ []) ≡ none → Allowed i j
+  unfolding firstRefusedPair
   alone-allowed i j e n q =
-      let z : some (refusal n i j) ≡ none = sym (ap (λ (p : Pair). denied p (target i j) none) q) ∙ e in
+      let z : some (refusal n i j) ≡ none = sym (ap (λ (p : Pair). orRefused p (target i j) none) q) ∙ e in
       let o : _≡_ {A = ℕ} 0 1 = cc in
       omega arith
 
-  pairs-allowed : (k : ℕ) → firstDenied sheet y (pairs k) ≡ none → (i j : ℕ) → i < k → j < i → Allowed i j
+  pairs-allowed : (k : ℕ) → firstRefusedPair sheet y (pairs k) ≡ none → (i j : ℕ) → i < k → j < i → Allowed i j
   pairs-allowed k e i j h g = alone-allowed i j (allowed-pairs sheet y k e i j h g)
 
 -- ---- 5 to 9 by their tests, in the order in which load looks
@@ -119,8 +119,8 @@ record None (sheet : Sheet) : Type 0 where
   slope : hasSlope sheet ≡ false
   covers : coversRows sheet ≡ true
 
-none-of : (sheet : Sheet) → refusalOf sheet ≡ 0 → None sheet
-unfolding refusalOf
+none-of : (sheet : Sheet) → faultNumber sheet ≡ 0 → None sheet
+unfolding faultNumber
 none-of sheet e = go (eqb sheet.counts.flag 0) (eqb sheet.counts.k 0) (hasSlope sheet) (coversRows sheet) (anyFaulty sheet) refl refl refl refl e
   where
     go : (a b c d f : Bool) → eqb (sheet .counts .flag) 0 ≡ a → eqb (sheet .counts .k) 0 ≡ b → hasSlope sheet ≡ c → coversRows sheet ≡ d → chain a b c d f ≡ 0 → None sheet
@@ -138,9 +138,9 @@ module _ (s h : List ℕ) (w : List Float) where
   -- the bytes hold a sheet that no test of load refuses
   record Fine (sheet : Sheet) (starts : Starts) : Type 0 where
     read : sheetOf s ≡ accepted sheet starts
-    whole : refusalOf sheet ≡ 0
-    gate : firstDenied sheet (layoutOfSheet sheet) (pairs (layoutOfSheet sheet .k)) ≡ none
-    room : roomy (layoutOfSheet sheet) h w ≡ true
+    whole : faultNumber sheet ≡ 0
+    gate : firstRefusedPair sheet (layoutOfSheet sheet) (pairs (layoutOfSheet sheet .k)) ≡ none
+    room : hasRoom (layoutOfSheet sheet) h w ≡ true
 
   -- ---- an answer: accepted, and all is fine; or refused with a number that is listed
   abbrev Says : Answer → Type 0
@@ -156,8 +156,8 @@ module _ (s h : List ℕ) (w : List Float) where
 
   module _ (sheet : Sheet) (starts : Starts) (read : sheetOf s ≡ accepted sheet starts) where
     -- 5 to 9
-    sheet-listed : (number : ℕ) → 0 < number → refusalOf sheet ≡ number → Listed s h w number
-    unfolding refusalOf
+    sheet-listed : (number : ℕ) → 0 < number → faultNumber sheet ≡ number → Listed s h w number
+    unfolding faultNumber
     sheet-listed number positive e =
         go (eqb sheet.counts.flag 0) (eqb sheet.counts.k 0) (hasSlope sheet) (coversRows sheet) (anyFaulty sheet) refl refl refl refl refl e
       where
@@ -171,7 +171,7 @@ module _ (s h : List ℕ) (w : List Float) where
         go false false false true false pa pb pc pd pf e = absurd (omega arith)
 
     -- 10 and 11
-    pair-listed : (r : Refusal) → firstDenied sheet (layoutOfSheet sheet) (pairs (layoutOfSheet sheet .k)) ≡ some r → Listed s h w (r .number)
+    pair-listed : (r : Refusal) → firstRefusedPair sheet (layoutOfSheet sheet) (pairs (layoutOfSheet sheet .k)) ≡ some r → Listed s h w (r .number)
     unfolding layoutOfSheet sortedLayout
     pair-listed r e =
         let f = found sheet (layoutOfSheet sheet) sheet.counts.k (pairs sheet.counts.k) (pairs-below sheet.counts.k sheet.counts.k (omega arith)) r e in
@@ -183,11 +183,11 @@ module _ (s h : List ℕ) (w : List Float) where
         go i j a b q (inr n) = subst (Listed s h w) (sym n) (cross-gate sheet starts read i j a b (q ∙ ap Denied n))
 
     -- a sheet that 1 to 9 do not refuse: 10 to 12, or all is fine
-    sheet-says : refusalOf sheet ≡ 0 → Says (loadSheet sheet h w .answer)
+    sheet-says : faultNumber sheet ≡ 0 → Says (loadSheet sheet h w .answer)
     unfolding loadSheet
-    sheet-says whole = let y : Layout = layoutOfSheet sheet in go (firstDenied sheet y (pairs y.k)) refl (roomy y h w) refl
+    sheet-says whole = let y : Layout = layoutOfSheet sheet in go (firstRefusedPair sheet y (pairs y.k)) refl (hasRoom y h w) refl
       where
-        go : (g : Option Refusal) → firstDenied sheet (layoutOfSheet sheet) (pairs (layoutOfSheet sheet .k)) ≡ g → (b : Bool) → roomy (layoutOfSheet sheet) h w ≡ b
+        go : (g : Option Refusal) → firstRefusedPair sheet (layoutOfSheet sheet) (pairs (layoutOfSheet sheet .k)) ≡ g → (b : Bool) → hasRoom (layoutOfSheet sheet) h w ≡ b
             → Says (afterGate g sheet (layoutOfSheet sheet) h w .answer)
         go (some r) e b q = inr (r, refl, pair-listed r e)
         go none e true q = inl (rw q refl, sheet, starts, record { read = read; whole = whole; gate = e; room = q })
@@ -229,7 +229,7 @@ module _ (s h : List ℕ) (w : List Float) where
     none-listed n (multiblock-fill other more e i j a b g) = pair-free other (this other more e) 10 i j a b g
     none-listed n (cross-gate other more e i j a b g) = pair-free other (this other more e) 11 i j a b g
     none-listed n (too-short other more e g) =
-        true≢false (sym f.room ∙ subst (λ (x : Sheet). roomy (layoutOfSheet x) h w ≡ false) (this other more e) g)
+        true≢false (sym f.room ∙ subst (λ (x : Sheet). hasRoom (layoutOfSheet x) h w ≡ false) (this other more e) g)
 
   -- THE CLAIM, both ways: accepted is what no row of the table refuses.
   pub accepted-iff : (o : Outcome) → Loads s h w o

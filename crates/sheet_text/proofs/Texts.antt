@@ -22,7 +22,7 @@ use Rattle.sheet_text.proofs.written.OnlySheet.{read-written}
 use Rattle.layout.specs.declared.Pair.the-variants.{Refused as Denied}
 use Rattle.workspace.specs.Answers.{Outcome}
 use Rattle.workspace.specs.Loaded.{pairIn, layoutOfSheet}
-use Rattle.workspace.specs.Load.{roomy, Loads}
+use Rattle.workspace.specs.Load.{hasRoom, Loads}
 use Rattle.sheet_text.specs.Acceptable.{Acceptable}
 use Rattle.sheet_text.specs.Listed.{
   Listed,
@@ -113,7 +113,7 @@ module _ (s h : List ℕ) (w : List Float) where
     unlisted n (faulty other more e line g) = let f = subst (λ (x : Sheet). Faulty x line) (sym (this e)) g in a.sound f.0 f.1 f.3
     unlisted n (multiblock-fill other more e i j x y g) = refused-pair other (this e) i j 10 x y g
     unlisted n (cross-gate other more e i j x y g) = refused-pair other (this e) i j 11 x y g
-    unlisted n (too-short other more e g) = true≢false (sym a.room ∙ subst (λ (x : Sheet). roomy (layoutOfSheet x) h w ≡ false) (sym (this e)) g)
+    unlisted n (too-short other more e g) = true≢false (sym a.room ∙ subst (λ (x : Sheet). hasRoom (layoutOfSheet x) h w ≡ false) (sym (this e)) g)
 
   -- THE CLAIM, both ways
   pub accepted-exactly : (o : Outcome) → Loads s h w o

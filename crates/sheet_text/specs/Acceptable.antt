@@ -13,7 +13,7 @@ use Rattle.sheet.specs.Whole.{Each}
 use Rattle.sheet_text.specs.written.Written.{textOf, InForm}
 use Rattle.layout.specs.declared.Pair.the-variants.{Refused}
 use Rattle.workspace.specs.Loaded.{pairIn, layoutOfSheet}
-use Rattle.workspace.specs.Load.{roomy}
+use Rattle.workspace.specs.Load.{hasRoom}
 
 pub record Acceptable (s h : List ℕ) (w : List Float) (sheet : Sheet) : Type 0 where
   -- 1, "sheet too long"
@@ -34,4 +34,4 @@ pub record Acceptable (s h : List ℕ) (w : List Float) (sheet : Sheet) : Type 0
   -- 10 and 11, a pair that the gate refuses
   pub gate : (i j n : ℕ) → i < sheet .counts .k → j < i → pairIn sheet (layoutOfSheet sheet) i j ≡ Refused n → ⊥
   -- 12, "workspace too short"
-  pub room : roomy (layoutOfSheet sheet) h w ≡ true
+  pub room : hasRoom (layoutOfSheet sheet) h w ≡ true

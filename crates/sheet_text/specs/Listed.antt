@@ -12,7 +12,7 @@ use Rattle.sheet.specs.Sheet.{Sheet, accepted, refused, sheetOf}
 use Rattle.sheet.specs.Fault.{levelsOf, hasSlope, Faulty}
 use Rattle.layout.specs.declared.Pair.the-variants.{Refused}
 use Rattle.workspace.specs.Loaded.{pairIn, layoutOfSheet}
-use Rattle.workspace.specs.Load.{roomy}
+use Rattle.workspace.specs.Load.{hasRoom}
 
 pub data Listed (s : List ℕ) (h : List ℕ) (w : List Float) : ℕ → Type 0 where
   -- 1, "sheet too long"
@@ -36,4 +36,4 @@ pub data Listed (s : List ℕ) (h : List ℕ) (w : List Float) : ℕ → Type 0 
   cross-gate : (sheet : Sheet) (starts : Starts) → sheetOf s ≡ accepted sheet starts → (i j : ℕ) → i < sheet .counts .k → j < i
       → pairIn sheet (layoutOfSheet sheet) i j ≡ Refused 11 → Listed s h w 11
   -- 12, "workspace too short"
-  too-short : (sheet : Sheet) (starts : Starts) → sheetOf s ≡ accepted sheet starts → roomy (layoutOfSheet sheet) h w ≡ false → Listed s h w 12
+  too-short : (sheet : Sheet) (starts : Starts) → sheetOf s ≡ accepted sheet starts → hasRoom (layoutOfSheet sheet) h w ≡ false → Listed s h w 12

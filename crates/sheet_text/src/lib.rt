@@ -1,2 +1,3 @@
-// Which sheets `load` accepts (document 01, Record 3): the table of refusals and, without a reader, the acceptable sheets in specs/; the theorems about them in proofs/.
+// Which bytes `load` accepts, said without a reader (document 01, Records 1 and 3): a sheet as text and the acceptable sheets in specs/, the theorem
+// that load accepts exactly those in proofs/.
 mod written;

@@ -21,14 +21,14 @@ use Rattle.re_lower.proofs.Blocks.{accepted-none, refused-some, store-whole}
 use Rattle.block_runs.specs.axpy.Axpy.{run}
 use Rattle.re_factor.proofs.Pivotal.{Doubles}
 use Rattle.layout.specs.declared.Layout.{Layout}
-use Rattle.heading_format.specs.Heading.{layoutOf, lawful}
+use Rattle.heading_format.specs.Heading.{layoutOf, validLayout}
 use Rattle.refusal.specs.Numbers.{refusal}
 use Rattle.profile.specs.declared.Solution.{Solution}
 use Rattle.profile.specs.declared.Solve.{Solve}
 use Rattle.profile.specs.declared.Solve.the-variants.{Solved as Done, Refused}
 use Rattle.profile.specs.Finish.{crossProduct, vOf, wOf, beta, fixedRhs, sigma2, solutionOf, resultList, refusedRow}
 use Rattle.solution_finish.specs.l_x.Factor.{FixedFactored}
-use Rattle.solution_vectors.specs.result_places.Places.{factorAt, wholeLength, Products}
+use Rattle.solution_vectors.specs.result_places.Places.{lxAt, resultLengthOf, Products}
 use Rattle.solution_vectors.proofs.result_places.Bounds.{few-effects}
 use Rattle.solution_finish.specs.result_laws.Ready.{Ready}
 use Rattle.solution_finish.proofs.result_laws.Factor.{factor-room, triangle-doubles, same-row, is-ready}
@@ -67,14 +67,14 @@ module _ (h : List ℕ) (w : List Float) (y : Layout) (e : y ≡ layoutOf h) whe
   solution-is reml rest r s is-rest v f q =
       q ∙ ap (scalarsWith h w reml) (ap₂ ieee.minus is-rest f.answer ∙ ap residualBy e)
 
-  module _ (v₁ : List Float) (long : length v₁ ≡ wholeLength y) (rest : Float) (c : Products h w y v₁ rest) (f : ℕ) (is-f : f ≡ factorAt y) where
-    pub chol-ready : lawful y ≡ true → (y .p ≤ 316) × (f + sizeOf (packed (y .p)) ≤ length v₁) × Doubles f (y .p) (packed (y .p)) v₁
+  module _ (v₁ : List Float) (long : length v₁ ≡ resultLengthOf y) (rest : Float) (c : Products h w y v₁ rest) (f : ℕ) (is-f : f ≡ lxAt y) where
+    pub chol-ready : validLayout y ≡ true → (y .p ≤ 316) × (f + sizeOf (packed (y .p)) ≤ length v₁) × Doubles f (y .p) (packed (y .p)) v₁
     chol-ready ok =
         let k = few-effects y ok in
         (omega arith, rw is-f (factor-room h w y e v₁ long), rw is-f (triangle-doubles h w y e v₁ long c.triangle))
 
     module _ (v₂ : List Float) (p : Pivots) (d : FixedFactored f (y .p) v₁ v₂ p) where
-      d′ : FixedFactored (factorAt y) (y .p) v₁ v₂ p
+      d′ : FixedFactored (lxAt y) (y .p) v₁ v₂ p
       d′ = subst (λ (k : ℕ). FixedFactored k y.p v₁ v₂ p) is-f d
 
       pub accept-ready : p ≡ Accepted → Ready h w y v₂

@@ -5,7 +5,7 @@ ghost use lib.ListN.{length};
 ghost use Rattle.heading_format.specs.Heading.{layoutOf};
 ghost use Rattle.heading_format.specs.Fits.{Fits};
 ghost use Rattle.solution_vectors.specs.Vectors.{withBlockAt, withVector};
-ghost use Rattle.solution_vectors.specs.result_places.Places.{effectsAt, wholeLength};
+ghost use Rattle.solution_vectors.specs.result_places.Places.{bAt, resultLengthOf};
 ghost use Rattle.solution_finish.specs.b_vector.Effects.{effectBlock, effectBlocks};
 use block_places::block_kinds;
 use block_places::sheet_rows;
@@ -14,25 +14,25 @@ use layout::Layout;
 use triangular_solves::scaled_row;
 
 // The rows of sorted block j.
-fn scale_block(y: Layout, h: &[u32], w: &[f64], v: &mut [f64], j: u64)
-    requires { ⌜ (y ≡ layoutOf (now h)) × Fits (now h) (length (now w)) × (j < y .k) × (length (now v) ≡ wholeLength y) ⌝ }
-    ensures { λ _. ⌜ now (v .exit) ≡ withBlockAt y (effectsAt y) j (effectBlock (now (h .entry)) (now (w .entry)) y (now (v .entry)) j) (now (v .entry)) ⌝ }
+fn scale_block(layout: Layout, heading: &[u32], doubles: &[f64], v: &mut [f64], j: u64)
+    requires { ⌜ (layout ≡ layoutOf (now heading)) × Fits (now heading) (length (now doubles)) × (j < layout .k) × (length (now v) ≡ resultLengthOf layout) ⌝ }
+    ensures { λ _. ⌜ now (v .exit) ≡ withBlockAt layout (bAt layout) j (effectBlock (now (heading .entry)) (now (doubles .entry)) layout (now (v .entry)) j) (now (v .entry)) ⌝ }
 {
-    let theta = scaled_row::theta_of(y, h, w, j);
-    let to = y.p as usize + sheet_rows::first_row(y, j as usize) as usize;
-    let from = to + y.q as usize;
-    let n = block_kinds::rows_of(y, j);
+    let theta = scaled_row::theta_of(layout, heading, doubles, j);
+    let to = layout.p as usize + sheet_rows::first_row(layout, j as usize) as usize;
+    let from = to + layout.q as usize;
+    let n = block_kinds::rows_of(layout, j);
     scaling::scale_once(v, to, from, n, theta);
 }
 
 // b, all its rows, from u.
-pub fn scale_offsets(y: Layout, h: &[u32], w: &[f64], v: &mut [f64])
-    requires { ⌜ (y ≡ layoutOf (now h)) × Fits (now h) (length (now w)) × (length (now v) ≡ wholeLength y) ⌝ }
-    ensures { λ _. ⌜ now (v .exit) ≡ withVector y (effectsAt y) (effectBlocks (now (h .entry)) (now (w .entry)) y (now (v .entry))) (now (v .entry)) ⌝ }
+pub fn write_b(layout: Layout, heading: &[u32], doubles: &[f64], v: &mut [f64])
+    requires { ⌜ (layout ≡ layoutOf (now heading)) × Fits (now heading) (length (now doubles)) × (length (now v) ≡ resultLengthOf layout) ⌝ }
+    ensures { λ _. ⌜ now (v .exit) ≡ withVector layout (bAt layout) (effectBlocks (now (heading .entry)) (now (doubles .entry)) layout (now (v .entry))) (now (v .entry)) ⌝ }
 {
     let mut j: u64 = 0;
-    while j < y.k {
-        scale_block(y, h, w, v, j);
+    while j < layout.k {
+        scale_block(layout, heading, doubles, v, j);
         j += 1;
     }
 }

@@ -9,7 +9,7 @@ use re_factor::block_solve;
 
 // beta in the place of its right side, the first p doubles of v, by the packed factor at off: forward, then back substitution. The answer is beta times
 // its right side.
-pub fn solve_effects(v: &mut [f64], off: usize, p: usize) -> f64
+pub fn solve_beta(v: &mut [f64], off: usize, p: usize) -> f64
     requires { ⌜ (p ≤ 32) × (p ≤ length (now v)) × (off + sizeOf (packed p) ≤ length (now v)) ⌝ }
     ensures { λ r. ⌜ Effects off p (now (v .entry)) (now (v .exit)) r ⌝ }
 {

@@ -6,7 +6,7 @@ ghost use lib.Ieee.{binary64, fits};
 ghost use lib.ListN.{length};
 ghost use Rattle.storage.specs.Shape.{packed, sizeOf};
 ghost use Rattle.re_factor.specs.Factor.{pivotAt};
-ghost use Rattle.solution_finish.specs.l_x.Factor.{notAbove, standing, orRow, FixedFactored};
+ghost use Rattle.solution_finish.specs.l_x.Factor.{notAbove, firstNotAbove, orRow, FixedFactored};
 use re_lower::Pivots;
 
 fn not_above(x: f64) -> bool
@@ -21,7 +21,7 @@ fn not_above(x: f64) -> bool
 // The first of the n pivots of the packed factor at off that is not above 0.
 fn first_not_above(v: &[f64], off: usize, n: usize) -> Pivots
     requires { ⌜ off + sizeOf (packed n) ≤ length (now v) ⌝ }
-    ensures { λ p. ⌜ p ≡ standing off n (now (v .entry)) ⌝ }
+    ensures { λ p. ⌜ p ≡ firstNotAbove off n (now (v .entry)) ⌝ }
 {
     let mut r = 0;
     let mut at = off;

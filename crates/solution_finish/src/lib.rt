@@ -20,7 +20,7 @@ ghost use Rattle.heading_format.specs.Fits.{Fits};
 ghost use Rattle.refusal.specs.Numbers.{refusal};
 ghost use Rattle.profile.specs.declared.Solve.the-variants.{Refused};
 ghost use Rattle.profile.specs.Finish.{crossProduct, vOf, wOf, solutionOf, resultList};
-ghost use Rattle.solution_vectors.specs.result_places.Places.{wholeLength, Solved};
+ghost use Rattle.solution_vectors.specs.result_places.Places.{resultLengthOf, Solved};
 ghost use Rattle.solution_finish.specs.result_laws.Ready.{Ready};
 ghost use Rattle.solution_finish.specs.Outcome.{finishOf};
 use block_runs::run_copies;
@@ -45,25 +45,38 @@ fn refuse(v: &mut [f64], r: usize) -> Solve
 }
 
 // The factor is there: the other parts, and the scalars. `rest` is y'y less v of y times w of y.
-fn accept(y: Layout, h: &[u32], w: &[f64], reml: bool, v: &mut [f64], rest: f64) -> Solution
-    requires { ⌜ (y ≡ layoutOf (now h)) × Fits (now h) (length (now w)) × Ready (now h) (now w) y (now v) ⌝ }
-    requires { ⌜ rest ≡ ieee .minus (crossProduct (now h) (now w) (y .p) (y .p)) (dot ieee (at ieee (vOf (now h) (now w) (y .p))) (at ieee (wOf (now h) (now w) (y .p))) (y .q)) ⌝ }
-    ensures { λ s. ⌜ (s ≡ solutionOf (now (h .entry)) (now (w .entry)) reml) × (now (v .exit) ≡ resultList (now (h .entry)) (now (w .entry))) ⌝ }
+fn accept(
+    layout: Layout,
+    heading: &[u32],
+    doubles: &[f64],
+    reml: bool,
+    v: &mut [f64],
+    rest: f64,
+) -> Solution
+    requires { ⌜ (layout ≡ layoutOf (now heading)) × Fits (now heading) (length (now doubles)) × Ready (now heading) (now doubles) layout (now v) ⌝ }
+    requires { ⌜ rest ≡ ieee .minus (crossProduct (now heading) (now doubles) (layout .p) (layout .p)) (dot ieee (at ieee (vOf (now heading) (now doubles) (layout .p))) (at ieee (wOf (now heading) (now doubles) (layout .p))) (layout .q)) ⌝ }
+    ensures { λ s. ⌜ (s ≡ solutionOf (now (heading .entry)) (now (doubles .entry)) reml) × (now (v .exit) ≡ resultList (now (heading .entry)) (now (doubles .entry))) ⌝ }
 {
-    let r = result_parts::make_parts(y, h, w, v);
-    result_parts::scalars(y, h, w, v, reml, rest - r)
+    let r = result_parts::make_parts(layout, heading, doubles, v);
+    result_parts::scalars(layout, heading, doubles, v, reml, rest - r)
 }
 
 // From w of every row, in their places, to the result list.
-pub fn solve_profile_finish(y: Layout, h: &[u32], w: &[f64], reml: bool, v: &mut [f64]) -> Solve
-    requires { ⌜ (y ≡ layoutOf (now h)) × Fits (now h) (length (now w)) × (length (now v) ≡ wholeLength y) ⌝ }
-    requires { ⌜ Solved (now h) (now w) y (y .p + 1) (now v) ⌝ }
-    ensures { λ s. ⌜ (s ≡ finishOf (now (h .entry)) (now (w .entry)) reml (wholeLength y) .answer) × (now (v .exit) ≡ finishOf (now (h .entry)) (now (w .entry)) reml (wholeLength y) .result) ⌝ }
+pub fn solve_profile_finish(
+    layout: Layout,
+    heading: &[u32],
+    doubles: &[f64],
+    reml: bool,
+    v: &mut [f64],
+) -> Solve
+    requires { ⌜ (layout ≡ layoutOf (now heading)) × Fits (now heading) (length (now doubles)) × (length (now v) ≡ resultLengthOf layout) ⌝ }
+    requires { ⌜ Solved (now heading) (now doubles) layout (layout .p + 1) (now v) ⌝ }
+    ensures { λ s. ⌜ (s ≡ finishOf (now (heading .entry)) (now (doubles .entry)) reml (resultLengthOf layout) .answer) × (now (v .exit) ≡ finishOf (now (heading .entry)) (now (doubles .entry)) reml (resultLengthOf layout) .result) ⌝ }
 {
-    let rest = xtx_minus_vtw::less_products(y, h, w, v);
-    let factor = result_places::factor_at(y);
-    match l_x::chol_fixed(v, factor, y.p as usize) {
-        Pivots::Accepted => Solve::Solved(accept(y, h, w, reml, v, rest)),
+    let rest = xtx_minus_vtw::subtract_products(layout, heading, doubles, v);
+    let factor = result_places::l_x_at(layout);
+    match l_x::chol_fixed(v, factor, layout.p as usize) {
+        Pivots::Accepted => Solve::Solved(accept(layout, heading, doubles, reml, v, rest)),
         Pivots::Refused(r) => refuse(v, r),
     }
 }

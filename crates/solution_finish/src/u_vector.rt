@@ -22,7 +22,7 @@ fn row_sum(v: &[f64], from: usize, q: usize, p: usize) -> f64
 }
 
 // u, row by row.
-pub fn less_columns(v: &mut [f64], u: usize, wy: usize, first: usize, q: usize, p: usize)
+pub fn write_u(v: &mut [f64], u: usize, wy: usize, first: usize, q: usize, p: usize)
     requires { ⌜ (p ≤ u) × (u + q ≤ wy) × (wy + q ≤ first) × (first + p * q ≤ length (now v)) ⌝ }
     ensures { λ _. ⌜ now (v .exit) ≡ offsetsLeft u wy first q p (now (v .entry)) ⌝ }
 {

@@ -5,7 +5,7 @@ ghost use Prim.Native.Nat.{_+_, _<_};
 ghost use lib.ListN.{length};
 ghost use Rattle.heading_format.specs.Heading.{layoutOf};
 ghost use Rattle.heading_format.specs.Fits.{Fits};
-ghost use Rattle.solution_vectors.specs.result_places.Places.{wholeLength, Solved, Products};
+ghost use Rattle.solution_vectors.specs.result_places.Places.{resultLengthOf, Solved, Products};
 ghost use Rattle.solution_finish.specs.fixed_rows.Fixing.{Fixing};
 use crate::fixed_rows;
 use block_places::places;
@@ -17,52 +17,52 @@ use solution_vectors::result_places;
 use triangular_solves::scaled_row;
 
 // Row i: v of the row times w of the columns up to i, and times w of y.
-fn less_row(y: Layout, h: &[u32], w: &[f64], v: &mut [f64], i: usize)
-    requires { ⌜ (y ≡ layoutOf (now h)) × Fits (now h) (length (now w)) × (i < y .p) × Fixing (now h) (now w) y i (now v) ⌝ }
-    ensures { λ _. ⌜ Fixing (now (h .entry)) (now (w .entry)) y (i + 1) (now (v .exit)) ⌝ }
+fn subtract_row(layout: Layout, heading: &[u32], doubles: &[f64], v: &mut [f64], i: usize)
+    requires { ⌜ (layout ≡ layoutOf (now heading)) × Fits (now heading) (length (now doubles)) × (i < layout .p) × Fixing (now heading) (now doubles) layout i (now v) ⌝ }
+    ensures { λ _. ⌜ Fixing (now (heading .entry)) (now (doubles .entry)) layout (i + 1) (now (v .exit)) ⌝ }
 {
-    let p = y.p as usize;
-    let q = y.q as usize;
-    let row = result_places::factor_at(y) + triangle_cells::row_start(i);
-    let columns = result_places::solved_at(y, 0);
-    let response = result_places::solved_at(y, p);
-    scaled_row::scale_row(y, h, w, v, p, i);
-    own_products::less_own_t(v, row, i + 1, p, q, columns);
-    own_products::less_own_t(v, i, 1, response, q, p);
+    let p = layout.p as usize;
+    let q = layout.q as usize;
+    let row = result_places::l_x_at(layout) + triangle_cells::row_start(i);
+    let columns = result_places::w_at(layout, 0);
+    let response = result_places::w_at(layout, p);
+    scaled_row::scale_row(layout, heading, doubles, v, p, i);
+    own_products::matvec_t_sub_own(v, row, i + 1, p, q, columns);
+    own_products::matvec_t_sub_own(v, i, 1, response, q, p);
 }
 
 // Every row.
-fn less_rows(y: Layout, h: &[u32], w: &[f64], v: &mut [f64])
-    requires { ⌜ (y ≡ layoutOf (now h)) × Fits (now h) (length (now w)) × Fixing (now h) (now w) y 0 (now v) ⌝ }
-    ensures { λ _. ⌜ Fixing (now (h .entry)) (now (w .entry)) y (y .p) (now (v .exit)) ⌝ }
+fn subtract_rows(layout: Layout, heading: &[u32], doubles: &[f64], v: &mut [f64])
+    requires { ⌜ (layout ≡ layoutOf (now heading)) × Fits (now heading) (length (now doubles)) × Fixing (now heading) (now doubles) layout 0 (now v) ⌝ }
+    ensures { λ _. ⌜ Fixing (now (heading .entry)) (now (doubles .entry)) layout (layout .p) (now (v .exit)) ⌝ }
 {
-    let p = y.p as usize;
+    let p = layout.p as usize;
     let mut i: usize = 0;
     while i < p {
-        less_row(y, h, w, v, i);
+        subtract_row(layout, heading, doubles, v, i);
         i += 1;
     }
 }
 
 // y'y less v of y times w of y.
-fn less_response(y: Layout, h: &[u32], w: &[f64], v: &mut [f64]) -> f64
-    requires { ⌜ (y ≡ layoutOf (now h)) × Fits (now h) (length (now w)) × Fixing (now h) (now w) y (y .p) (now v) ⌝ }
-    ensures { λ r. ⌜ Products (now (h .entry)) (now (w .entry)) y (now (v .exit)) r ⌝ }
+fn subtract_response(layout: Layout, heading: &[u32], doubles: &[f64], v: &mut [f64]) -> f64
+    requires { ⌜ (layout ≡ layoutOf (now heading)) × Fits (now heading) (length (now doubles)) × Fixing (now heading) (now doubles) layout (layout .p) (now v) ⌝ }
+    ensures { λ r. ⌜ Products (now (heading .entry)) (now (doubles .entry)) layout (now (v .exit)) r ⌝ }
 {
-    let p = y.p as usize;
-    let response = result_places::solved_at(y, p);
-    let last = places::loaded_at(y, y.k, y.k) + triangle_cells::row_start(p) + p;
-    scaled_row::scale_row(y, h, w, v, p, p);
-    w[last] - column_sums::one(v, p, y.q as usize, v, response)
+    let p = layout.p as usize;
+    let response = result_places::w_at(layout, p);
+    let last = places::loaded_at(layout, layout.k, layout.k) + triangle_cells::row_start(p) + p;
+    scaled_row::scale_row(layout, heading, doubles, v, p, p);
+    doubles[last] - column_sums::one(v, p, layout.q as usize, v, response)
 }
 
 // The loaded triangle: X'X into the place of L_X, X'y into the place of beta. Each row less v of the row times w of the columns and of y.
-pub fn less_products(y: Layout, h: &[u32], w: &[f64], v: &mut [f64]) -> f64
-    requires { ⌜ (y ≡ layoutOf (now h)) × Fits (now h) (length (now w)) × (length (now v) ≡ wholeLength y) ⌝ }
-    requires { ⌜ Solved (now h) (now w) y (y .p + 1) (now v) ⌝ }
-    ensures { λ r. ⌜ Products (now (h .entry)) (now (w .entry)) y (now (v .exit)) r ⌝ }
+pub fn subtract_products(layout: Layout, heading: &[u32], doubles: &[f64], v: &mut [f64]) -> f64
+    requires { ⌜ (layout ≡ layoutOf (now heading)) × Fits (now heading) (length (now doubles)) × (length (now v) ≡ resultLengthOf layout) ⌝ }
+    requires { ⌜ Solved (now heading) (now doubles) layout (layout .p + 1) (now v) ⌝ }
+    ensures { λ r. ⌜ Products (now (heading .entry)) (now (doubles .entry)) layout (now (v .exit)) r ⌝ }
 {
-    fixed_rows::load_rows(y, h, w, v);
-    less_rows(y, h, w, v);
-    less_response(y, h, w, v)
+    fixed_rows::load_xtx(layout, heading, doubles, v);
+    subtract_rows(layout, heading, doubles, v);
+    subtract_response(layout, heading, doubles, v)
 }

@@ -17,8 +17,8 @@ use Rattle.layout.specs.declared.Layout.{Layout}
 use Rattle.layout.specs.Blocks.{sorted, sum}
 use Rattle.layout.specs.Shapes.{levels}
 use Rattle.layout.proofs.Sums.{sum-same, sum-more, sum-le, sum-over, sum-small, over-sorted}
-use Rattle.heading_format.specs.Heading.{sheetLevels, lawful}
-use Rattle.heading_format.proofs.Lawful.{is-lawful}
+use Rattle.heading_format.specs.Heading.{sheetLevels, validLayout}
+use Rattle.heading_format.proofs.Valid.{is-valid}
 use Rattle.heading_format.proofs.Sorted.{length-sorted, same-lists, order-apart, levels-at}
 use Rattle.workspace.specs.Loaded.{rowStart}
 use Rattle.block_places.proofs.sheet_rows.Rows.{is-in-block, order-below, block-one}
@@ -47,7 +47,7 @@ module _ (y : Layout) where
           (λ j h e. by-cases (decLt j n) (λ l. f j l e)
           (λ l. let z : j ≡ n = omega arith in eqb-false (sheetIndex n) i q (subst (λ (x : ℕ). sheetIndex x ≡ i) z e)))
 
-  module _ (ok : lawful y ≡ true) where
+  module _ (ok : validLayout y ≡ true) where
     abbrev sheetM : ℕ → ℕ
     sheetM = sheetLevels y y.k
 
@@ -56,8 +56,8 @@ module _ (y : Layout) where
     -- two blocks have no row in common
     pub rows-apart : (i j : ℕ) → i < y .k → j < y .k → (i ≡ j → ⊥) → (rowStart y i + levels y i ≤ rowStart y j) ⊎ (rowStart y j + levels y j ≤ rowStart y i)
     rows-apart i j h g other =
-        let some-i = is-lawful y ok .level i h .0 in
-        let some-j = is-lawful y ok .level j g .0 in
+        let some-i = is-valid y ok .level i h .0 in
+        let some-j = is-valid y ok .level j g .0 in
         by-cases (decLt (rowStart y j) (rowStart y i + levels y i))
         (λ a. by-cases (decLt (rowStart y i) (rowStart y j + levels y j))
         (λ b. absurd (other (overlap some-i some-j a b)))
@@ -83,7 +83,7 @@ module _ (y : Layout) where
     marks i =
         let l : List ℕ = sorted sheetM y.k in
         let at : (j : ℕ) → j < y .k → marked i (sheetIndex j) ≡ marked i (getD l j 0) =
-        λ j h. ap (marked i) (sym (getD-take y.k y.order j 0 h) ∙ ap (λ (z : List ℕ). getD z j 0) (same-lists (take y.k y.order) l (is-lawful y ok .order))) in
+        λ j h. ap (marked i) (sym (getD-take y.k y.order j 0 h) ∙ ap (λ (z : List ℕ). getD z j 0) (same-lists (take y.k y.order) l (is-valid y ok .order))) in
         sum-same (λ j. marked i (sheetIndex j)) (λ j. marked i (getD l j 0)) y.k at
         ∙ ap (sum (λ j. marked i (getD l j 0))) (sym (length-sorted sheetM y.k))
         ∙ sum-over (marked i) l ∙ over-sorted sheetM (marked i) y.k

@@ -19,7 +19,7 @@ use Rattle.cross_block.proofs.Sparse.{store-inside}
 use Rattle.layout.specs.declared.Layout.{Layout}
 use Rattle.layout.specs.Blocks.{sum}
 use Rattle.layout.specs.Shapes.{levels}
-use Rattle.heading_format.specs.Heading.{sheetLevels, lawful}
+use Rattle.heading_format.specs.Heading.{sheetLevels, validLayout}
 use Rattle.workspace.specs.Loaded.{rowStart}
 use Rattle.block_places.proofs.sheet_rows.AllRows.{all-rows, rows-within}
 use Rattle.profile.specs.Solves.{blockIn}
@@ -27,7 +27,7 @@ use Rattle.profile.specs.Finish.{sortedIndex, inSheetOrder}
 use Rattle.solution_vectors.specs.Vectors.{blockAt, blocksAt, withVector, withBlockAt, Sized}
 use Rattle.solution_vectors.proofs.Order.{rows-apart, index-at, levels-index, order-length, order-block}
 
-module _ (y : Layout) (ok : lawful y ≡ true) where
+module _ (y : Layout) (ok : validLayout y ≡ true) where
   abbrev sheetM : ℕ → ℕ
   sheetM = sheetLevels y y.k
 
@@ -189,7 +189,7 @@ module _ (y : Layout) (ok : lawful y ≡ true) where
 
 -- the first j blocks are written, block i being f i, and all else is as in v
 pub record Blockwise (y : Layout) (from : ℕ) (f : ℕ → List Float) (v r : List Float) (j : ℕ) : Type 0 where
-  pub lawful : lawful y ≡ true
+  pub validLayout : validLayout y ≡ true
   pub within : j ≤ y .k
   pub fits : from + y .q ≤ length v
   pub long : length r ≡ length v
@@ -199,12 +199,12 @@ pub record Blockwise (y : Layout) (from : ℕ) (f : ℕ → List Float) (v r : L
   pub same : r ≡ withVector y from blocks v
 
 module _ {y : Layout} {from : ℕ} {f : ℕ → List Float} {v : List Float} where
-  pub blockwise-none : lawful y ≡ true → from + y .q ≤ length v → Blockwise y from f v v 0
+  pub blockwise-none : validLayout y ≡ true → from + y .q ≤ length v → Blockwise y from f v v 0
   blockwise-none ok fits =
       let sized = sized-blocks y ok from v fits in
       let n = sized.count in
       record {
-        lawful = ok;
+        validLayout = ok;
         within = omega arith;
         fits = fits;
         long = refl;
@@ -220,20 +220,20 @@ module _ {y : Layout} {from : ℕ} {f : ℕ → List Float} {v : List Float} whe
     blockwise-more {u} h size then =
         let fits : from + y .q ≤ length r = omega (arith, e.fits, e.long) in
         record {
-          lawful = e.lawful;
+          validLayout = e.validLayout;
           within = omega arith;
           fits = e.fits;
-          long = ap length then ∙ length-block y e.lawful from j (f j) r h size fits ∙ e.long;
+          long = ap length then ∙ length-block y e.validLayout from j (f j) r h size fits ∙ e.long;
           blocks = set e.blocks j (f j);
-          sized = sized-set y e.lawful e.blocks e.sized j (f j) h size;
+          sized = sized-set y e.validLayout e.blocks e.sized j (f j) h size;
           filling = array-more e.filling h refl;
           same =
               then ∙ ap (withBlockAt y from j (f j)) e.same
-              ∙ vector-block y e.lawful from e.blocks e.sized v e.fits j (f j) h size;
+              ∙ vector-block y e.validLayout from e.blocks e.sized v e.fits j (f j) h size;
         }
 
     all-blocks : y .k ≤ j → e .blocks ≡ tab (y .k) f
-    all-blocks h = array-done e.filling h (sized-blocks y e.lawful from v e.fits .count)
+    all-blocks h = array-done e.filling h (sized-blocks y e.validLayout from v e.fits .count)
 
     -- all of them
     pub blockwise-all : y .k ≤ j → r ≡ withVector y from (tab (y .k) f) v
@@ -243,18 +243,18 @@ module _ {y : Layout} {from : ℕ} {f : ℕ → List Float} {v : List Float} whe
     blockwise-sized h = subst (Sized y) (all-blocks h) e.sized
 
     block-is : (i : ℕ) → i < y .k → blockAt y from r i ≡ blockIn (e .blocks) i
-    block-is i h = ap (λ (w : List Float). blockAt y from w i) e.same ∙ vector-at y e.lawful from e.blocks e.sized v e.fits i h
+    block-is i h = ap (λ (w : List Float). blockAt y from w i) e.same ∙ vector-at y e.validLayout from e.blocks e.sized v e.fits i h
 
     -- a block that is not written yet is as it was
     pub blockwise-next : (i : ℕ) → j ≤ i → i < y .k → blockAt y from r i ≡ blockAt y from v i
     blockwise-next i h g =
-        block-is i g ∙ filling-else e.filling [] i (inr (omega arith)) ∙ block-in y e.lawful from v e.fits i g
+        block-is i g ∙ filling-else e.filling [] i (inr (omega arith)) ∙ block-in y e.validLayout from v e.fits i g
 
     -- one that is written is f i
     pub blockwise-done : (i : ℕ) → i < j → blockAt y from r i ≡ f i
     blockwise-done i h =
         let within = e.within in
-        let start = sized-blocks y e.lawful from v e.fits .count in
+        let start = sized-blocks y e.validLayout from v e.fits .count in
         let long = length-tab j f in
         block-is i (omega arith)
         ∙ ap₂ (λ (l : List (List Float)) (x : ℕ). getD l x []) e.filling.same (sym (zero-add i))
@@ -263,8 +263,8 @@ module _ {y : Layout} {from : ℕ} {f : ℕ → List Float} {v : List Float} whe
     -- what lies apart from the vector is as it was
     pub blockwise-else : (off n : ℕ) → (off + n ≤ from) ⊎ (from + y .q ≤ off) → part off n r ≡ part off n v
     blockwise-else off n apart =
-        ap (part off n) e.same ∙ vector-else y e.lawful from e.blocks e.sized v e.fits off n apart
+        ap (part off n) e.same ∙ vector-else y e.validLayout from e.blocks e.sized v e.fits off n apart
 
 -- all the blocks of a list l
 pub blockwise-list : {y : Layout} {from : ℕ} {l : List (List Float)} {v r : List Float} {j : ℕ} → Blockwise y from (blockIn l) v r j → Sized y l → y .k ≤ j → r ≡ withVector y from l v
-blockwise-list {y} {from} {l} {v} e sized h = blockwise-all e h ∙ ap (λ (x : List (List Float)). withVector y from x v) (sized-list y e.lawful l sized)
+blockwise-list {y} {from} {l} {v} e sized h = blockwise-all e h ∙ ap (λ (x : List (List Float)). withVector y from x v) (sized-list y e.validLayout l sized)

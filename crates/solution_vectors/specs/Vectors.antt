@@ -12,7 +12,7 @@ use Rattle.layout.specs.declared.Layout.{Layout}
 use Rattle.layout.specs.Shapes.{levels}
 use Rattle.workspace.specs.Memory.{workingBlock}
 use Rattle.workspace.specs.Loaded.{rowStart}
-use Rattle.profile.specs.Solves.{blockIn, factorShapeOf, forwardIn, backwardIn, lessForward, lessBackward}
+use Rattle.profile.specs.Solves.{blockIn, factorShapeOf, forwardIn, backwardIn, subtractForward, subtractBackward}
 use Rattle.profile.specs.Finish.{inSheetOrder}
 
 -- sorted block j of the vector that lies in v from `from` on
@@ -38,14 +38,14 @@ pub record Sized (y : Layout) (l : List (List Float)) : Type 0 where
 
 module _ (h : List ℕ) (w : List Float) (y : Layout) (from : ℕ) where
   -- going forward: block i less cross block (i, j) times block j
-  abbrev pub lessenedForward : ℕ → ℕ → List Float → List Float
-  lessenedForward i j v =
-      withBlockAt y from i (tab (levels y i) (lessForward h w i j (blockAt y from v j) (at ieee (blockAt y from v i)))) v
+  abbrev pub subtractedForward : ℕ → ℕ → List Float → List Float
+  subtractedForward i j v =
+      withBlockAt y from i (tab (levels y i) (subtractForward h w i j (blockAt y from v j) (at ieee (blockAt y from v i)))) v
 
   -- going backward: block i less the transpose of cross block (j, i) times block j
-  abbrev pub lessenedBackward : ℕ → ℕ → List Float → List Float
-  lessenedBackward j i v =
-      withBlockAt y from i (tab (levels y i) (lessBackward h w j i (blockAt y from v j) (at ieee (blockAt y from v i)))) v
+  abbrev pub subtractedBackward : ℕ → ℕ → List Float → List Float
+  subtractedBackward j i v =
+      withBlockAt y from i (tab (levels y i) (subtractBackward h w j i (blockAt y from v j) (at ieee (blockAt y from v i)))) v
 
   -- block i solved with factor i
   abbrev pub solvedForwardIn : ℕ → List Float → List Float

@@ -8,7 +8,7 @@ use lib.Pow.{pow-add, pow-pos}
 use lib.IntN.{ℤ, pos, negsuc}
 use lib.Ieee.{Float, fin, binary64, up, down, fits}
 use lib.Ieee.Positive.{num, den, den-pos, value→cross}
-use Rattle.square_root.specs.Nearest.{IsRoot, Beside}
+use Rattle.square_root.specs.Nearest.{IsRoot, FartherNonNegative}
 use Rattle.square_root.proofs.Value.{four}
 use Rattle.square_root.proofs.Middle.{Spaced, spaced, above, below}
 
@@ -32,8 +32,8 @@ in-units h m (negsuc k) f =
     (spaced m 589 (suc k + h) (few-digits m (negsuc k) f))
 
 -- ---- beside a root
-pub beside : (x r : Float) (m : ℕ) (e : ℤ) → IsRoot x r → T (fits binary64 (fin false m e)) → Beside x r (fin false m e)
-beside x r m e i f =
+pub farther-non-negative : (x r : Float) (m : ℕ) (e : ℤ) → IsRoot x r → T (fits binary64 (fin false m e)) → FartherNonNegative x r (fin false m e)
+farther-non-negative x r m e i f =
     let y = fin false m e in
     let c : 0 < den y * 2 ^ i .h = mul-pos (den-pos y) (pow-pos i.h) in
     let r-is : num r * 2 ^ 589 ≡ i .s * 2 ^ i .h * den r = value→cross r (i.s * 2 ^ i .h) (2 ^ 589) i.result in

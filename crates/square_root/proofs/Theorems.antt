@@ -22,9 +22,9 @@ use Rattle.float_bits.proofs.double.Bits.{same}
 use Rattle.square_root.specs.parts.Radicand.{rootOf}
 use Rattle.square_root.proofs.parts.Value.{rootOf-fits}
 use Rattle.square_root.specs.Root.{sqrtAt, sqrtOf}
-use Rattle.square_root.specs.Nearest.{IsRoot, Normal, Beside, Farther, NotNegative}
+use Rattle.square_root.specs.Nearest.{IsRoot, Normal, FartherNonNegative, Farther, NotNegative}
 use Rattle.square_root.proofs.Value.{parts-root, at-kind}
-use Rattle.square_root.proofs.Doubles.{beside}
+use Rattle.square_root.proofs.Doubles.{farther-non-negative}
 
 -- ---- of a double above 0
 abbrev partsAt : Float → Parts
@@ -73,9 +73,9 @@ zero-fits = tt
 root-nearest : (x r y : Float) → IsRoot x r → T (fits binary64 y) → Farther x r y
 root-nearest x r nan i f = tt
 root-nearest x r (inf s) i f = tt
-root-nearest x r (fin false m e) i f = beside x r m e i f
+root-nearest x r (fin false m e) i f = farther-non-negative x r m e i f
 root-nearest x r (fin true m e) i f =
-    let b = beside x r 0 (pos 0) i zero-fits in
+    let b = farther-non-negative x r 0 (pos 0) i zero-fits in
     let p : 0 < num r = value-pos r (num r) (den r) (root-positive x r i) (den-pos r) (own-value r (root-positive x r i)) in
     omega (arith, b.from-below (omega arith))
 
@@ -86,16 +86,16 @@ sqrt-nearest x y f p g = root-nearest x (sqrtOf x) y (sqrt-is-root x f p) g
 level : (A B : ℕ) → (A < B → ⊥) → (B < A → ⊥) → A ≡ B
 level A B h k = omega (arith, h, k)
 
-beside-positive : (x r y : Float) → IsRoot x r → T (fits binary64 y) → T (positive y) → Beside x r y
-beside-positive x r nan i f p = absurd p
-beside-positive x r (inf s) i f p = absurd p
-beside-positive x r (fin true m e) i f p = absurd p
-beside-positive x r (fin false m e) i f p = beside x r m e i f
+farther-positive : (x r y : Float) → IsRoot x r → T (fits binary64 y) → T (positive y) → FartherNonNegative x r y
+farther-positive x r nan i f p = absurd p
+farther-positive x r (inf s) i f p = absurd p
+farther-positive x r (fin true m e) i f p = absurd p
+farther-positive x r (fin false m e) i f p = farther-non-negative x r m e i f
 
 not-below : (x r t : Float) → IsRoot x r → IsRoot x t → T (fits binary64 r) → T (fits binary64 t) → num r * den t < num t * den r → ⊥
 not-below x r t i j f g h =
     both (num r * den t) (num t * den r) (den r) (den t) (num x) (den x)
-    (beside-positive x t r j f (root-positive x r i) .from-below h) (beside-positive x r t i g (root-positive x t j) .from-above h)
+    (farther-positive x t r j f (root-positive x r i) .from-below h) (farther-positive x r t i g (root-positive x t j) .from-above h)
   where
     both : (A B c d p q : ℕ) → (A + B) * (A + B) * q < 4 * p * (c * d * (c * d)) → 4 * p * (d * c * (d * c)) < (B + A) * (B + A) * q → ⊥
     both A B c d p q h k = omega arith
@@ -118,7 +118,7 @@ twice-over A B q K e h l = let x : A + B ≤ 2 * A = omega arith in omega (arith
 
 square-root : (x r y : Float) → IsRoot x r → T (fits binary64 r) → T (fits binary64 y) → T (positive y) → HasValue x false (num y * num y) (den y * den y) → r ≡ y
 square-root x r y i f g q v =
-    let b = beside-positive x r y i g q in
+    let b = farther-positive x r y i g q in
     let e = fourfold (num y) (den y) (den r) (num x) (den x) (value→cross x (num y * num y) (den y * den y) v) in
     same r y f g (root-positive x r i) q
     (sym

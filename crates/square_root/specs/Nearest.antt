@@ -30,7 +30,7 @@ pub record Normal (r : Float) : Type 0 where
 
 -- The double y, above 0 or a zero, is farther from the root of x than r is: where y is below r, the root lies above the middle of the two,
 -- and where y is above r, below it. With y = a / c, r = b / d and x = p / q the middle is (a * d + b * c) / (2 * c * d).
-pub record Beside (x r y : Float) : Type 0 where
+pub record FartherNonNegative (x r y : Float) : Type 0 where
   pub from-below : num y * den r < num r * den y → (num y * den r + num r * den y) * (num y * den r + num r * den y) * den x < 4 * num x * (den y * den r * (den y * den r))
   pub from-above : num r * den y < num y * den r → 4 * num x * (den y * den r * (den y * den r)) < (num y * den r + num r * den y) * (num y * den r + num r * den y) * den x
 
@@ -38,7 +38,7 @@ pub record Beside (x r y : Float) : Type 0 where
 abbrev pub Farther : Float → Float → Float → Type 0
 Farther x r nan = Unit
 Farther x r (inf s) = Unit
-Farther x r (fin false m e) = Beside x r (fin false m e)
+Farther x r (fin false m e) = FartherNonNegative x r (fin false m e)
 Farther x r (fin true m e) = num r * num r * den x < 4 * num x * (den r * den r)
 
 -- r is not below 0: not -infinity and no finite number below 0. It may be -0, or NaN.

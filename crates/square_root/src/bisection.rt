@@ -7,7 +7,7 @@ ghost use Rattle.square_root.specs.whole_root.Whole.{rounded};
 use float_bits::wide_product;
 
 // Whether the root of m * 2^52, rounded, is g or more: g * (g - 1) is below m * 2^52.
-fn reaches(m: u64, g: u64) -> bool
+fn is_at_least(m: u64, g: u64) -> bool
     requires { ⌜ (m < 2 ^ 54) × (0 < g) ⌝ }
     ensures { λ r. ⌜ r ≡ ltb (g * g) (m * 2 ^ 52 + g) ⌝ }
 {
@@ -28,7 +28,7 @@ pub fn bisected(m: u64) -> u64
     let mut hi: u64 = 9007199254740992;
     while hi - lo > 1 {
         let mid = (lo + hi) / 2;
-        if reaches(m, mid) {
+        if is_at_least(m, mid) {
             lo = mid;
         } else {
             hi = mid;

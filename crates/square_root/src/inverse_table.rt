@@ -125,7 +125,7 @@ fn lower(m: u64, v: u64, s: u64, r: u64) -> u64
 }
 
 // The rounded root of m * 2^52, given about 2^31 over the root of m / 2^52: the root's upper 32 digits s leave r.
-pub fn settled(m: u64, v: u64) -> u64
+pub fn root_from_inverse(m: u64, v: u64) -> u64
     requires { ⌜ (2 ^ 52 ≤ m) × (m ≤ 2 ^ 54 - 2) × (v < 2 ^ 32 - 4) ⌝ }
     ensures { λ r. ⌜ r ≡ rounded (m * 2 ^ 52) ⌝ }
 {

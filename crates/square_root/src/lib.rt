@@ -1,4 +1,4 @@
-// The square root of a double.
+// The square root of a double: the nearest double, by whole-number squares (document 01, Record 4).
 mod bisection;
 mod inverse_table;
 mod parts;

@@ -23,6 +23,6 @@ pub fn of_parts(p: Parts) -> f64
     let q = p.significand;
     let e = p.exponent;
     let b = e % 2;
-    let s = inverse_table::settled(doubled(q, b), inverse_table::inverse(q, b));
+    let s = inverse_table::root_from_inverse(doubled(q, b), inverse_table::inverse(q, b));
     f64::from_bits((e / 2 + 485) * 4503599627370496 + s)
 }

@@ -7,15 +7,15 @@ use native.Mathlib.Omega.{arith}
 use lib.ListN.{getD, take, drop, set}
 use lib.Seq.{getD-drop}
 use lib.Ieee.{Float}
-use Rattle.step_order.specs.Steps.{Step, S, C, T, index, Named}
+use Rattle.step_order.specs.Steps.{Step, S, C, T, index, IsStep}
 use Rattle.layout.specs.declared.Layout.{Layout}
 use Rattle.heading_format.specs.declared.Progress.{Progress}
 use Rattle.heading_format.specs.Heading.{progressOf}
 use Rattle.update.specs.Calls.{refusedBy}
 use Rattle.heading.specs.writer.Small.{SmallProgress}
 use Rattle.heading.proofs.writer.Idle.{idle-small}
-use Rattle.step.specs.declared.step_result.Moved.{Moved}
-use Rattle.step.specs.step_result.Taken.{movedBy, Taken}
+use Rattle.step.specs.declared.step_result.StepResult.{StepResult}
+use Rattle.step.specs.step_result.Applied.{movedBy, Applied}
 
 -- ---- numbers below a bound
 
@@ -40,7 +40,7 @@ module _ (bound : ℕ) (above : 0 < bound) where
   small-set (x ∷ l) (suc p) v h b (suc i) = small-set l p v (λ j. h (suc j)) b i
 
 -- a step's number is below that of the last block, or it
-index-small : (k : ℕ) (s : Step) → Named k s → index s ≤ k
+index-small : (k : ℕ) (s : Step) → IsStep k s → index s ≤ k
 index-small k (S i j x) n = let a = n.0 in let b = n.1 in let c = n.2 in omega arith
 index-small k (C j) n = n
 index-small k (T i j) n = let a = n.0 in let b = n.1 in omega arith
@@ -52,14 +52,14 @@ unfolding progressOf
 progress-small h b =
     record { left = b 23; stages = small-take 4294967296 (omega arith) 45 (drop 24 h) (small-drop 4294967296 (omega arith) 24 h b) }
 
-moved-small : (y : Layout) (g : Progress) (s : Step) → SmallProgress g → y .k ≤ 8 → Named (y .k) s → (o : Option ℕ) → SmallProgress (movedBy y g s o .progress)
+moved-small : (y : Layout) (g : Progress) (s : Step) → SmallProgress g → y .k ≤ 8 → IsStep (y .k) s → (o : Option ℕ) → SmallProgress (movedBy y g s o .progress)
 moved-small y g s b k n none =
     let l = b.left in
     record { left = omega arith; stages = small-set 4294967296 (omega arith) g.stages _ (suc (index s)) b.stages (omega (arith, index-small y.k s n)) }
 moved-small y g s b k n (some r) = idle-small y.k k
 
 -- what a step hands back, out of a heading of u32 numbers
-pub handed-small : (h : List ℕ) (y : Layout) (g : Progress) (s : Step) → ((i : ℕ) → getD h i 0 < 4294967296) → g ≡ progressOf h → y .k ≤ 8 → Named (y .k) s → (w w′ : List Float) (m : Moved)
-    → Taken y g h w w′ s m → SmallProgress (m .progress)
+pub handed-small : (h : List ℕ) (y : Layout) (g : Progress) (s : Step) → ((i : ℕ) → getD h i 0 < 4294967296) → g ≡ progressOf h → y .k ≤ 8 → IsStep (y .k) s → (w w′ : List Float) (m : StepResult)
+    → Applied y g h w w′ s m → SmallProgress (m .progress)
 handed-small h y g s b is k n w w′ m t =
-    subst (λ (x : Moved). SmallProgress x.progress) (sym t.moved) (moved-small y g s (subst SmallProgress (sym is) (progress-small h b)) k n (refusedBy h w s))
+    subst (λ (x : StepResult). SmallProgress x.progress) (sym t.moved) (moved-small y g s (subst SmallProgress (sym is) (progress-small h b)) k n (refusedBy h w s))

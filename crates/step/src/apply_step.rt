@@ -2,55 +2,76 @@
 ghost use mathlib.Core.Path.{_≡_};
 ghost use Prim.Native.Nat.{_≤_};
 ghost use lib.ListN.{length};
-ghost use Rattle.step_order.specs.Steps.{Named, S, T};
+ghost use Rattle.step_order.specs.Steps.{IsStep, S, T};
 ghost use Rattle.heading_format.specs.Heading.{layoutOf, progressOf};
 ghost use Rattle.update.specs.Names.{stepOfName};
 ghost use Rattle.heading_format.specs.Fits.{Fits};
-ghost use Rattle.step.specs.step_result.Taken.{Taken};
+ghost use Rattle.step.specs.step_result.Applied.{Applied};
 use crate::factor_step;
 use crate::step_check;
-use crate::step_result::Moved;
+use crate::step_result::StepResult;
 use heading_format::Progress;
 use layout::Layout;
 use refusal::Answer;
 use step_blocks::solve_block;
 use step_blocks::subtract_block;
-use update::Name;
+use update::StepName;
 
 // S(i, j, x): its own block, and one step more.
-fn take_subtract(y: Layout, g: Progress, h: &[u32], w: &mut [f64], i: u64, j: u64, x: u64) -> Moved
-    requires { ⌜ (y ≡ layoutOf (now h)) × Fits (now h) (length (now w)) × Named (y .k) (S i j x) × (1 ≤ g .left) ⌝ }
-    ensures { λ m. ⌜ Taken y g (now (h .entry)) (now (w .entry)) (now (w .exit)) (S i j x) m ⌝ }
+fn apply_subtract(
+    layout: Layout,
+    progress: Progress,
+    heading: &[u32],
+    doubles: &mut [f64],
+    i: u64,
+    j: u64,
+    x: u64,
+) -> StepResult
+    requires { ⌜ (layout ≡ layoutOf (now heading)) × Fits (now heading) (length (now doubles)) × IsStep (layout .k) (S i j x) × (1 ≤ progress .left) ⌝ }
+    ensures { λ m. ⌜ Applied layout progress (now (heading .entry)) (now (doubles .entry)) (now (doubles .exit)) (S i j x) m ⌝ }
 {
-    subtract_block::subtract(y, h, w, i, j, x);
+    subtract_block::subtract(layout, heading, doubles, i, j, x);
     let place = step_check::target_place(i, j);
-    Moved {
+    StepResult {
         answer: Answer::Accepted,
-        progress: g.mark(place, x + 1),
+        progress: progress.mark(place, x + 1),
     }
 }
 
 // T(i, j): as S.
-fn take_solve(y: Layout, g: Progress, h: &[u32], w: &mut [f64], i: u64, j: u64) -> Moved
-    requires { ⌜ (y ≡ layoutOf (now h)) × Fits (now h) (length (now w)) × Named (y .k) (T i j) × (1 ≤ g .left) ⌝ }
-    ensures { λ m. ⌜ Taken y g (now (h .entry)) (now (w .entry)) (now (w .exit)) (T i j) m ⌝ }
+fn apply_solve(
+    layout: Layout,
+    progress: Progress,
+    heading: &[u32],
+    doubles: &mut [f64],
+    i: u64,
+    j: u64,
+) -> StepResult
+    requires { ⌜ (layout ≡ layoutOf (now heading)) × Fits (now heading) (length (now doubles)) × IsStep (layout .k) (T i j) × (1 ≤ progress .left) ⌝ }
+    ensures { λ m. ⌜ Applied layout progress (now (heading .entry)) (now (doubles .entry)) (now (doubles .exit)) (T i j) m ⌝ }
 {
-    solve_block::solve(y, h, w, i, j);
+    solve_block::solve(layout, heading, doubles, i, j);
     let place = step_check::target_place(i, j);
-    Moved {
+    StepResult {
         answer: Answer::Accepted,
-        progress: g.mark(place, j + 1),
+        progress: progress.mark(place, j + 1),
     }
 }
 
 // A step that is ready: layout and progress go in by value, and it hands the moved progress back.
-pub fn take(y: Layout, g: Progress, h: &[u32], w: &mut [f64], name: Name) -> Moved
-    requires { ⌜ (y ≡ layoutOf (now h)) × (g ≡ progressOf (now h)) × Fits (now h) (length (now w)) × Named (y .k) (stepOfName name) × (1 ≤ g .left) ⌝ }
-    ensures { λ m. ⌜ Taken y g (now (h .entry)) (now (w .entry)) (now (w .exit)) (stepOfName name) m ⌝ }
+pub fn apply(
+    layout: Layout,
+    progress: Progress,
+    heading: &[u32],
+    doubles: &mut [f64],
+    name: StepName,
+) -> StepResult
+    requires { ⌜ (layout ≡ layoutOf (now heading)) × (progress ≡ progressOf (now heading)) × Fits (now heading) (length (now doubles)) × IsStep (layout .k) (stepOfName name) × (1 ≤ progress .left) ⌝ }
+    ensures { λ m. ⌜ Applied layout progress (now (heading .entry)) (now (doubles .entry)) (now (doubles .exit)) (stepOfName name) m ⌝ }
 {
     match name {
-        Name::S(i, j, x) => take_subtract(y, g, h, w, i, j, x),
-        Name::C(j) => factor_step::take_factor(y, g, h, w, j),
-        Name::T(i, j) => take_solve(y, g, h, w, i, j),
+        StepName::S(i, j, x) => apply_subtract(layout, progress, heading, doubles, i, j, x),
+        StepName::C(j) => factor_step::apply_factor(layout, progress, heading, doubles, j),
+        StepName::T(i, j) => apply_solve(layout, progress, heading, doubles, i, j),
     }
 }

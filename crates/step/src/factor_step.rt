@@ -2,13 +2,13 @@
 ghost use mathlib.Core.Path.{_≡_};
 ghost use Prim.Native.Nat.{_≤_};
 ghost use lib.ListN.{length};
-ghost use Rattle.step_order.specs.Steps.{Named, C};
+ghost use Rattle.step_order.specs.Steps.{IsStep, C};
 ghost use Rattle.heading_format.specs.Heading.{layoutOf};
 ghost use Rattle.heading_format.specs.Fits.{Fits};
-ghost use Rattle.step.specs.step_result.Taken.{Taken};
+ghost use Rattle.step.specs.step_result.Applied.{Applied};
 use crate::step_check;
 use crate::step_result;
-use crate::step_result::Moved;
+use crate::step_result::StepResult;
 use heading::idle_progress;
 use heading_format::Progress;
 use layout::Layout;
@@ -18,15 +18,21 @@ use refusal::Refusal;
 use step_blocks::factor_block;
 
 // C(j): its own block, the sum, and one step more; or, where a pivot is refused, the working doubles +0.0 and no update.
-pub fn take_factor(y: Layout, g: Progress, h: &[u32], w: &mut [f64], j: u64) -> Moved
-    requires { ⌜ (y ≡ layoutOf (now h)) × Fits (now h) (length (now w)) × Named (y .k) (C j) × (1 ≤ g .left) ⌝ }
-    ensures { λ m. ⌜ Taken y g (now (h .entry)) (now (w .entry)) (now (w .exit)) (C j) m ⌝ }
+pub fn apply_factor(
+    layout: Layout,
+    progress: Progress,
+    heading: &[u32],
+    doubles: &mut [f64],
+    j: u64,
+) -> StepResult
+    requires { ⌜ (layout ≡ layoutOf (now heading)) × Fits (now heading) (length (now doubles)) × IsStep (layout .k) (C j) × (1 ≤ progress .left) ⌝ }
+    ensures { λ m. ⌜ Applied layout progress (now (heading .entry)) (now (doubles .entry)) (now (doubles .exit)) (C j) m ⌝ }
 {
-    match factor_block::factor(y, h, w, j) {
+    match factor_block::factor(layout, heading, doubles, j) {
         Pivots::Refused(r) => {
-            step_result::clear_working(y, w);
-            let idle = idle_progress::idle(y.k);
-            Moved {
+            step_result::clear_working(layout, doubles);
+            let idle = idle_progress::idle(layout.k);
+            StepResult {
                 answer: Answer::Refused(Refusal {
                     number: 26,
                     first: j,
@@ -37,9 +43,9 @@ pub fn take_factor(y: Layout, g: Progress, h: &[u32], w: &mut [f64], j: u64) -> 
         }
         Pivots::Accepted => {
             let place = step_check::target_place(j, j);
-            Moved {
+            StepResult {
                 answer: Answer::Accepted,
-                progress: g.mark(place, j + 1),
+                progress: progress.mark(place, j + 1),
             }
         }
     }

@@ -2,11 +2,11 @@
 // it is done, whether its forerunners are, and which refusal comes first. Any numbers may be asked for.
 use heading_format::Progress;
 use heading_format::State;
-use update::Name;
+use update::StepName;
 ghost use mathlib.Core.Path.{_≡_};
 ghost use Prim.Native.Nat.{_+_, _≤_, _<_};
 ghost use Rattle.storage.specs.Runs.{start, triangle};
-ghost use Rattle.step_order.specs.Steps.{Named, named, after};
+ghost use Rattle.step_order.specs.Steps.{IsStep, isStep, forerunners};
 ghost use Rattle.step_order.specs.Progress.{all, done};
 ghost use Rattle.heading_format.specs.Heading.{stageOf};
 ghost use Rattle.update.specs.Names.{stepOfName};
@@ -21,69 +21,69 @@ pub fn target_place(i: u64, j: u64) -> usize
 }
 
 // The stage of target (i, j): how many of its steps are done.
-fn stage(g: Progress, i: u64, j: u64) -> u64
+fn stage(progress: Progress, i: u64, j: u64) -> u64
     requires { ⌜ (j ≤ i) × (i ≤ 8) ⌝ }
-    ensures { λ r. ⌜ r ≡ stageOf g i j ⌝ }
+    ensures { λ r. ⌜ r ≡ stageOf progress i j ⌝ }
 {
     let at = target_place(i, j);
-    let stages = g.stages;
+    let stages = progress.stages;
     stages[at]
 }
 
 // Whether a step of this name is one of the steps of k blocks and the last: 21 where it is not.
-pub fn is_named(k: u64, name: Name) -> bool
-    ensures { λ r. ⌜ r ≡ named k (stepOfName name) ⌝ }
+pub fn is_step(k: u64, name: StepName) -> bool
+    ensures { λ r. ⌜ r ≡ isStep k (stepOfName name) ⌝ }
 {
     match name {
-        Name::S(i, j, h) => (h < j) & ((j <= i) & (i <= k)),
-        Name::C(j) => j <= k,
-        Name::T(i, j) => (j < i) & (i <= k),
+        StepName::S(i, j, h) => (h < j) & ((j <= i) & (i <= k)),
+        StepName::C(j) => j <= k,
+        StepName::T(i, j) => (j < i) & (i <= k),
     }
 }
 
 // Whether the step is done: 23 where it is.
-pub fn is_done(g: Progress, name: Name) -> bool
-    requires { ⌜ Named 8 (stepOfName name) ⌝ }
-    ensures { λ r. ⌜ r ≡ done (stageOf g) (stepOfName name) ⌝ }
+pub fn is_done(progress: Progress, name: StepName) -> bool
+    requires { ⌜ IsStep 8 (stepOfName name) ⌝ }
+    ensures { λ r. ⌜ r ≡ done (stageOf progress) (stepOfName name) ⌝ }
 {
     match name {
-        Name::S(i, j, h) => h < stage(g, i, j),
-        Name::C(j) => j < stage(g, j, j),
-        Name::T(i, j) => j < stage(g, i, j),
+        StepName::S(i, j, h) => h < stage(progress, i, j),
+        StepName::C(j) => j < stage(progress, j, j),
+        StepName::T(i, j) => j < stage(progress, i, j),
     }
 }
 
 // Whether its forerunners are: 24 where they are not. The subtraction before it is, or there is none, where the target's stage is at least its number.
-pub fn is_forerun(g: Progress, name: Name) -> bool
-    requires { ⌜ Named 8 (stepOfName name) ⌝ }
-    ensures { λ r. ⌜ r ≡ all (done (stageOf g)) (after (stepOfName name)) ⌝ }
+pub fn forerunners_done(progress: Progress, name: StepName) -> bool
+    requires { ⌜ IsStep 8 (stepOfName name) ⌝ }
+    ensures { λ r. ⌜ r ≡ all (done (stageOf progress)) (forerunners (stepOfName name)) ⌝ }
 {
     match name {
-        Name::S(i, j, h) => {
-            let s = stage(g, i, j);
-            let a = stage(g, i, h);
-            let b = stage(g, j, h);
+        StepName::S(i, j, h) => {
+            let s = stage(progress, i, j);
+            let a = stage(progress, i, h);
+            let b = stage(progress, j, h);
             (h <= s) & ((h < a) & (h < b))
         }
-        Name::C(j) => j <= stage(g, j, j),
-        Name::T(i, j) => {
-            let d = stage(g, j, j);
-            let s = stage(g, i, j);
+        StepName::C(j) => j <= stage(progress, j, j),
+        StepName::T(i, j) => {
+            let d = stage(progress, j, j);
+            let s = stage(progress, i, j);
             (j < d) & (j <= s)
         }
     }
 }
 
 // The first of 21, 23 and 24 that a name meets, 0 where the step is ready.
-fn name_fault(k: u64, g: Progress, name: Name) -> u64
+fn name_fault(k: u64, progress: Progress, name: StepName) -> u64
     requires { ⌜ k ≤ 8 ⌝ }
-    ensures { λ r. ⌜ r ≡ nameFault (named k (stepOfName name)) (done (stageOf g) (stepOfName name)) (all (done (stageOf g)) (after (stepOfName name))) ⌝ }
+    ensures { λ r. ⌜ r ≡ nameFault (isStep k (stepOfName name)) (done (stageOf progress) (stepOfName name)) (all (done (stageOf progress)) (forerunners (stepOfName name))) ⌝ }
 {
-    if is_named(k, name) {
-        if is_done(g, name) {
+    if is_step(k, name) {
+        if is_done(progress, name) {
             return 23;
         }
-        if is_forerun(g, name) {
+        if forerunners_done(progress, name) {
             return 0;
         }
         return 24;
@@ -92,14 +92,14 @@ fn name_fault(k: u64, g: Progress, name: Name) -> u64
 }
 
 // The same after 22: no update is under way.
-pub fn fault(k: u64, g: Progress, name: Name) -> u64
+pub fn fault(k: u64, progress: Progress, name: StepName) -> u64
     requires { ⌜ k ≤ 8 ⌝ }
-    ensures { λ r. ⌜ r ≡ faultOf k g (stepOfName name) ⌝ }
+    ensures { λ r. ⌜ r ≡ faultOf k progress (stepOfName name) ⌝ }
 {
-    let state = g.state;
+    let state = progress.state;
     match state {
         State::Idle => 22,
-        State::UnderWay => name_fault(k, g, name),
+        State::UnderWay => name_fault(k, progress, name),
         State::Finished => 22,
     }
 }

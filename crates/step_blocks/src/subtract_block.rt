@@ -2,41 +2,41 @@
 ghost use mathlib.Core.Path.{_≡_};
 ghost use lib.ListN.{length};
 ghost use Rattle.storage.specs.Part.{store};
-ghost use Rattle.step_order.specs.Steps.{S, Named};
+ghost use Rattle.step_order.specs.Steps.{S, IsStep};
 ghost use Rattle.layout.specs.Shapes.{workingAt};
 ghost use Rattle.heading_format.specs.Heading.{layoutOf};
 ghost use Rattle.heading_format.specs.Fits.{Fits};
 ghost use Rattle.update.specs.Calls.{madeBy};
 use crate::subtract_dense;
-use crate::subtract_diagonal;
+use crate::subtract_square;
 use layout::Layout;
 
 // S(i, j, x) on a workspace: its own block by its rule, nothing else.
-pub fn subtract(y: Layout, h: &[u32], w: &mut [f64], i: u64, j: u64, x: u64)
-    requires { ⌜ (y ≡ layoutOf (now h)) × Fits (now h) (length (now w)) × Named (y .k) (S i j x) ⌝ }
-    ensures { λ _. ⌜ now (w .exit) ≡ store (workingAt y i j) (madeBy (now (h .entry)) (now (w .entry)) (S i j x)) (now (w .entry)) ⌝ }
+pub fn subtract(layout: Layout, heading: &[u32], doubles: &mut [f64], i: u64, j: u64, x: u64)
+    requires { ⌜ (layout ≡ layoutOf (now heading)) × Fits (now heading) (length (now doubles)) × IsStep (layout .k) (S i j x) ⌝ }
+    ensures { λ _. ⌜ now (doubles .exit) ≡ store (workingAt layout i j) (madeBy (now (heading .entry)) (now (doubles .entry)) (S i j x)) (now (doubles .entry)) ⌝ }
 {
-    if j == y.k {
-        subtract_dense::lessen_last(y, w, x);
+    if j == layout.k {
+        subtract_dense::subtract_last_block(layout, doubles, x);
         return;
     }
     if i != j {
-        if y.sparse {
-            subtract_diagonal::lessen_sparse(y, h, w);
+        if layout.sparse {
+            subtract_square::subtract_sparse_block(layout, heading, doubles);
             return;
         }
-        subtract_dense::lessen_dense(y, w, i, j, x);
+        subtract_dense::subtract_dense_block(layout, doubles, i, j, x);
         return;
     }
-    if y.diagonal {
+    if layout.diagonal {
         if j == 1 {
-            if y.sparse {
-                subtract_diagonal::lessen_diagonal_sparse(y, h, w);
+            if layout.sparse {
+                subtract_square::subtract_diagonal_sparse_block(layout, heading, doubles);
                 return;
             }
-            subtract_diagonal::lessen_diagonal(y, w);
+            subtract_square::subtract_diagonal_block(layout, doubles);
             return;
         }
     }
-    subtract_diagonal::lessen_triangle(y, w, j, x);
+    subtract_square::subtract_triangle_block(layout, doubles, j, x);
 }

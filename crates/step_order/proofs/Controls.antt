@@ -6,7 +6,7 @@ use mathlib.Core.List.{[], _∷_}
 use mathlib.Core.Option.{none, some}
 use native.Mathlib.Decide.{ℕ-discrete}
 use lib.Dec.{eqb}
-use Rattle.step_order.specs.Steps.{S, C, T, after, rustOrder, stepCount}
+use Rattle.step_order.specs.Steps.{S, C, T, forerunners, rustOrder, stepCount}
 use Rattle.step_order.specs.Elimination.{Rules, value, final, total, refusedBefore, refusedAt}
 use Rattle.step_order.specs.Progress.{all, join, stepsLeft, ready, begun}
 use Rattle.step_order.specs.Outcome.{stopped, run}
@@ -28,18 +28,18 @@ pub count-three : stepCount 3 ≡ 10
 count-three = refl
 
 -- At the start C(0) is ready and T(1,0) is not, by the stages and by the set.
-pub first : (ready (λ i j. 0) (C 0) ≡ true) × (all (λ s. false) (after (C 0)) ≡ true)
+pub first : (ready (λ i j. 0) (C 0) ≡ true) × (all (λ s. false) (forerunners (C 0)) ≡ true)
 first = (refl, refl)
 
-pub not-first : (ready (λ i j. 0) (T 1 0) ≡ false) × (all (λ s. false) (after (T 1 0)) ≡ false)
+pub not-first : (ready (λ i j. 0) (T 1 0) ≡ false) × (all (λ s. false) (forerunners (T 1 0)) ≡ false)
 not-first = (refl, refl)
 
 -- After C(0) it is; S(2,1,0) needs both T(2,0) and T(1,0).
-pub second : all (join (λ s. false) (C 0)) (after (T 1 0)) ≡ true
+pub second : all (join (λ s. false) (C 0)) (forerunners (T 1 0)) ≡ true
 unfolding ℕ-discrete
 second = refl
 
-pub both : (all (join (λ s. false) (T 2 0)) (after (S 2 1 0)) ≡ false) × (all (join (join (λ s. false) (T 2 0)) (T 1 0)) (after (S 2 1 0)) ≡ true)
+pub both : (all (join (λ s. false) (T 2 0)) (forerunners (S 2 1 0)) ≡ false) × (all (join (join (λ s. false) (T 2 0)) (T 1 0)) (forerunners (S 2 1 0)) ≡ true)
 unfolding ℕ-discrete
 both = (refl, refl)
 
@@ -48,7 +48,7 @@ pub left-three : (stepsLeft 2 (λ s. false) ≡ 10) × (stepsLeft 2 (join (λ s.
 unfolding rustOrder ℕ-discrete
 left-three = (refl, refl)
 
--- A toy: whole numbers for blocks, and a pivot of nought is refused in row 0.
+-- A toy: whole numbers for blocks, and a pivot of zero is refused in row 0.
 abbrev toy : Rules
 toy =
     record {
@@ -58,7 +58,7 @@ toy =
       pivots = λ j x. cond (eqb x 0) (some 0) none;
       factor = λ j x. x;
       solve = λ i j x f. x;
-      nought = 0;
+      emptySum = 0;
       logs = λ j t x. t + x;
     }
 

@@ -6,7 +6,7 @@ use mathlib.Core.Option.{none}
 use native.Mathlib.Decide.{decLt}
 use native.Mathlib.Omega.{arith}
 use borrow.Author.Tests.{lt-ltb, le-ltb, eq-eqb, ne-eqb}
-use Rattle.step_order.specs.Steps.{Step, S, C, T, row, col, index, Named}
+use Rattle.step_order.specs.Steps.{Step, S, C, T, row, col, index, IsStep}
 use Rattle.step_order.specs.Elimination.{Rules, column, value, final, total}
 use Rattle.step_order.specs.Progress.{advance, Bounded, Sources, Ready, State, begun, made, summed, refusedNow, moved}
 use Rattle.step_order.proofs.Tables.{at, put-all, in-range}
@@ -15,7 +15,7 @@ use Rattle.step_order.proofs.Tables.{at, put-all, in-range}
 pub bounded-begun : (k : ℕ) → Bounded k (λ i j. 0)
 bounded-begun k i j l m = omega arith
 
-pub bounded-moved : (k : ℕ) (g : ℕ → ℕ → ℕ) → Bounded k g → (s : Step) → Named k s → Bounded k (advance g s)
+pub bounded-moved : (k : ℕ) (g : ℕ → ℕ → ℕ) → Bounded k g → (s : Step) → IsStep k s → Bounded k (advance g s)
 bounded-moved k g most s n a b l m =
     put-all (λ (i j x : ℕ). x ≤ suc j) g (row s) (col s) (suc (index s)) a b (λ x y. omega (arith, in-range k s n)) (λ o. most a b l m)
 
@@ -57,7 +57,7 @@ module _ (R : Rules) (k : ℕ) (start : ℕ → ℕ → R .Block) where
     at-stage i j x a b e = rw e at (H.blocks i j a b)
 
     -- A ready step takes its block to the value of its next stage.
-    pub step-value : (s : Step) → Named k s → Ready (u .stage) s → made R s u ≡ value R start (suc (index s)) (row s) (col s)
+    pub step-value : (s : Step) → IsStep k s → Ready (u .stage) s → made R s u ≡ value R start (suc (index s)) (row s) (col s)
     unfolding value
     step-value (S i j h) n r =
         rw (lt-ltb h j n.0)
@@ -88,7 +88,7 @@ module _ (R : Rules) (k : ℕ) (start : ℕ → ℕ → R .Block) where
         absurd (omega (arith, H.counted H.count (omega arith) .1 c)))
         (λ m. by-cases (decLt j H.count) (λ l. absurd (omega (arith, H.counted j n .0 l))) (λ l. omega arith))
 
-    module _ (s : Step) (n : Named k s) (r : Ready (u .stage) s) where
+    module _ (s : Step) (n : IsStep k s) (r : Ready (u .stage) s) where
       -- what is finished stays so
       stays : (a b : ℕ) → u .stage a b ≡ suc b → moved R s u .stage a b ≡ suc b
       stays a b e =
@@ -108,7 +108,7 @@ module _ (R : Rules) (k : ℕ) (start : ℕ → ℕ → R .Block) where
     counts (C j) = suc H.count
     counts (T i j) = H.count
 
-    counted-on : (s : Step) → Named k s → Ready (u .stage) s → (a : ℕ) → a ≤ k → (a < counts s) ↔ (moved R s u .stage a a ≡ suc a)
+    counted-on : (s : Step) → IsStep k s → Ready (u .stage) s → (a : ℕ) → a ≤ k → (a < counts s) ↔ (moved R s u .stage a a ≡ suc a)
     unfolding counts
     counted-on (S i j h) n r a l =
         ⊎-elim
@@ -124,13 +124,13 @@ module _ (R : Rules) (k : ℕ) (start : ℕ → ℕ → R .Block) where
         (at a a j j)
     counted-on (T i j) n r a l = ⊎-elim (λ w. absurd (omega arith)) (λ w. rw w.0 (H.counted a l)) (at a a i j)
 
-    few-on : (s : Step) → Named k s → Ready (u .stage) s → counts s ≤ suc k
+    few-on : (s : Step) → IsStep k s → Ready (u .stage) s → counts s ≤ suc k
     unfolding counts
     few-on (S i j h) n r = H.few
     few-on (C j) n r = omega (arith, forced j n r.0)
     few-on (T i j) n r = H.few
 
-    passed-on : (s : Step) → Named k s → Ready (u .stage) s → refusedNow R s u ≡ none → (a : ℕ) → a < counts s → R .pivots a (value R start a a a) ≡ none
+    passed-on : (s : Step) → IsStep k s → Ready (u .stage) s → refusedNow R s u ≡ none → (a : ℕ) → a < counts s → R .pivots a (value R start a a a) ≡ none
     unfolding counts
     passed-on (S i j h) n r p a l = H.passed a l
     passed-on (C j) n r p a l =
@@ -138,14 +138,14 @@ module _ (R : Rules) (k : ℕ) (start : ℕ → ℕ → R .Block) where
         (λ m. let e : a ≡ j = omega (arith, forced j n r.0) in rw (e, ← (at-stage j j j (omega arith) n r.0)) p)
     passed-on (T i j) n r p a l = H.passed a l
 
-    summed-on : (s : Step) → Named k s → Ready (u .stage) s → summed R s u ≡ total R start (counts s)
+    summed-on : (s : Step) → IsStep k s → Ready (u .stage) s → summed R s u ≡ total R start (counts s)
     unfolding counts total
     summed-on (S i j h) n r = H.summed
     summed-on (C j) n r = rw (forced j n r.0) (cc (step-value (C j) n r, H.summed, ap (total R start) (forced j n r.0)))
     summed-on (T i j) n r = H.summed
 
     -- A ready step that refuses no pivot keeps it.
-    pub held-moved : (s : Step) → Named k s → Ready (u .stage) s → refusedNow R s u ≡ none → Held R k start (moved R s u)
+    pub held-moved : (s : Step) → IsStep k s → Ready (u .stage) s → refusedNow R s u ≡ none → Held R k start (moved R s u)
     held-moved s n r p =
         record {
           most = bounded-moved k u.stage H.most s n;

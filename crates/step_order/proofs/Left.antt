@@ -9,7 +9,7 @@ use native.Mathlib.Nat.{zero-add, add-zero, div-eq-of-eq-mul-right}
 use native.Mathlib.Omega.{arith}
 use lib.ListN.{length, length-append}
 use borrow.Author.Tests.{lt-ltb, ltb-true}
-use Rattle.step_order.specs.Steps.{Step, S, C, T, row, col, index, Named, Distinct, each, subtractions, columnSteps, rustOrder, stepCount}
+use Rattle.step_order.specs.Steps.{Step, S, C, T, row, col, index, IsStep, Distinct, each, subtractions, columnSteps, rustOrder, stepCount}
 use Rattle.step_order.specs.Progress.{join, joinAll, outside, stepsLeft, Order, advance, done, Represents, Bounded, Ready}
 use Rattle.step_order.proofs.Tables.{join-all, in-range}
 use Rattle.step_order.proofs.Sets.{ready-after, represents-moved}
@@ -55,11 +55,11 @@ outside-zero d (t ∷ l) = (
 
 module _ (k : ℕ) where
   -- One less when a step joins the set.
-  pub left-joins : (d : Step → Bool) (s : Step) → Named k s → d s ≡ false → stepsLeft k d ≡ suc (stepsLeft k (join d s))
+  pub left-joins : (d : Step → Bool) (s : Step) → IsStep k s → d s ≡ false → stepsLeft k d ≡ suc (stepsLeft k (join d s))
   left-joins d s n e = outside-join d s e (rustOrder k) (rust-distinct k) (rust-has k s n)
 
   -- None left exactly when every step is in the set.
-  pub none-left : (d : Step → Bool) → (stepsLeft k d ≡ 0) ↔ ((s : Step) → Named k s → d s ≡ true)
+  pub none-left : (d : Step → Bool) → (stepsLeft k d ≡ 0) ↔ ((s : Step) → IsStep k s → d s ≡ true)
   none-left d = (
     λ e s n. outside-zero d (rustOrder k) .0 e s (rust-has k s n),
     λ h. outside-zero d (rustOrder k) .1 (λ s m. h s (rust-named k s m)),
@@ -70,7 +70,7 @@ module _ (k : ℕ) where
   left-represents g d is = outside-same d (done g) (rustOrder k) (λ s m. is s (rust-named k s m))
 
   -- and so one less with each ready step.
-  pub left-moved : (g : ℕ → ℕ → ℕ) → Bounded k g → (s : Step) → Named k s → Ready g s → stepsLeft k (done g) ≡ suc (stepsLeft k (done (advance g s)))
+  pub left-moved : (g : ℕ → ℕ → ℕ) → Bounded k g → (s : Step) → IsStep k s → Ready g s → stepsLeft k (done g) ≡ suc (stepsLeft k (done (advance g s)))
   left-moved g most s n r =
       let is : Represents k g (done g) = λ t m. refl in
       left-joins (done g) s n (ready-after k g most (done g) is s n .0 r .0) ∙ ap suc (left-represents (advance g s) (join (done g) s) (represents-moved k g most (done g) is s n r))

@@ -5,14 +5,14 @@ use mathlib.Core.Logic.{_⊎_, inl, inr, ⊎-elim, by-cases}
 use mathlib.Core.List.{List, [], _∷_, List·Memᴰ, List·Memᴰ·head, List·Memᴰ·tail, List·Memᴰ·cases-cons, List·Memᴰ·not-nil}
 use native.Mathlib.Decide.{decLt}
 use native.Mathlib.Omega.{arith}
-use Rattle.step_order.specs.Steps.{Step, row, col, index, Named, Distinct, rustOrder}
+use Rattle.step_order.specs.Steps.{Step, row, col, index, IsStep, Distinct, rustOrder}
 use Rattle.step_order.specs.Progress.{advance}
 use Rattle.step_order.proofs.Tables.{put-all, in-range, step-unique}
 use Rattle.step_order.proofs.RustOrder.{advanceAll, Runs, rust-runs, rust-finishes}
 
 module _ (k : ℕ) where
   -- an order has named steps only
-  runs-named : (g : ℕ → ℕ → ℕ) (l : List Step) → Runs k g l → (s : Step) → List·Memᴰ s l → Named k s
+  runs-named : (g : ℕ → ℕ → ℕ) (l : List Step) → Runs k g l → (s : Step) → List·Memᴰ s l → IsStep k s
   runs-named g [] r s m = absurd (List·Memᴰ·not-nil m)
   runs-named g (t ∷ l) r s m = ⊎-elim (λ e. rw e r.0) (runs-named (advance g t) l r.2 s) (List·Memᴰ·cases-cons m)
 
@@ -34,7 +34,7 @@ module _ (k : ℕ) where
   )
 
   -- a step that is done at the end was done at the start or is in the list
-  pub runs-has : (g : ℕ → ℕ → ℕ) (l : List Step) → Runs k g l → (s : Step) → Named k s → index s < advanceAll g l (row s) (col s)
+  pub runs-has : (g : ℕ → ℕ → ℕ) (l : List Step) → Runs k g l → (s : Step) → IsStep k s → index s < advanceAll g l (row s) (col s)
       → (index s < g (row s) (col s)) ⊎ List·Memᴰ s l
   runs-has g [] r s n d = inl d
   runs-has g (t ∷ l) r s n d =
@@ -47,7 +47,7 @@ module _ (k : ℕ) where
       (runs-has (advance g t) l r.2 s n d)
 
   -- The Rust's order has every step,
-  pub rust-has : (s : Step) → Named k s → List·Memᴰ s (rustOrder k)
+  pub rust-has : (s : Step) → IsStep k s → List·Memᴰ s (rustOrder k)
   rust-has s n =
       ⊎-elim (λ e. absurd (omega arith)) (λ m. m)
       (runs-has (λ i j. 0) (rustOrder k) (rust-runs k) s n (omega (arith, in-range k s n, rust-finishes k (row s) (col s) (in-range k s n .1) (in-range k s n .2))))
@@ -57,5 +57,5 @@ module _ (k : ℕ) where
   rust-distinct = runs-distinct (λ i j. 0) (rustOrder k) (rust-runs k)
 
   -- and nothing else.
-  pub rust-named : (s : Step) → List·Memᴰ s (rustOrder k) → Named k s
+  pub rust-named : (s : Step) → List·Memᴰ s (rustOrder k) → IsStep k s
   rust-named = runs-named (λ i j. 0) (rustOrder k) (rust-runs k)

@@ -6,7 +6,7 @@ use mathlib.Core.Option.{Option, none, some}
 use native.Mathlib.Decide.{decLt, ℕ-discrete}
 use native.Mathlib.Omega.{arith}
 use borrow.Author.Tests.{eq-eqb, ne-eqb}
-use Rattle.step_order.specs.Steps.{Step, S, C, T, col, Named}
+use Rattle.step_order.specs.Steps.{Step, S, C, T, col, IsStep}
 use Rattle.step_order.specs.Elimination.{Rules, orElse, inBlock, value, refusedBefore, refusedAt}
 use Rattle.step_order.specs.Progress.{Ready, State, rowIn, refusedNow, refusedIn}
 use Rattle.step_order.proofs.Invariant.{Held, at-stage, forced}
@@ -76,7 +76,7 @@ module _ (R : Rules) (k : ℕ) (start : ℕ → ℕ → R .Block) where
   pivots-seen u H j n r = ap (R.pivots j) (at-stage R k start u H j j j (omega arith) n r.0)
 
   -- A ready step refuses a pivot exactly when the Rust's order refuses it there.
-  pub refused-same : (u : State R) → Held R k start u → (s : Step) → Named k s → Ready (u .stage) s → refusedNow R s u ≡ refusedIn R k start s
+  pub refused-same : (u : State R) → Held R k start u → (s : Step) → IsStep k s → Ready (u .stage) s → refusedNow R s u ≡ refusedIn R k start s
   refused-same u H (S i j h) n r = refl
   refused-same u H (C j) n r = pivots-seen u H j n r ∙ verdict-in j n (λ i l. H .passed i (omega (arith, forced R k start u H j n r.0)))
   refused-same u H (T i j) n r = refl

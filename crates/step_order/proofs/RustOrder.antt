@@ -6,7 +6,7 @@ use mathlib.Core.List.{List, [], _∷_, _++_}
 use native.Mathlib.Decide.{decLt}
 use native.Mathlib.Nat.{zero-add, add-zero, add-suc, suc-add}
 use native.Mathlib.Omega.{arith}
-use Rattle.step_order.specs.Steps.{Step, S, C, T, row, col, index, Named, each, subtractions, columnSteps, rustOrder}
+use Rattle.step_order.specs.Steps.{Step, S, C, T, row, col, index, IsStep, each, subtractions, columnSteps, rustOrder}
 use Rattle.step_order.specs.Progress.{put, advance, Sources, Ready}
 use Rattle.step_order.proofs.Tables.{put-here, put-else}
 
@@ -18,7 +18,7 @@ advanceAll g (s ∷ l) = advanceAll (advance g s) l
 -- each step of the list is ready by the stages when its turn comes
 abbrev pub Runs : ℕ → (ℕ → ℕ → ℕ) → List Step → Type 0
 Runs k g [] = Unit
-Runs k g (s ∷ l) = Named k s × Ready g s × Runs k (advance g s) l
+Runs k g (s ∷ l) = IsStep k s × Ready g s × Runs k (advance g s) l
 
 module _ (k : ℕ) where
   -- from stages with P the list runs, to stages with Q
@@ -42,7 +42,7 @@ module _ (k : ℕ) where
       then (P a) (P (suc a)) (P (a + suc n)) (f a) (each f (suc a) n) (h a (omega arith) (omega arith))
       (rw (add-suc, ← suc-add) (loop P f (suc a) n (λ i l m. h i (omega arith) (omega arith))))
 
-  one : (P Q : (ℕ → ℕ → ℕ) → Type 0) (s : Step) → ((g : ℕ → ℕ → ℕ) → P g → Named k s × Ready g s × Q (advance g s)) → Takes P (s ∷ []) Q
+  one : (P Q : (ℕ → ℕ → ℕ) → Type 0) (s : Step) → ((g : ℕ → ℕ → ℕ) → P g → IsStep k s × Ready g s × Q (advance g s)) → Takes P (s ∷ []) Q
   unfolding Takes
   one P Q s h g p = ((h g p .0, h g p .1, tt), h g p .2)
 
@@ -91,7 +91,7 @@ module _ (k : ℕ) where
       }
 
   -- all steps of block (i,j), the last being s
-  block : (i j : ℕ) (s : Step) → j ≤ i → i ≤ k → Named k s → row s ≡ i → col s ≡ j → index s ≡ j
+  block : (i j : ℕ) (s : Step) → j ≤ i → i ≤ k → IsStep k s → row s ≡ i → col s ≡ j → index s ≡ j
       → Takes (Reached i j 0) (subtractions i j ++ (s ∷ [])) (Reached (suc i) j 0)
   block i j s l m n x y z =
       then (Reached i j 0) (Reached i j j) (Reached (suc i) j 0) (subtractions i j) (s ∷ [])

@@ -8,7 +8,7 @@ use native.Mathlib.Decide.{decLt}
 use native.Mathlib.Omega.{arith}
 use lib.Dec.{ltb, leb, eqb}
 use borrow.Author.Tests.{lt-ltb, le-ltb, le-leb, eq-eqb, ne-eqb, eqb-true, ltb-true, ltb-false, leb-true}
-use Rattle.step_order.specs.Steps.{Step, S, C, T, row, col, index, Named, named, after}
+use Rattle.step_order.specs.Steps.{Step, S, C, T, row, col, index, IsStep, isStep, forerunners}
 use Rattle.step_order.specs.Elimination.{Rules}
 use Rattle.step_order.specs.Progress.{all, join, joinAll, Order, advance, done, Represents, Bounded, ready, Sources, Ready, State}
 use Rattle.step_order.proofs.Tables.{at, put-here, join-all, in-range, step-unique}
@@ -21,7 +21,7 @@ both-true true b e = (refl, e)
 both-true false b e = absurd (let z : _≡_ {A = ℕ} 0 1 = cc in omega arith)
 
 -- The test of a name is the fact.
-pub named-iff : (k : ℕ) (s : Step) → (named k s ≡ true) ↔ Named k s
+pub named-iff : (k : ℕ) (s : Step) → (isStep k s ≡ true) ↔ IsStep k s
 named-iff k (S i j h) = (
   λ e. let p = both-true (ltb h j) (leb j i && leb i k) e in
       let q = both-true (leb j i) (leb i k) p.1 in
@@ -35,7 +35,7 @@ named-iff k (T i j) = (
 )
 
 -- The test of readiness is the fact.
-pub ready-iff : (k : ℕ) (g : ℕ → ℕ → ℕ) (s : Step) → Named k s → (ready g s ≡ true) ↔ Ready g s
+pub ready-iff : (k : ℕ) (g : ℕ → ℕ → ℕ) (s : Step) → IsStep k s → (ready g s ≡ true) ↔ Ready g s
 ready-iff k g (S i j h) n = (
   λ e. let p = both-true (eqb (g i j) h) (eqb (g i h) (suc h) && eqb (g j h) (suc h)) e in
       let q = both-true (eqb (g i h) (suc h)) (eqb (g j h) (suc h)) p.1 in
@@ -65,7 +65,7 @@ represents-same k f g d e is s n = is s n ∙ ap (ltb (index s)) (e (row s) (col
 
 module _ (k : ℕ) (g : ℕ → ℕ → ℕ) (most : Bounded k g) (d : Step → Bool) (is : Represents k g d) where
   -- of an undone step, the forerunners' test is the test by the stages
-  after-ready : (s : Step) → Named k s → done g s ≡ false → all d (after s) ≡ ready g s
+  after-ready : (s : Step) → IsStep k s → done g s ≡ false → all d (forerunners s) ≡ ready g s
   after-ready (S i j zero) n e =
       let z : g i j ≡ 0 = omega (arith, ltb-false 0 (g i j) e) in
       rw (
@@ -103,7 +103,7 @@ module _ (k : ℕ) (g : ℕ → ℕ → ℕ) (most : Bounded k g) (d : Step → 
       (and-comm (eqb (g (suc j) (suc j)) (suc (suc j))) (eqb (g i (suc j)) (suc j)))
 
   -- A step is ready by the stages exactly when it is not in the set and its forerunners are.
-  pub ready-after : (s : Step) → Named k s → Ready g s ↔ ((d s ≡ false) × (all d (after s) ≡ true))
+  pub ready-after : (s : Step) → IsStep k s → Ready g s ↔ ((d s ≡ false) × (all d (forerunners s) ≡ true))
   ready-after s n = (
     λ r. let e : done g s ≡ false = le-ltb (index s) (g (row s) (col s)) (omega (arith, r.0)) in
         (is s n ∙ e, after-ready s n e ∙ ready-iff k g s n .1 r),
@@ -111,7 +111,7 @@ module _ (k : ℕ) (g : ℕ → ℕ → ℕ) (most : Bounded k g) (d : Step → 
   )
 
   -- A ready step that is done joins the set.
-  pub represents-moved : (s : Step) → Named k s → Ready g s → Represents k (advance g s) (join d s)
+  pub represents-moved : (s : Step) → IsStep k s → Ready g s → Represents k (advance g s) (join d s)
   represents-moved s m r t n =
       join-all (λ x. x ≡ done (advance g s) t) d s t
       (λ e. sym (here (ap row e) (ap col e) ∙ lt-ltb (index t) (suc (index s)) (omega (arith, ap index e))))
@@ -146,11 +146,11 @@ represents-after k (s ∷ l) g most d is r =
     represents-after k l (advance g s) (bounded-moved k g most s r.0) (join d s) (represents-moved k g most d is s r.0 r.1) r.2
 
 -- In an update every done step's forerunners are done.
-pub held-after : (R : Rules) (k : ℕ) (start : ℕ → ℕ → R .Block) (u : State R) → Held R k start u → (s : Step) → Named k s
-    → done (u .stage) s ≡ true → all (done (u .stage)) (after s) ≡ true
+pub held-after : (R : Rules) (k : ℕ) (start : ℕ → ℕ → R .Block) (u : State R) → Held R k start u → (s : Step) → IsStep k s
+    → done (u .stage) s ≡ true → all (done (u .stage)) (forerunners s) ≡ true
 held-after R k start u H s n e = go u.stage s n (ltb-true (index s) (u.stage (row s) (col s)) e) (λ m. H .kept (row s) (col s) (index s) (in-range k s n .1) (in-range k s n .2) m)
   where
-    go : (g : ℕ → ℕ → ℕ) (s : Step) → Named k s → index s < g (row s) (col s) → (index s < g (row s) (col s) → Sources g (row s) (col s) (index s)) → all (done g) (after s) ≡ true
+    go : (g : ℕ → ℕ → ℕ) (s : Step) → IsStep k s → index s < g (row s) (col s) → (index s < g (row s) (col s) → Sources g (row s) (col s) (index s)) → all (done g) (forerunners s) ≡ true
     go g (S i j zero) n m f = rw (lt-ltb 0 (g i 0) (omega (arith, f m .0 n.0)), lt-ltb 0 (g j 0) (omega (arith, f m .1 (omega arith))))
     go g (S i j (suc h)) n m f =
         rw (lt-ltb h (g i j) (omega arith), lt-ltb (suc h) (g i (suc h)) (omega (arith, f m .0 n.0)), lt-ltb (suc h) (g j (suc h)) (omega (arith, f m .1 (omega arith))))

@@ -7,7 +7,7 @@ use native.Mathlib.Decide.{ℕ-discrete}
 use native.Mathlib.Omega.{arith}
 use lib.Dec.{eqb}
 use borrow.Author.Tests.{eq-eqb, eqb-true, eqb-false}
-use Rattle.step_order.specs.Steps.{Step, S, C, T, step-discrete, row, col, index, Named}
+use Rattle.step_order.specs.Steps.{Step, S, C, T, step-discrete, row, col, index, IsStep}
 use Rattle.step_order.specs.Progress.{put, join}
 
 -- a place is the changed one, or another
@@ -40,13 +40,13 @@ join-all P d s t a b = go (step-discrete ℕ-discrete t s) refl
     go (no e) q = rw (q, join) (b e)
 
 -- a step is no further than its target's diagonal, and its target is in the lower triangle
-pub in-range : (k : ℕ) (s : Step) → Named k s → (index s ≤ col s) × (col s ≤ row s) × (row s ≤ k)
+pub in-range : (k : ℕ) (s : Step) → IsStep k s → (index s ≤ col s) × (col s ≤ row s) × (row s ≤ k)
 in-range k (S i j h) n = omega arith
 in-range k (C j) n = omega arith
 in-range k (T i j) n = omega arith
 
 -- target and number fix a step
-pub step-unique : (k : ℕ) (s t : Step) → Named k s → Named k t → row s ≡ row t → col s ≡ col t → index s ≡ index t → s ≡ t
+pub step-unique : (k : ℕ) (s t : Step) → IsStep k s → IsStep k t → row s ≡ row t → col s ≡ col t → index s ≡ index t → s ≡ t
 step-unique k (S i j h) (S a b c) m n x y z = cc
 step-unique k (S i j h) (C b) m n x y z = absurd (omega arith)
 step-unique k (S i j h) (T a b) m n x y z = absurd (omega arith)

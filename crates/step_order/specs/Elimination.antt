@@ -6,7 +6,7 @@ use lib.Dec.{ltb, eqb}
 
 -- What the steps compute. S(i,j,h) is `subtract i j h` of blocks (i,j), (i,h), (j,h); C(j) is `factor j` of block (j,j); T(i,j) is `solve i j` of blocks (i,j), (j,j).
 -- `pivots j` of a block is the row of the pivot that C(j) refuses in it, or none; `factor` is total all the same.
--- The logarithms' sum begins at `nought`, and `logs j` adds those of factor j to it.
+-- The logarithms' sum begins at `emptySum`, and `logs j` adds those of factor j to it.
 pub record Rules : Type 1 where
   pub Block : Type 0
   pub Total : Type 0
@@ -14,7 +14,7 @@ pub record Rules : Type 1 where
   pub pivots : ℕ → Block → Option ℕ
   pub factor : ℕ → Block → Block
   pub solve : ℕ → ℕ → Block → Block → Block
-  pub nought : Total
+  pub emptySum : Total
   pub logs : ℕ → Total → Block → Total
 
 -- the first of two, if there is one
@@ -48,7 +48,7 @@ module _ (R : Rules) where
 
   -- The logarithms' sum after C(0), .., C(n - 1) (Record 4).
   unfoldable pub total : (ℕ → ℕ → R .Block) → ℕ → R .Total
-  total start zero = R .nought
+  total start zero = R .emptySum
   total start (suc j) = R .logs j (total start j) (final start j j)
 
   -- The first pivot that is refused in C(0), .., C(n - 1): block and row.

@@ -6,7 +6,7 @@ use mathlib.Core.List.{List, [], _∷_}
 use mathlib.Core.Option.{Option, none, some}
 use native.Mathlib.Decide.{ℕ-discrete}
 use lib.Dec.{ltb, eqb}
-use Rattle.step_order.specs.Steps.{Step, S, C, T, step-discrete, row, col, index, Named, after, rustOrder}
+use Rattle.step_order.specs.Steps.{Step, S, C, T, step-discrete, row, col, index, IsStep, forerunners, rustOrder}
 use Rattle.step_order.specs.Elimination.{Rules, refusedAt}
 
 -- ---- the set of done steps, as Record 5's book has it
@@ -37,7 +37,7 @@ stepsLeft k d = outside d (rustOrder k)
 -- An order of steps, from the set d on: each, when its turn comes, is not in the set and its forerunners are (Record 5: it is ready).
 abbrev pub Order : ℕ → (Step → Bool) → List Step → Type 0
 Order k d [] = Unit
-Order k d (s ∷ l) = Named k s × (d s ≡ false) × (all d (after s) ≡ true) × Order k (join d s) l
+Order k d (s ∷ l) = IsStep k s × (d s ≡ false) × (all d (forerunners s) ≡ true) × Order k (join d s) l
 
 -- ---- stages, as a program keeps them (Record 5): g i j is the number of subtractions done on block (i,j), and j + 1 when it is solved
 
@@ -55,7 +55,7 @@ done g s = ltb (index s) (g (row s) (col s))
 
 -- The stages g stand for the set d.
 abbrev pub Represents : ℕ → (ℕ → ℕ → ℕ) → (Step → Bool) → Type 0
-Represents k g d = (s : Step) → Named k s → d s ≡ done g s
+Represents k g d = (s : Step) → IsStep k s → d s ≡ done g s
 
 -- No block has more steps done than it has.
 abbrev pub Bounded : ℕ → (ℕ → ℕ → ℕ) → Type 0
@@ -90,7 +90,7 @@ module _ (R : Rules) where
 
   -- Begin: no step is done, and the blocks are those that it wrote.
   abbrev pub begun : (ℕ → ℕ → R .Block) → State
-  begun start = record { stage = λ i j. 0; block = start; sum = R .nought }
+  begun start = record { stage = λ i j. 0; block = start; sum = R .emptySum }
 
   -- What step s makes of its target, out of the blocks as they are then (Record 4).
   abbrev pub made : Step → State → R .Block

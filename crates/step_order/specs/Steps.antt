@@ -28,25 +28,25 @@ index (C j) = j
 index (T i j) = j
 
 -- The steps there are when the last block is k (Record 4): every other name is refusal 21.
-abbrev pub Named : ℕ → Step → Type 0
-Named k (S i j h) = (h < j) × (j ≤ i) × (i ≤ k)
-Named k (C j) = j ≤ k
-Named k (T i j) = (j < i) × (i ≤ k)
+abbrev pub IsStep : ℕ → Step → Type 0
+IsStep k (S i j h) = (h < j) × (j ≤ i) × (i ≤ k)
+IsStep k (C j) = j ≤ k
+IsStep k (T i j) = (j < i) × (i ≤ k)
 
 -- The same as a test.
-abbrev pub named : ℕ → Step → Bool
-named k (S i j h) = ltb h j && (leb j i && leb i k)
-named k (C j) = leb j k
-named k (T i j) = ltb j i && leb i k
+abbrev pub isStep : ℕ → Step → Bool
+isStep k (S i j h) = ltb h j && (leb j i && leb i k)
+isStep k (C j) = leb j k
+isStep k (T i j) = ltb j i && leb i k
 
 -- A step's forerunners: Record 4's "After".
-abbrev pub after : Step → List Step
-after (S i j zero) = T i 0 ∷ T j 0 ∷ []
-after (S i j (suc h)) = S i j h ∷ T i (suc h) ∷ T j (suc h) ∷ []
-after (C zero) = []
-after (C (suc j)) = S (suc j) (suc j) j ∷ []
-after (T i zero) = C 0 ∷ []
-after (T i (suc j)) = C (suc j) ∷ S i (suc j) j ∷ []
+abbrev pub forerunners : Step → List Step
+forerunners (S i j zero) = T i 0 ∷ T j 0 ∷ []
+forerunners (S i j (suc h)) = S i j h ∷ T i (suc h) ∷ T j (suc h) ∷ []
+forerunners (C zero) = []
+forerunners (C (suc j)) = S (suc j) (suc j) j ∷ []
+forerunners (T i zero) = C 0 ∷ []
+forerunners (T i (suc j)) = C (suc j) ∷ S i (suc j) j ∷ []
 
 -- f a, f (a + 1), .., n lists one after the other
 abbrev pub each : (ℕ → List Step) → ℕ → ℕ → List Step

@@ -1,1 +1,2 @@
-// Definitions and theorems alone: the steps of an update, their order, and that the result does not depend on it.
+// The steps of an update, their forerunners and the Rust's order (document 01, Records 4 and 5), as definitions in specs/; the theorem that no order
+// changes the result in proofs/.

@@ -1,6 +1,6 @@
-// A list of words on standard input: lines of sixteen lower-case hexadecimal digits and a line feed, a word each. A test program reads its
-// cases from one, and what it prints of them is held to the file stdout, which a script made. Nothing is tested here: a list out of form shows
-// in what is printed.
+// Reads the list of words that a test program is given on standard input: lines of sixteen lower-case hexadecimal digits and a line feed, a word
+// each. What the program prints of them is held to its file stdout, which a script made. Nothing is tested here: a list out of form shows in what is
+// printed.
 ghost use Prim.Native.Nat.{_≤_};
 use libc::STDIN_FILENO;
 use libc::STDOUT_FILENO;

@@ -1,4 +1,4 @@
-// Writes bytes, numbers and words into lent bytes, from a place on, and answers the place behind (document 01, "Worked sheets").
+// Writes bytes, numbers and words as text into lent bytes, from a place on, and answers the place behind (document 01, "Worked sheets").
 pub mod print_lines;
 
 ghost use mathlib.Core.Path.{_≡_};

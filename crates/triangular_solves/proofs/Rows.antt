@@ -10,14 +10,14 @@ use lib.ListN.{length}
 use lib.Ieee.{Float}
 use Rattle.storage.specs.Part.{part}
 use Rattle.layout.specs.declared.Layout.{Layout}
-use Rattle.heading_format.specs.Heading.{lawful, layoutOf}
+use Rattle.heading_format.specs.Heading.{validLayout, layoutOf}
 use Rattle.profile.specs.Solves.{solvedFor, scaledRow}
 use Rattle.profile.specs.Finish.{inSheetOrder, wOf}
 use Rattle.solution_vectors.specs.Vectors.{blocksAt, withVector, Sized}
 use Rattle.solution_vectors.proofs.Vectors.{length-vector, vector-rows, read-vector, vector-else}
 use Rattle.solution_vectors.proofs.solve_laws.InTurn.{vector-over}
 use Rattle.solution_vectors.proofs.solve_laws.Solves.{sized-solved}
-use Rattle.solution_vectors.specs.result_places.Places.{solvedAt, wholeLength, Solved}
+use Rattle.solution_vectors.specs.result_places.Places.{wAt, resultLengthOf, Solved}
 use Rattle.solution_vectors.proofs.result_places.Parts.{solved-inside, solved-apart}
 
 -- w of row r, by a layout that equals the heading's
@@ -28,19 +28,19 @@ solved-row h w y is r = ap (λ (x : Layout). inSheetOrder x (solvedFor h w (scal
 -- the w of the first r rows stand in their places
 pub record Rows (h : List ℕ) (w : List Float) (y : Layout) (v : List Float) (r : ℕ) : Type 0 where
   pub within : r ≤ y .p + 1
-  pub long : length v ≡ wholeLength y
+  pub long : length v ≡ resultLengthOf y
   pub solved : Solved h w y r v
 
 module _ {h : List ℕ} {w : List Float} {y : Layout} where
-  pub rows-none : {v : List Float} → length v ≡ wholeLength y → Rows h w y v 0
+  pub rows-none : {v : List Float} → length v ≡ resultLengthOf y → Rows h w y v 0
   rows-none e = record { within = omega arith; long = e; solved = λ s l. absurd (omega arith) }
 
   -- the next one's place lies inside
-  pub rows-room : {v : List Float} {r from : ℕ} → Rows h w y v r → r ≤ y .p → from ≡ solvedAt y r → from + y .q ≤ length v
+  pub rows-room : {v : List Float} {r from : ℕ} → Rows h w y v r → r ≤ y .p → from ≡ wAt y r → from + y .q ≤ length v
   rows-room {v} {r} {from} e m at = omega (arith, solved-inside y r m, e.long)
 
   -- v of the row in the place of its w, and solved there
-  pub rows-more : y ≡ layoutOf h → lawful y ≡ true → {v v₁ v₂ : List Float} {r : ℕ} → Rows h w y v r → r ≤ y .p → (from : ℕ) → from ≡ solvedAt y r
+  pub rows-more : y ≡ layoutOf h → validLayout y ≡ true → {v v₁ v₂ : List Float} {r : ℕ} → Rows h w y v r → r ≤ y .p → (from : ℕ) → from ≡ wAt y r
       → Sized y (scaledRow h w r) → v₁ ≡ withVector y from (scaledRow h w r) v → v₂ ≡ withVector y from (solvedFor h w (blocksAt y from v₁)) v₁
       → Rows h w y v₂ (r + 1)
   rows-more is ok {v} {v₁} {v₂} {r} e m from at sized p q =
@@ -56,8 +56,8 @@ module _ {h : List ℕ} {w : List Float} {y : Layout} where
         long = ap length same ∙ length-vector y ok from z done v fits ∙ e.long;
         solved =
             λ s n. by-cases (decLt s r)
-            (λ a. ap (part (solvedAt y s) y.q) same
-            ∙ vector-else y ok from z done v fits (solvedAt y s) y.q
+            (λ a. ap (part (wAt y s) y.q) same
+            ∙ vector-else y ok from z done v fits (wAt y s) y.q
             (⊎-elim (λ b. inl (omega arith)) (λ b. inr (omega arith)) (solved-apart y s r (omega arith) m (λ b. omega arith)))
             ∙ e.solved s a)
             (λ a. let b : s ≡ r = omega arith in

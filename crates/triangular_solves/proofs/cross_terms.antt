@@ -1,1 +1,1 @@
-pub mod Less
+pub mod Subtracted

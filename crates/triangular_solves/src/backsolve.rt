@@ -11,10 +11,10 @@ use crate::forward_solve;
 use layout::Layout;
 
 // Forward, then backward.
-pub fn backsolve_a_inv(y: Layout, h: &[u32], w: &[f64], v: &mut [f64], from: usize)
-    requires { ⌜ (y ≡ layoutOf (now h)) × Fits (now h) (length (now w)) × (from + y .q ≤ length (now v)) ⌝ }
-    ensures { λ _. ⌜ now (v .exit) ≡ withVector y from (solvedFor (now (h .entry)) (now (w .entry)) (blocksAt y from (now (v .entry)))) (now (v .entry)) ⌝ }
+pub fn backsolve_a_inv(layout: Layout, heading: &[u32], doubles: &[f64], v: &mut [f64], from: usize)
+    requires { ⌜ (layout ≡ layoutOf (now heading)) × Fits (now heading) (length (now doubles)) × (from + layout .q ≤ length (now v)) ⌝ }
+    ensures { λ _. ⌜ now (v .exit) ≡ withVector layout from (solvedFor (now (heading .entry)) (now (doubles .entry)) (blocksAt layout from (now (v .entry)))) (now (v .entry)) ⌝ }
 {
-    forward_solve::forward_solve_ld(y, h, w, v, from);
-    backward_solve::backward_solve_ld(y, h, w, v, from);
+    forward_solve::forward_solve_ld(layout, heading, doubles, v, from);
+    backward_solve::backward_solve_ld(layout, heading, doubles, v, from);
 }

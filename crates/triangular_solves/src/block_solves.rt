@@ -1,5 +1,5 @@
 // A block of the vector solved with its factor (document 01, Record 7; the Rust's `forward_solve_block`, `backward_solve_block`), at the places of a
-// layout: substitution with a triangle, division by a diagonal. What is left is defined in the crate vectors.
+// layout: substitution with a triangle, division by a diagonal. What is left is defined in the crate solution_vectors.
 ghost use mathlib.Core.Path.{_≡_};
 ghost use Prim.Native.Nat.{_+_, _≤_, _<_};
 ghost use lib.ListN.{length};
@@ -14,31 +14,45 @@ use re_factor::block_divide;
 use re_factor::block_solve;
 
 // Going forward.
-pub fn forward_in(y: Layout, h: &[u32], w: &[f64], v: &mut [f64], from: usize, i: u64)
-    requires { ⌜ (y ≡ layoutOf (now h)) × Fits (now h) (length (now w)) × (i < y .k) × (from + y .q ≤ length (now v)) ⌝ }
-    ensures { λ _. ⌜ now (v .exit) ≡ solvedForwardIn (now (h .entry)) (now (w .entry)) y from i (now (v .entry)) ⌝ }
+pub fn forward_in(
+    layout: Layout,
+    heading: &[u32],
+    doubles: &[f64],
+    v: &mut [f64],
+    from: usize,
+    i: u64,
+)
+    requires { ⌜ (layout ≡ layoutOf (now heading)) × Fits (now heading) (length (now doubles)) × (i < layout .k) × (from + layout .q ≤ length (now v)) ⌝ }
+    ensures { λ _. ⌜ now (v .exit) ≡ solvedForwardIn (now (heading .entry)) (now (doubles .entry)) layout from i (now (v .entry)) ⌝ }
 {
-    let z = from + sheet_rows::first_row(y, i as usize) as usize;
-    let off = places::working_at(y, i, i);
-    let n = block_kinds::rows_of(y, i);
-    if block_kinds::is_diagonal(y, i) {
-        block_divide::divide(v, z, w, off, n);
+    let z = from + sheet_rows::first_row(layout, i as usize) as usize;
+    let off = places::working_at(layout, i, i);
+    let n = block_kinds::rows_of(layout, i);
+    if block_kinds::is_diagonal(layout, i) {
+        block_divide::divide(v, z, doubles, off, n);
         return;
     }
-    block_solve::forward(v, z, w, off, n);
+    block_solve::forward(v, z, doubles, off, n);
 }
 
 // Going backward.
-pub fn backward_in(y: Layout, h: &[u32], w: &[f64], v: &mut [f64], from: usize, i: u64)
-    requires { ⌜ (y ≡ layoutOf (now h)) × Fits (now h) (length (now w)) × (i < y .k) × (from + y .q ≤ length (now v)) ⌝ }
-    ensures { λ _. ⌜ now (v .exit) ≡ solvedBackwardIn (now (h .entry)) (now (w .entry)) y from i (now (v .entry)) ⌝ }
+pub fn backward_in(
+    layout: Layout,
+    heading: &[u32],
+    doubles: &[f64],
+    v: &mut [f64],
+    from: usize,
+    i: u64,
+)
+    requires { ⌜ (layout ≡ layoutOf (now heading)) × Fits (now heading) (length (now doubles)) × (i < layout .k) × (from + layout .q ≤ length (now v)) ⌝ }
+    ensures { λ _. ⌜ now (v .exit) ≡ solvedBackwardIn (now (heading .entry)) (now (doubles .entry)) layout from i (now (v .entry)) ⌝ }
 {
-    let first = from + sheet_rows::first_row(y, i as usize) as usize;
-    let off = places::working_at(y, i, i);
-    let n = block_kinds::rows_of(y, i);
-    if block_kinds::is_diagonal(y, i) {
-        block_divide::divide(v, first, w, off, n);
+    let first = from + sheet_rows::first_row(layout, i as usize) as usize;
+    let off = places::working_at(layout, i, i);
+    let n = block_kinds::rows_of(layout, i);
+    if block_kinds::is_diagonal(layout, i) {
+        block_divide::divide(v, first, doubles, off, n);
         return;
     }
-    block_solve::backward(v, first, w, off, n);
+    block_solve::backward(v, first, doubles, off, n);
 }

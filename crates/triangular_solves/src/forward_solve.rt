@@ -7,33 +7,46 @@ ghost use Rattle.rules.specs.Cholesky.{at};
 ghost use Rattle.heading_format.specs.Heading.{layoutOf};
 ghost use Rattle.heading_format.specs.Fits.{Fits};
 ghost use Rattle.workspace.specs.Memory.{workingBlock};
-ghost use Rattle.profile.specs.Solves.{factorShapeOf, forwardIn, lessFirst, forwardSolved};
+ghost use Rattle.profile.specs.Solves.{factorShapeOf, forwardIn, subtractFirst, forwardSolved};
 ghost use Rattle.solution_vectors.specs.Vectors.{blockAt, blocksAt, withBlockAt, withVector};
 use crate::block_solves;
 use crate::cross_terms;
 use layout::Layout;
 
 // Block i: less its cross blocks times the blocks before it, in turn, then solved with its factor.
-fn forward_block(y: Layout, h: &[u32], w: &[f64], v: &mut [f64], from: usize, i: u64)
-    requires { ⌜ (y ≡ layoutOf (now h)) × Fits (now h) (length (now w)) × (i < y .k) × (from + y .q ≤ length (now v)) ⌝ }
-    ensures { λ _. ⌜ now (v .exit) ≡ withBlockAt y from i (forwardIn (factorShapeOf (now (h .entry)) (now (w .entry)) i) (workingBlock (now (h .entry)) (now (w .entry)) i i) (lessFirst (now (h .entry)) (now (w .entry)) i (blocksAt y from (now (v .entry))) (at ieee (blockAt y from (now (v .entry)) i)) i)) (now (v .entry)) ⌝ }
+fn forward_block(
+    layout: Layout,
+    heading: &[u32],
+    doubles: &[f64],
+    v: &mut [f64],
+    from: usize,
+    i: u64,
+)
+    requires { ⌜ (layout ≡ layoutOf (now heading)) × Fits (now heading) (length (now doubles)) × (i < layout .k) × (from + layout .q ≤ length (now v)) ⌝ }
+    ensures { λ _. ⌜ now (v .exit) ≡ withBlockAt layout from i (forwardIn (factorShapeOf (now (heading .entry)) (now (doubles .entry)) i) (workingBlock (now (heading .entry)) (now (doubles .entry)) i i) (subtractFirst (now (heading .entry)) (now (doubles .entry)) i (blocksAt layout from (now (v .entry))) (at ieee (blockAt layout from (now (v .entry)) i)) i)) (now (v .entry)) ⌝ }
 {
     let mut j: u64 = 0;
     while j < i {
-        cross_terms::less_forward(y, h, w, v, from, i, j);
+        cross_terms::subtract_forward(layout, heading, doubles, v, from, i, j);
         j += 1;
     }
-    block_solves::forward_in(y, h, w, v, from, i);
+    block_solves::forward_in(layout, heading, doubles, v, from, i);
 }
 
 // All blocks in turn.
-pub fn forward_solve_ld(y: Layout, h: &[u32], w: &[f64], v: &mut [f64], from: usize)
-    requires { ⌜ (y ≡ layoutOf (now h)) × Fits (now h) (length (now w)) × (from + y .q ≤ length (now v)) ⌝ }
-    ensures { λ _. ⌜ now (v .exit) ≡ withVector y from (forwardSolved (now (h .entry)) (now (w .entry)) (blocksAt y from (now (v .entry))) (y .k)) (now (v .entry)) ⌝ }
+pub fn forward_solve_ld(
+    layout: Layout,
+    heading: &[u32],
+    doubles: &[f64],
+    v: &mut [f64],
+    from: usize,
+)
+    requires { ⌜ (layout ≡ layoutOf (now heading)) × Fits (now heading) (length (now doubles)) × (from + layout .q ≤ length (now v)) ⌝ }
+    ensures { λ _. ⌜ now (v .exit) ≡ withVector layout from (forwardSolved (now (heading .entry)) (now (doubles .entry)) (blocksAt layout from (now (v .entry))) (layout .k)) (now (v .entry)) ⌝ }
 {
     let mut i: u64 = 0;
-    while i < y.k {
-        forward_block(y, h, w, v, from, i);
+    while i < layout.k {
+        forward_block(layout, heading, doubles, v, from, i);
         i += 1;
     }
 }

@@ -1,4 +1,5 @@
-// w of every fixed row (document 01, Record 7): its v in the place of w, solved there.
+// The solves with the factor, in place (document 01, Record 7; the Rust's `forward_solve_ld`, `backward_solve_ld`, `backsolve_a_inv`). At the root w
+// of every fixed row: its v is put in the place of w and solved there.
 mod backsolve;
 mod backward_solve;
 mod block_solves;
@@ -11,21 +12,21 @@ ghost use Prim.Native.Nat.{_+_};
 ghost use lib.ListN.{length};
 ghost use Rattle.heading_format.specs.Heading.{layoutOf};
 ghost use Rattle.heading_format.specs.Fits.{Fits};
-ghost use Rattle.solution_vectors.specs.result_places.Places.{wholeLength, Solved};
+ghost use Rattle.solution_vectors.specs.result_places.Places.{resultLengthOf, Solved};
 use layout::Layout;
 use solution_vectors::result_places;
 
 // Rows 0 to p - 1, and the response's.
-pub fn solve_all(y: Layout, h: &[u32], w: &[f64], v: &mut [f64])
-    requires { ⌜ (y ≡ layoutOf (now h)) × Fits (now h) (length (now w)) × (length (now v) ≡ wholeLength y) ⌝ }
-    ensures { λ _. ⌜ Solved (now (h .entry)) (now (w .entry)) y (y .p + 1) (now (v .exit)) ⌝ }
+pub fn solve_all(layout: Layout, heading: &[u32], doubles: &[f64], v: &mut [f64])
+    requires { ⌜ (layout ≡ layoutOf (now heading)) × Fits (now heading) (length (now doubles)) × (length (now v) ≡ resultLengthOf layout) ⌝ }
+    ensures { λ _. ⌜ Solved (now (heading .entry)) (now (doubles .entry)) layout (layout .p + 1) (now (v .exit)) ⌝ }
 {
-    let p = y.p as usize;
+    let p = layout.p as usize;
     let mut r = 0;
     while r <= p {
-        let from = result_places::solved_at(y, r);
-        scaled_row::scale_row(y, h, w, v, from, r);
-        backsolve::backsolve_a_inv(y, h, w, v, from);
+        let from = result_places::w_at(layout, r);
+        scaled_row::scale_row(layout, heading, doubles, v, from, r);
+        backsolve::backsolve_a_inv(layout, heading, doubles, v, from);
         r += 1;
     }
 }

@@ -19,18 +19,18 @@ use block_places::sheet_rows;
 use layout::Layout;
 
 // Theta of sorted block j: theta is kept in sheet order.
-pub fn theta_of(y: Layout, h: &[u32], w: &[f64], j: u64) -> f64
-    requires { ⌜ (y ≡ layoutOf (now h)) × Fits (now h) (length (now w)) × (j < y .k) ⌝ }
-    ensures { λ t. ⌜ t ≡ thetaOf (now (h .entry)) (now (w .entry)) j ⌝ }
+pub fn theta_of(layout: Layout, heading: &[u32], doubles: &[f64], j: u64) -> f64
+    requires { ⌜ (layout ≡ layoutOf (now heading)) × Fits (now heading) (length (now doubles)) × (j < layout .k) ⌝ }
+    ensures { λ t. ⌜ t ≡ thetaOf (now (heading .entry)) (now (doubles .entry)) j ⌝ }
 {
     let t = j as usize;
-    let sheet = y.order[t] as usize;
-    w[places::theta_at(y) + sheet]
+    let sheet = layout.order[t] as usize;
+    doubles[places::theta_at(layout) + sheet]
 }
 
-// Row r of the n columns of `rows` doubles that lie in w from src on, times theta, into v from `to` on.
+// Row r of the n columns of `rows` doubles that lie in `doubles` from src on, times theta, into v from `to` on.
 fn scale_cells(
-    w: &[f64],
+    doubles: &[f64],
     src: usize,
     rows: usize,
     n: usize,
@@ -39,39 +39,54 @@ fn scale_cells(
     v: &mut [f64],
     to: usize,
 )
-    requires { ⌜ (src + rows * n ≤ length (now w)) × (r < rows) × (to + n ≤ length (now v)) ⌝ }
-    ensures { λ _. ⌜ now (v .exit) ≡ store to (tab n (λ c. fixedCell ieee theta (block src (columns rows n) (now (w .entry)) r c))) (now (v .entry)) ⌝ }
+    requires { ⌜ (src + rows * n ≤ length (now doubles)) × (r < rows) × (to + n ≤ length (now v)) ⌝ }
+    ensures { λ _. ⌜ now (v .exit) ≡ store to (tab n (λ c. fixedCell ieee theta (block src (columns rows n) (now (doubles .entry)) r c))) (now (v .entry)) ⌝ }
 {
     let mut column = src;
     let mut c = 0;
     while c < n {
-        v[to + c] = w[column + r] * theta;
+        v[to + c] = doubles[column + r] * theta;
         column += rows;
         c += 1;
     }
 }
 
 // The cells of sorted block j.
-fn scale_block(y: Layout, h: &[u32], w: &[f64], v: &mut [f64], from: usize, r: usize, j: u64)
-    requires { ⌜ (y ≡ layoutOf (now h)) × Fits (now h) (length (now w)) × (r ≤ y .p) × (j < y .k) × (from + y .q ≤ length (now v)) ⌝ }
-    ensures { λ _. ⌜ now (v .exit) ≡ withBlockAt y from j (blockIn (scaledRow (now (h .entry)) (now (w .entry)) r) j) (now (v .entry)) ⌝ }
+fn scale_block(
+    layout: Layout,
+    heading: &[u32],
+    doubles: &[f64],
+    v: &mut [f64],
+    from: usize,
+    r: usize,
+    j: u64,
+)
+    requires { ⌜ (layout ≡ layoutOf (now heading)) × Fits (now heading) (length (now doubles)) × (r ≤ layout .p) × (j < layout .k) × (from + layout .q ≤ length (now v)) ⌝ }
+    ensures { λ _. ⌜ now (v .exit) ≡ withBlockAt layout from j (blockIn (scaledRow (now (heading .entry)) (now (doubles .entry)) r) j) (now (v .entry)) ⌝ }
 {
-    let theta = theta_of(y, h, w, j);
-    let to = from + sheet_rows::first_row(y, j as usize) as usize;
-    let n = block_kinds::rows_of(y, j);
-    let rows = block_kinds::rows_of(y, y.k);
-    let src = places::loaded_at(y, y.k, j);
-    scale_cells(w, src, rows, n, r, theta, v, to);
+    let theta = theta_of(layout, heading, doubles, j);
+    let to = from + sheet_rows::first_row(layout, j as usize) as usize;
+    let n = block_kinds::rows_of(layout, j);
+    let rows = block_kinds::rows_of(layout, layout.k);
+    let src = places::loaded_at(layout, layout.k, j);
+    scale_cells(doubles, src, rows, n, r, theta, v, to);
 }
 
 // Row r of the fixed rows, the response's being row p: the q doubles of v from `from` on.
-pub fn scale_row(y: Layout, h: &[u32], w: &[f64], v: &mut [f64], from: usize, r: usize)
-    requires { ⌜ (y ≡ layoutOf (now h)) × Fits (now h) (length (now w)) × (r ≤ y .p) × (from + y .q ≤ length (now v)) ⌝ }
-    ensures { λ _. ⌜ now (v .exit) ≡ withVector y from (scaledRow (now (h .entry)) (now (w .entry)) r) (now (v .entry)) ⌝ }
+pub fn scale_row(
+    layout: Layout,
+    heading: &[u32],
+    doubles: &[f64],
+    v: &mut [f64],
+    from: usize,
+    r: usize,
+)
+    requires { ⌜ (layout ≡ layoutOf (now heading)) × Fits (now heading) (length (now doubles)) × (r ≤ layout .p) × (from + layout .q ≤ length (now v)) ⌝ }
+    ensures { λ _. ⌜ now (v .exit) ≡ withVector layout from (scaledRow (now (heading .entry)) (now (doubles .entry)) r) (now (v .entry)) ⌝ }
 {
     let mut j: u64 = 0;
-    while j < y.k {
-        scale_block(y, h, w, v, from, r, j);
+    while j < layout.k {
+        scale_block(layout, heading, doubles, v, from, r, j);
         j += 1;
     }
 }

@@ -15,7 +15,9 @@ use Rattle.heading_format.specs.Heading.{written, progressOf, progressNumbers, 
 use Rattle.workspace.specs.Compute.{leaves, word, words}
 use Rattle.workspace.specs.Memory.{Workspace, workingBlock}
 use Rattle.refusal.specs.Numbers.{refusalOf}
-use Rattle.workspace.specs.Answers.{Outcome, space}
+use Rattle.workspace.specs.Answers.{Outcome, workspace}
+use Rattle.update.specs.declared.StepName.the-variants.{S as Subtract, C as Factor, T as Solve}
+use Rattle.update.specs.Names.{stepOfName}
 use Rattle.update.specs.Compute.{steps}
 use Rattle.update.specs.Calls.{beginOf, stepOf, runOf}
 
@@ -38,7 +40,7 @@ layout =
 -- 14 loaded numbers and 17 working doubles; loaded block (2,2) has rows 1 and 1, 9
 unfoldable fresh : Workspace
 unfolding written progressNumbers rustOrder
-fresh = space (written layout (idle 2)) (replicate 13 one ++ (word 0x4022000000000000 ∷ replicate 17 nan))
+fresh = workspace (written layout (idle 2)) (replicate 13 one ++ (word 0x4022000000000000 ∷ replicate 17 nan))
 
 unfoldable begun : Outcome
 unfolding fresh steps beginOf
@@ -83,6 +85,10 @@ nothing-under-way = refl
 no-such-step : refusalOf (done (T 0 1 ∷ []) .answer) .number ≡ 21
 unfolding done
 no-such-step = refl
+
+-- a name is the step with its own numbers
+names : (stepOfName (Subtract 2 1 0) ≡ S 2 1 0) × (stepOfName (Factor 1) ≡ C 1) × (stepOfName (Solve 2 1) ≡ T 2 1)
+names = (refl, refl, refl)
 
 -- ten steps are left, and nine after C(0)
 ten-left : progressOf (begun .left .heading) .left ≡ 10

@@ -8,7 +8,7 @@ use lib.ListN.{length, getD}
 use lib.Ieee.{Float}
 use Rattle.storage.specs.Runs.{start, triangle}
 use Rattle.storage.specs.Part.{store}
-use Rattle.step_order.specs.Steps.{Step, S, C, T, row, col, index, named, after}
+use Rattle.step_order.specs.Steps.{Step, S, C, T, row, col, index, isStep, forerunners}
 use Rattle.step_order.specs.Progress.{all, done}
 use Rattle.rules.specs.Arithmetic.{ieee}
 use Rattle.heading_format.specs.declared.Progress.{Progress}
@@ -19,10 +19,10 @@ use Rattle.refusal.specs.declared.Answer.the-variants.{Accepted, Refused}
 use Rattle.refusal.specs.Numbers.{refuse}
 use Rattle.heading_format.specs.Marked.{marked}
 use Rattle.layout.specs.Shapes.{Target, pick, targets, thetaAt, workingAt, sumAt}
-use Rattle.heading_format.specs.Heading.{layoutOf, progressOf, stageOf, entryRow, headed, idle, underWay}
+use Rattle.heading_format.specs.Heading.{layoutOf, progressOf, stageOf, entryRow, validHeading, idle, underWay}
 use Rattle.workspace.specs.Memory.{Workspace, loadedBlock, workingBlock, loadedSome, logSum, headingWith, cleared}
-use Rattle.workspace.specs.Answers.{Outcome, space, untouched, firstInfinite, unlessAt}
-use Rattle.update.specs.Working.{rulesOf, started}
+use Rattle.workspace.specs.Answers.{Outcome, workspace, untouched, firstInfinite, unlessAt}
+use Rattle.update.specs.Working.{rulesOf, scaled}
 
 -- ---- progress
 -- one step more
@@ -31,27 +31,27 @@ advanced g s = marked g (start triangle (row s) + col s) (suc (index s))
 
 -- ---- begin
 -- the working blocks, written one after the other
-unfoldable pub storeStarted : List ℕ → List Float → (ℕ → Float) → List Target → List Float → List Float
-storeStarted h w t [] v = v
-storeStarted h w t (b ∷ l) v =
+unfoldable pub storeScaled : List ℕ → List Float → (ℕ → Float) → List Target → List Float → List Float
+storeScaled h w t [] v = v
+storeScaled h w t (b ∷ l) v =
     let y = layoutOf h in
-    storeStarted h w t l
-    (store (workingAt y (b .row) (b .col)) (started y (entryRow h) (loadedSome h w) t (b .row) (b .col) (loadedBlock h w (b .row) (b .col))) v)
+    storeScaled h w t l
+    (store (workingAt y (b .row) (b .col)) (scaled y (entryRow h) (loadedSome h w) t (b .row) (b .col) (loadedBlock h w (b .row) (b .col))) v)
 
 -- theta kept, the blocks started, the sum +0.0; every step is left. theta is in sheet order, and sorted block j has that of its sheet index.
 unfoldable pub begun : List ℕ → List Float → List Float → Workspace
-unfolding storeStarted
+unfolding storeScaled
 begun h w theta =
     let y = layoutOf h in
     let t : ℕ → Float = λ j. getD theta (getD (y .order) j 0) (ieee .zero) in
-    space (headingWith h (underWay (y .k)))
-    (store (sumAt y) (ieee .zero ∷ []) (storeStarted h w t (targets (y .k)) (store (thetaAt y) theta w)))
+    workspace (headingWith h (underWay (y .k)))
+    (store (sumAt y) (ieee .zero ∷ []) (storeScaled h w t (targets (y .k)) (store (thetaAt y) theta w)))
 
 -- 20, then 13, then 14
 unfoldable pub beginOf : List ℕ → List Float → List Float → Outcome
-unfolding headed begun firstInfinite
+unfolding validHeading begun firstInfinite
 beginOf h w theta =
-    pick (headed h (length w))
+    pick (validHeading h (length w))
     (pick (eqb (length theta) (layoutOf h .k))
     (unlessAt (firstInfinite 0 theta) (λ i. untouched h w 14 0 i) (record { answer = Accepted; left = begun h w theta }))
     (untouched h w 13 0 0))
@@ -87,11 +87,11 @@ module _ (h : List ℕ) (w : List Float) where
   unfolding madeBy sumBy
   stepped s =
       let y = layoutOf h in
-      space (headingWith h (advanced (progressOf h) s)) (store (sumAt y) (sumBy s ∷ []) (store (workingAt y (row s) (col s)) (madeBy s) w))
+      workspace (headingWith h (advanced (progressOf h) s)) (store (sumAt y) (sumBy s ∷ []) (store (workingAt y (row s) (col s)) (madeBy s) w))
 
   -- 26: working doubles +0.0, progress none
   abbrev pub dropped : Workspace
-  dropped = space (headingWith h (idle (layoutOf h .k))) (cleared (layoutOf h) w)
+  dropped = workspace (headingWith h (idle (layoutOf h .k))) (cleared (layoutOf h) w)
 
   abbrev pub onPivot : Option ℕ → Step → Outcome
   onPivot none s = record { answer = Accepted; left = stepped s }
@@ -99,13 +99,13 @@ module _ (h : List ℕ) (w : List Float) where
 
   -- 20, 22, 21, 23, 24, 26
   unfoldable pub stepOf : Step → Outcome
-  unfolding headed refusedBy stepped
+  unfolding validHeading refusedBy stepped
   stepOf s =
       let d = done (stageOf (progressOf h)) in
-      pick (headed h (length w))
+      pick (validHeading h (length w))
       (pick (isUnderWay (progressOf h .state))
-      (pick (named (layoutOf h .k) s)
-      (pick (d s) (untouched h w 23 0 0) (pick (all d (after s)) (onPivot (refusedBy s) s) (untouched h w 24 0 0)))
+      (pick (isStep (layoutOf h .k) s)
+      (pick (d s) (untouched h w 23 0 0) (pick (all d (forerunners s)) (onPivot (refusedBy s) s) (untouched h w 24 0 0)))
       (untouched h w 21 0 0))
       (untouched h w 22 0 0))
       (untouched h w 20 0 0)

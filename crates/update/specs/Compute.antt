@@ -2,8 +2,8 @@
 use Prim.Native.Nat.{ℕ}
 use Rattle.workspace.specs.Memory.{cleared}
 use Rattle.workspace.specs.Compute.{leaves}
-use Rattle.update.specs.Working.{refusedRow, factored, solved, subtracted, logged, started}
+use Rattle.update.specs.Working.{refusedRow, factored, solved, subtracted, logged, scaled}
 
 unfoldable pub steps : ℕ
-unfolding leaves refusedRow factored solved subtracted logged started cleared
+unfolding leaves refusedRow factored solved subtracted logged scaled cleared
 steps = 0

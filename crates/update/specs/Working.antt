@@ -79,14 +79,14 @@ module _ (y : Layout) (row : ℕ → ℕ) (loaded : ℕ → ℕ → Bool) where
         pivots = λ j b. refusedRow (shape y row j j) b;
         factor = λ j b. factored (shape y row j j) b;
         solve = λ i j t f. solved (shape y row i j) (shape y row j j) t f;
-        nought = ieee .zero;
+        emptySum = ieee .zero;
         logs = logged;
       }
 
   -- ---- begin: block (i, j) from its loaded block, t being theta of each sorted block
-  unfoldable pub started : (t : ℕ → Float) → ℕ → ℕ → List Float → List Float
+  unfoldable pub scaled : (t : ℕ → Float) → ℕ → ℕ → List Float → List Float
   unfolding shape loadedShape
-  started t i j a =
+  scaled t i j a =
       let a' = cellOf (loadedShape y row i j) a in
       pick (eqb j (y .k)) a
       (fill (shape y row i j)

@@ -1,5 +1,5 @@
-// What a caller may look at in a workspace: the steps left, the log determinant and the pivots (document 01, Record 5 and "Worked sheets"), with the
-// refusals 20 and 25. What each answers is defined in specs/Views.antt.
+// What a caller may look at in a workspace: the steps left, the log determinant and the pivots (document 01, Record 5 and "Worked sheets"). Refused
+// with 20 or 25. What each answers is defined in specs/Views.antt.
 pub mod pivot_places;
 
 ghost use mathlib.Core.Path.{_≡_};
@@ -7,9 +7,9 @@ ghost use mathlib.Core.Bool.{true};
 ghost use Prim.Native.Nat.{_<_, _≤_};
 ghost use lib.ListN.{length};
 ghost use Rattle.layout.specs.Shapes.{doublesNeeded};
-ghost use Rattle.heading_format.specs.Heading.{progressOf, lawful};
+ghost use Rattle.heading_format.specs.Heading.{progressOf, validLayout};
 ghost use Rattle.profile.specs.Deviance.{isFinished};
-ghost use Rattle.views.specs.Views.{stepsLeftOf, determinantOf, pivotOf, pivotLook};
+ghost use Rattle.views.specs.Views.{stepsLeftOf, determinantOf, pivotOf, pivotView};
 use block_places::block_kinds;
 use deviance::deviance_tail;
 use deviance::is_finished;
@@ -18,13 +18,13 @@ use layout::Layout;
 use refusal::Refusal;
 
 // The steps left, or 20.
-pub enum Left {
+pub enum StepsLeft {
     Steps(u64),
     Refused(Refusal),
 }
 
 // A double, or that there is none of that name, or 20 or 25.
-pub enum Look {
+pub enum View {
     Value(f64),
     Absent,
     Refused(Refusal),
@@ -34,61 +34,61 @@ pub enum Look {
 const LARGE: usize = 2199023255552;
 
 // How many steps are left; 20 by the heading alone.
-pub fn steps_left(h: &[u32]) -> Left
-    ensures { λ r. ⌜ r ≡ stepsLeftOf (now (h .entry)) ⌝ }
+pub fn steps_left(heading: &[u32]) -> StepsLeft
+    ensures { λ r. ⌜ r ≡ stepsLeftOf (now (heading .entry)) ⌝ }
 {
-    if heading_check::is_headed(h, LARGE) {
-        let g = heading::progress(h);
-        return Left::Steps(g.left);
+    if heading_check::is_valid_heading(heading, LARGE) {
+        let progress = heading::progress(heading);
+        return StepsLeft::Steps(progress.left);
     }
-    Left::Refused(refused(20))
+    StepsLeft::Refused(refused(20))
 }
 
 // Whether the factor of a workspace is finished.
-fn has_factor(h: &[u32]) -> bool
-    requires { ⌜ 128 ≤ length (now h) ⌝ }
-    ensures { λ r. ⌜ r ≡ isFinished (progressOf (now (h .entry)) .state) ⌝ }
+fn has_factor(heading: &[u32]) -> bool
+    requires { ⌜ 128 ≤ length (now heading) ⌝ }
+    ensures { λ r. ⌜ r ≡ isFinished (progressOf (now (heading .entry)) .state) ⌝ }
 {
-    let g = heading::progress(h);
-    let state = g.state;
+    let progress = heading::progress(heading);
+    let state = progress.state;
     is_finished(state)
 }
 
 // The log determinant of a finished factor: 20, 25.
-pub fn log_determinant(h: &[u32], w: &[f64]) -> Look
-    ensures { λ r. ⌜ r ≡ determinantOf (now (h .entry)) (now (w .entry)) ⌝ }
+pub fn log_determinant(heading: &[u32], doubles: &[f64]) -> View
+    ensures { λ r. ⌜ r ≡ determinantOf (now (heading .entry)) (now (doubles .entry)) ⌝ }
 {
-    if heading_check::is_headed(h, w.len()) {
-        if has_factor(h) {
-            return Look::Value(deviance_tail::log_determinant(heading::layout(h), w));
+    if heading_check::is_valid_heading(heading, doubles.len()) {
+        if has_factor(heading) {
+            return View::Value(deviance_tail::log_determinant(heading::layout(heading), doubles));
         }
-        return Look::Refused(refused(25));
+        return View::Refused(refused(25));
     }
-    Look::Refused(refused(20))
+    View::Refused(refused(20))
 }
 
 // Pivot r of block j where there is one.
-fn pivot_or_absent(y: Layout, w: &[f64], j: u64, r: u64) -> Look
-    requires { ⌜ (lawful y ≡ true) × (doublesNeeded y ≤ length (now w)) ⌝ }
-    ensures { λ v. ⌜ v ≡ pivotLook y (now (w .entry)) j r ⌝ }
+fn pivot_or_absent(layout: Layout, doubles: &[f64], j: u64, r: u64) -> View
+    requires { ⌜ (validLayout layout ≡ true) × (doublesNeeded layout ≤ length (now doubles)) ⌝ }
+    ensures { λ v. ⌜ v ≡ pivotView layout (now (doubles .entry)) j r ⌝ }
 {
-    if j <= y.k {
-        if r < block_kinds::rows_of(y, j) as u64 {
-            return Look::Value(pivot_places::read_pivot(y, w, j, r));
+    if j <= layout.k {
+        if r < block_kinds::rows_of(layout, j) as u64 {
+            return View::Value(pivot_places::read_pivot(layout, doubles, j, r));
         }
     }
-    Look::Absent
+    View::Absent
 }
 
 // Pivot `row` of block `block` of a finished factor: 20, 25. Any numbers may be asked for.
-pub fn pivot(h: &[u32], w: &[f64], block: u64, row: u64) -> Look
-    ensures { λ r. ⌜ r ≡ pivotOf (now (h .entry)) (now (w .entry)) block row ⌝ }
+pub fn pivot(heading: &[u32], doubles: &[f64], block: u64, row: u64) -> View
+    ensures { λ r. ⌜ r ≡ pivotOf (now (heading .entry)) (now (doubles .entry)) block row ⌝ }
 {
-    if heading_check::is_headed(h, w.len()) {
-        if has_factor(h) {
-            return pivot_or_absent(heading::layout(h), w, block, row);
+    if heading_check::is_valid_heading(heading, doubles.len()) {
+        if has_factor(heading) {
+            return pivot_or_absent(heading::layout(heading), doubles, block, row);
         }
-        return Look::Refused(refused(25));
+        return View::Refused(refused(25));
     }
-    Look::Refused(refused(20))
+    View::Refused(refused(20))
 }

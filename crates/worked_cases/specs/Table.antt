@@ -1,4 +1,4 @@
--- Document 01, "Worked sheets": what is said of the worked input (crate `factor`, specs/Worked), and the other starred cases.
+-- Document 01, "Worked sheets": what is said of the worked input (crate factor_output, specs/Worked), and the other starred cases.
 use Prim.Native.Nat.{ℕ}
 use Prim.Native.String.{String}
 use mathlib.Core.Bool.{Bool, true, false}

@@ -1,1 +1,1 @@
-// Document 01's starred cases: a table in specs/, each case proved in proofs/.
+// The starred cases of document 01: a table in specs/, each case proved in proofs/, with four sheets whose numbers an outside script made.

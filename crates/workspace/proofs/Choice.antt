@@ -11,14 +11,14 @@ use Rattle.sheet.specs.declared.Reading.the-variants.{Sheet as Read, Refused as
 use Rattle.sheet.specs.Sheet.{sheetOf}
 use Rattle.sheet.specs.Answer.{answerOf}
 use Rattle.sheet.proofs.Answers.{one-answer}
-use Rattle.workspace.specs.Answers.{Outcome, space}
+use Rattle.workspace.specs.Answers.{Outcome, workspace}
 use Rattle.workspace.specs.Load.{Loads, loadOf}
 
 module _ (s h : List ℕ) (w : List Float) where
   -- refused with 9, and all as it was
   pub record Nine (o : Outcome) : Type 0 where
     pub number : refusalOf (o .answer) .number ≡ 9
-    pub left : o .left ≡ space h w
+    pub left : o .left ≡ workspace h w
 
   nine-of : (r : Reading) (o : Outcome) → o ≡ loadOf s r h w → answerOf r .number ≡ 9 → Nine o
   unfolding loadOf

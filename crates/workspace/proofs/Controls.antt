@@ -4,6 +4,7 @@ use Prim.Native.Nat.{ℕ}
 use mathlib.Core.Path.{_≡_, refl}
 use mathlib.Core.Bool.{true}
 use mathlib.Core.List.{List, [], _∷_, _++_}
+use mathlib.Core.Option.{some}
 use lib.ListN.{replicate, set, take, drop}
 use lib.Ieee.{Float, nan, inf}
 use Rattle.refusal.specs.declared.Answer.the-variants.{Accepted}
@@ -15,7 +16,7 @@ use Rattle.layout.specs.Blocks.{sum}
 use Rattle.heading_format.specs.Heading.{sheetLevels, layoutOf}
 use Rattle.workspace.specs.Compute.{leaves, word, words}
 use Rattle.workspace.specs.Memory.{thetaOf}
-use Rattle.workspace.specs.Answers.{Outcome, untouched}
+use Rattle.workspace.specs.Answers.{Outcome, untouched, firstInfinite}
 use Rattle.workspace.specs.Loaded.{layoutOfSheet, entryRowIn, rowOf}
 use Rattle.workspace.specs.Load.{loadSheet}
 use Rattle.workspace.specs.Response.{replaceOf}
@@ -101,6 +102,11 @@ third-list : refusalOf (replaced (word 20 ∷ word 21 ∷ word 22 ∷ []) (word 
 unfolding replaced
 third-list = refl
 
+-- 14 names the first of two; the largest doubles are finite
+first-of-two : firstInfinite 0 (word 0xffefffffffffffff ∷ word 0x7fefffffffffffff ∷ inf true ∷ nan ∷ []) ≡ some 2
+unfolding leaves firstInfinite
+first-of-two = refl
+
 -- An update that is under way ends, and so does a finished one: state 2, no step left, each target at its last stage.
 ends-update :
     take 69 (replaceOf (set (loaded 33 .left .heading) 22 1) (loaded 33 .left .doubles) (word 20 ∷ word 21 ∷ word 22 ∷ []) (word 23 ∷ []) (word 24 ∷ []) .left .heading)
@@ -148,8 +154,8 @@ unfolding leaves loadSheet
 pair-full = refl
 
 -- the row, in block 1, of the entry of each column: here block 1 starts at row 2 of the sheet
-abbrev turned : Sheet
-turned =
+abbrev swapped : Sheet
+swapped =
     record {
       counts = record { n = 5; p = 1; q = 4; k = 2; flag = 1 };
       blocks = record { m = 2; e = 1 } ∷ record { m = 2; e = 1 } ∷ [];
@@ -161,7 +167,7 @@ turned =
       yy = 14;
     }
 
-entry-rows : tab 2 (entryRowIn turned (layoutOfSheet turned)) ≡ 1 ∷ 0 ∷ []
+entry-rows : tab 2 (entryRowIn swapped (layoutOfSheet swapped)) ≡ 1 ∷ 0 ∷ []
 unfolding leaves layoutOfSheet rowOf sum sheetLevels
 entry-rows = refl
 

@@ -21,12 +21,12 @@ use Rattle.sheet.specs.Sheet as Sheets
 use Rattle.sheet.specs.Answer.{Answers}
 use Rattle.layout.specs.declared.Layout.{Layout}
 use Rattle.layout.specs.Shapes.{pick, pairs, numbersNeeded, doublesNeeded}
-use Rattle.heading_format.specs.Heading.{headed}
+use Rattle.heading_format.specs.Heading.{validHeading}
 use Rattle.workspace.specs.Answers.{Outcome, accept, untouched}
-use Rattle.workspace.specs.Loaded.{firstDenied, layoutOfSheet}
-use Rattle.workspace.specs.Load.{Loads, headingOf, doublesOf, roomy, afterGate, loadSheet, loadParsed, loadOf}
+use Rattle.workspace.specs.Loaded.{firstRefusedPair, layoutOfSheet}
+use Rattle.workspace.specs.Load.{Loads, headingOf, doublesOf, hasRoom, afterGate, loadSheet, loadParsed, loadOf}
 use Rattle.workspace.proofs.Lengths.{length-doubles}
-use Rattle.workspace.proofs.Headed.{load-stored}
+use Rattle.workspace.proofs.ValidHeading.{load-stored}
 
 abbrev isAccepted : Answer → Bool
 isAccepted Accepted = true
@@ -34,7 +34,7 @@ isAccepted (Refused r) = false
 
 -- an accepted outcome is a workspace
 abbrev Good : Outcome → Type 0
-Good o = isAccepted o.answer ≡ true → headed o.left.heading (length o.left.doubles) ≡ true
+Good o = isAccepted o.answer ≡ true → validHeading o.left.heading (length o.left.doubles) ≡ true
 
 module _ (h : List ℕ) (w : List Float) where
   refused-good : (n a b : ℕ) → Good (untouched h w n a b)
@@ -46,8 +46,8 @@ module _ (h : List ℕ) (w : List Float) where
   room-good sheet y false f = refused-good 12 0 0
 
   gate-good : (sheet : Sheet) (y : Layout) (g : Option Refusal)
-      → (g ≡ none → roomy y h w ≡ true → Good (accept (store 0 (headingOf sheet y) h) (store 0 (doublesOf sheet y) w))) → Good (afterGate g sheet y h w)
-  gate-good sheet y none f = room-good sheet y (roomy y h w) (f refl)
+      → (g ≡ none → hasRoom y h w ≡ true → Good (accept (store 0 (headingOf sheet y) h) (store 0 (doublesOf sheet y) w))) → Good (afterGate g sheet y h w)
+  gate-good sheet y none f = room-good sheet y (hasRoom y h w) (f refl)
   gate-good sheet y (some r) f = λ e. absurd (true≢false (sym e))
 
   module _ (s : List ℕ) where
@@ -55,7 +55,7 @@ module _ (h : List ℕ) (w : List Float) where
     unfolding loadSheet
     sheet-good sheet starts e a =
         let y : Layout = layoutOfSheet sheet in
-        gate-good sheet y (firstDenied sheet y (pairs y.k))
+        gate-good sheet y (firstRefusedPair sheet y (pairs y.k))
         (λ gate room ok.
         let fits : doublesNeeded y ≤ length w = leb-true (doublesNeeded y) (length w) (and-eq-true-iff (leb (numbersNeeded y) (length h)) (leb (doublesNeeded y) (length w)) .0 room .1) in
         load-stored s sheet starts e a.0 gate (length (store 0 (doublesOf sheet y) w))
@@ -69,5 +69,5 @@ module _ (h : List ℕ) (w : List Float) where
         subst (λ (p : Sheets.Outcome). Good (loadParsed p h w)) (sym e) (sheet-good sheet starts e (a.0, refl))
 
     -- "20 never comes", of a workspace just loaded
-    pub loads-headed : (o : Outcome) → Loads s h w o → o .answer ≡ Accepted → headed (o .left .heading) (length (o .left .doubles)) ≡ true
-    loads-headed o l e = subst Good (sym l.comes) (parsed-good (sheetOf s) refl l.reading l.read) (ap isAccepted e)
+    pub loads-valid-heading : (o : Outcome) → Loads s h w o → o .answer ≡ Accepted → validHeading (o .left .heading) (length (o .left .doubles)) ≡ true
+    loads-valid-heading o l e = subst Good (sym l.comes) (parsed-good (sheetOf s) refl l.reading l.read) (ap isAccepted e)

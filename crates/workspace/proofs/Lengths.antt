@@ -16,7 +16,7 @@ use Rattle.layout.specs.Shapes.{Target, pick, levels, cellsOf, loadedShape, loa
 use Rattle.heading_format.specs.Heading.{written, idle}
 use Rattle.layout.proofs.Places.{size-loaded}
 use Rattle.heading_format.proofs.Heading.{length-written}
-use Rattle.workspace.specs.Memory.{noughts}
+use Rattle.workspace.specs.Memory.{zeros}
 use Rattle.workspace.specs.Loaded.{entryRowIn, loadedWord, double, loadedFrom, loadedNumbers}
 use Rattle.workspace.specs.Load.{headingOf, doublesOf}
 
@@ -36,7 +36,7 @@ module _ (sheet : Sheet) (y : Layout) where
 
   -- all doubles
   pub length-doubles : length (doublesOf sheet y) ≡ doublesNeeded y
-  unfolding doublesOf noughts sumAt
+  unfolding doublesOf zeros sumAt
   length-doubles =
       omega (
         arith,

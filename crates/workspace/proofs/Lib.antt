@@ -1,6 +1,6 @@
 pub mod Lengths
 pub mod Choice
-pub mod Lawful
-pub mod Headed
+pub mod Valid
+pub mod ValidHeading
 pub mod Fresh
 pub mod Controls

@@ -15,15 +15,15 @@ pub record Outcome : Type 0 where
   pub answer : Answer
   pub left : Workspace
 
-abbrev pub space : List ℕ → List Float → Workspace
-space h w = record { heading = h; doubles = w }
+abbrev pub workspace : List ℕ → List Float → Workspace
+workspace h w = record { heading = h; doubles = w }
 
 abbrev pub accept : List ℕ → List Float → Outcome
-accept h w = record { answer = Accepted; left = space h w }
+accept h w = record { answer = Accepted; left = workspace h w }
 
 -- a refusal that leaves all untouched
 abbrev pub untouched : List ℕ → List Float → ℕ → ℕ → ℕ → Outcome
-untouched h w n a b = record { answer = refuse n a b; left = space h w }
+untouched h w n a b = record { answer = refuse n a b; left = workspace h w }
 
 -- ---- 14: the index of the first number that is infinite or NaN
 abbrev pub isFinite : Float → Bool

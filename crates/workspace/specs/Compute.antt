@@ -9,7 +9,7 @@ use Rattle.storage.specs.Runs.{start, tab, cells}
 use Rattle.storage.specs.Shape.{fill}
 use Rattle.storage.specs.Part.{store}
 use Rattle.step_order.specs.Steps.{rustOrder}
-use Rattle.rules.specs.Sums.{sumFrom, lessFrom, logsFrom}
+use Rattle.rules.specs.Sums.{sumFrom, subtractFrom, logsFrom}
 use Rattle.rules.specs.Cholesky.{forward, rows, firstBad}
 use Rattle.rules.specs.Solves.{backward}
 use Rattle.layout.specs.Shapes.{loadedAt, workingAt, sumAt}
@@ -17,7 +17,7 @@ use Rattle.heading_format.specs.Heading.{written}
 
 -- the definitions that do not open by themselves
 unfoldable pub leaves : ℕ
-unfolding start tab cells fill store sumFrom lessFrom logsFrom forward rows firstBad backward sqrtOf lnOf Ieee.add Ieee.sub Ieee.mul Ieee.div Ieee.le Ieee.lt Ieee.eq Ieee.ofInt Ieee.ofBits Ieee.toBits loadedAt workingAt sumAt written rustOrder
+unfolding start tab cells fill store sumFrom subtractFrom logsFrom forward rows firstBad backward sqrtOf lnOf Ieee.add Ieee.sub Ieee.mul Ieee.div Ieee.le Ieee.lt Ieee.eq Ieee.ofInt Ieee.ofBits Ieee.toBits loadedAt workingAt sumAt written rustOrder
 leaves = 0
 
 abbrev pub word : ℕ → Float

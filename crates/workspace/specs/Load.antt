@@ -20,9 +20,9 @@ use Rattle.refusal.specs.declared.Answer.the-variants.{Refused}
 use Rattle.layout.specs.Shapes.{pick, levels, pairs, numbersNeeded, doublesNeeded}
 use Rattle.layout.specs.Blocks.{sum}
 use Rattle.heading_format.specs.Heading.{written, idle, sheetLevels}
-use Rattle.workspace.specs.Memory.{noughts}
-use Rattle.workspace.specs.Answers.{Outcome, accept, untouched, space}
-use Rattle.workspace.specs.Loaded.{rowOf, firstDenied, layoutOfSheet, entryRowIn, loadedNumbers}
+use Rattle.workspace.specs.Memory.{zeros}
+use Rattle.workspace.specs.Answers.{Outcome, accept, untouched, workspace}
+use Rattle.workspace.specs.Loaded.{rowOf, firstRefusedPair, layoutOfSheet, entryRowIn, loadedNumbers}
 
 -- the heading of a sheet just loaded: progress none, and the rows of a sparse pair's entries
 unfoldable pub headingOf : Sheet → Layout → List ℕ
@@ -31,23 +31,23 @@ headingOf sheet y = written y (idle (y .k)) ++ pick (y .sparse) (tab (levels y 0
 
 -- the doubles: the loaded numbers, and every working double +0.0
 unfoldable pub doublesOf : Sheet → Layout → List Float
-unfolding loadedNumbers noughts
-doublesOf sheet y = loadedNumbers sheet y ++ noughts y
+unfolding loadedNumbers zeros
+doublesOf sheet y = loadedNumbers sheet y ++ zeros y
 
 -- both fit
-abbrev pub roomy : Layout → List ℕ → List Float → Bool
-roomy y h w = leb (numbersNeeded y) (length h) && leb (doublesNeeded y) (length w)
+abbrev pub hasRoom : Layout → List ℕ → List Float → Bool
+hasRoom y h w = leb (numbersNeeded y) (length h) && leb (doublesNeeded y) (length w)
 
 abbrev pub afterGate : Option Refusal → Sheet → Layout → List ℕ → List Float → Outcome
-afterGate (some r) sheet y h w = record { answer = Refused r; left = space h w }
-afterGate none sheet y h w = pick (roomy y h w) (accept (store 0 (headingOf sheet y) h) (store 0 (doublesOf sheet y) w)) (untouched h w 12 0 0)
+afterGate (some r) sheet y h w = record { answer = Refused r; left = workspace h w }
+afterGate none sheet y h w = pick (hasRoom y h w) (accept (store 0 (headingOf sheet y) h) (store 0 (doublesOf sheet y) w)) (untouched h w 12 0 0)
 
 -- a sheet without a fault: 10 and 11, then 12; nothing past the formula is written
 unfoldable pub loadSheet : Sheet → List ℕ → List Float → Outcome
-unfolding firstDenied layoutOfSheet pairs headingOf doublesOf
+unfolding firstRefusedPair layoutOfSheet pairs headingOf doublesOf
 loadSheet sheet h w =
     let y = layoutOfSheet sheet in
-    afterGate (firstDenied sheet y (pairs (y .k))) sheet y h w
+    afterGate (firstRefusedPair sheet y (pairs (y .k))) sheet y h w
 
 abbrev pub loadParsed : Sheets.Outcome → List ℕ → List Float → Outcome
 loadParsed (accepted sheet starts) h w = loadSheet sheet h w

@@ -67,15 +67,15 @@ module _ (sheet : Sheet) (y : Layout) where
   pairIn i j = pairOf (y .k) (levels y i) (levels y j) (oneEach i j) (countOf (ofPair y i j) (sheet .zz))
 
 -- the first pair that the gate refuses, pairs in turn: 10 or 11, j, jj
-abbrev pub denied : Pair → Target → Option Refusal → Option Refusal
-denied Dense t rest = rest
-denied Sparse t rest = rest
-denied (Denied n) t rest = some (record { number = n; first = t .row; second = t .col })
+abbrev pub orRefused : Pair → Target → Option Refusal → Option Refusal
+orRefused Dense t rest = rest
+orRefused Sparse t rest = rest
+orRefused (Denied n) t rest = some (record { number = n; first = t .row; second = t .col })
 
-unfoldable pub firstDenied : Sheet → Layout → List Target → Option Refusal
+unfoldable pub firstRefusedPair : Sheet → Layout → List Target → Option Refusal
 unfolding pairIn
-firstDenied sheet y [] = none
-firstDenied sheet y (t ∷ l) = denied (pairIn sheet y (t .row) (t .col)) t (firstDenied sheet y l)
+firstRefusedPair sheet y [] = none
+firstRefusedPair sheet y (t ∷ l) = orRefused (pairIn sheet y (t .row) (t .col)) t (firstRefusedPair sheet y l)
 
 -- ---- the layout of a sheet
 abbrev pub sheetM : Sheet → ℕ → ℕ

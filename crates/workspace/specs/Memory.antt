@@ -49,10 +49,10 @@ abbrev pub headingWith : List ℕ → Progress → List ℕ
 headingWith h g = store 22 (progressNumbers g) h
 
 -- the working doubles all +0.0: theta, the blocks and the sum
-unfoldable pub noughts : Layout → List Float
+unfoldable pub zeros : Layout → List Float
 unfolding sumAt
-noughts y = replicate (suc (sumAt y) - thetaAt y) (ieee .zero)
+zeros y = replicate (suc (sumAt y) - thetaAt y) (ieee .zero)
 
 unfoldable pub cleared : Layout → List Float → List Float
-unfolding noughts
-cleared y w = store (thetaAt y) (noughts y) w
+unfolding zeros
+cleared y w = store (thetaAt y) (zeros y) w

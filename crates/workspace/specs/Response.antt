@@ -10,7 +10,7 @@ use Rattle.storage.specs.Part.{store}
 use Rattle.rules.specs.Arithmetic.{ieee}
 use Rattle.layout.specs.declared.Layout.{Layout}
 use Rattle.layout.specs.Shapes.{Target, target, pick, across, loadedShape, loadedAt}
-use Rattle.heading_format.specs.Heading.{layoutOf, entryRow, headed, idle}
+use Rattle.heading_format.specs.Heading.{layoutOf, entryRow, validHeading, idle}
 use Rattle.workspace.specs.Memory.{cellOf, loadedBlock, headingWith}
 use Rattle.workspace.specs.Answers.{Outcome, accept, untouched, firstInfinite, unlessAt}
 use Rattle.workspace.specs.Loaded.{sheetRow}
@@ -43,9 +43,9 @@ responded h w zy xy yy =
 
 -- 20; 13, every length first; 14. Lists: 0 is Z'y, 1 is X'y, 2 is y'y, of one number.
 unfoldable pub replaceOf : List ℕ → List Float → List Float → List Float → List Float → Outcome
-unfolding headed firstInfinite responded
+unfolding validHeading firstInfinite responded
 replaceOf h w zy xy yy =
-    pick (headed h (length w))
+    pick (validHeading h (length w))
     (pick (eqb (length zy) (layoutOf h .q))
     (pick (eqb (length xy) (layoutOf h .p))
     (pick (eqb (length yy) 1)

@@ -1,1 +1,1 @@
-// Load and replace_response (document 01, Record 3): what they answer and leave is defined in specs/.
+// Load and `replace_response` (document 01, Record 3): what the calls answer and leave, as definitions in specs/.

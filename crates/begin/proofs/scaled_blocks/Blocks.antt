@@ -25,8 +25,8 @@ use Rattle.block_places.proofs.block_sizes.Sizes.{below}
 use Rattle.block_places.specs.block_kinds.Rows.{isDiagonal}
 use Rattle.re_factor.specs.Factor as factor
 use Rattle.cross_block.specs.Blocks.{scaledTwice, scaledOnce}
-use Rattle.begin.specs.scaled_blocks.Started.{startedBlock, startedBlocks, BlockStarted, BlocksStarted}
-use Rattle.begin.proofs.scaled_blocks.Shaped.{shape-diagonal, shape-packed, room, factor-started, pair-started, fixed-started, last-started}
+use Rattle.begin.specs.scaled_blocks.Scaled.{scaledBlock, scaledBlocks, BlockScaled, BlocksScaled}
+use Rattle.begin.proofs.scaled_blocks.Shaped.{shape-diagonal, shape-packed, room, factor-scaled, pair-scaled, fixed-scaled, last-scaled}
 
 -- n doubles from src on, one by one
 pub copied : (src n : ℕ) (w : List Float) → src + n ≤ length w → tab n (λ i. at w (src + i)) ≡ part src n w
@@ -53,31 +53,31 @@ module _ (y : Layout) (len : ℕ) (fits : doublesNeeded y ≤ len) where
     packed-fits d = factor-fits (sizeOf (packed n)) (ap (λ (x : ℕ). sizeOf (packed x)) c ∙ sym (ap sizeOf (shape-packed y j (λ x. 0) h d)))
 
     module _ (t : ℕ → Float) (x : Float) (e : x ≡ t j) (w w′ : List Float) where
-      pub diagonal-done : isDiagonal y j ≡ true → w′ ≡ factor.started (diagonal n) off n src x w → BlockStarted y t j j w w′
-      diagonal-done d q row = q ∙ rw (a, b, c, e) (sym (factor-started y row t j h (diagonal (levels y j)) (shape-diagonal y j row h d) w))
+      pub diagonal-done : isDiagonal y j ≡ true → w′ ≡ factor.scaled (diagonal n) off n src x w → BlockScaled y t j j w w′
+      diagonal-done d q row = q ∙ rw (a, b, c, e) (sym (factor-scaled y row t j h (diagonal (levels y j)) (shape-diagonal y j row h d) w))
 
-      pub packed-done : isDiagonal y j ≡ false → w′ ≡ factor.started (packed n) off n src x w → BlockStarted y t j j w w′
-      packed-done d q row = q ∙ rw (a, b, c, e) (sym (factor-started y row t j h (packed (levels y j)) (shape-packed y j row h d) w))
+      pub packed-done : isDiagonal y j ≡ false → w′ ≡ factor.scaled (packed n) off n src x w → BlockScaled y t j j w w′
+      packed-done d q row = q ∙ rw (a, b, c, e) (sym (factor-scaled y row t j h (packed (levels y j)) (shape-packed y j row h d) w))
 
   module _ (i j off src n : ℕ) (h : j < i) (g : i ≤ y .k) (a : off ≡ workingAt y i j) (b : src ≡ loadedAt y i j) (c : n ≡ sizes y i j) where
-    pub beside-fits : Fits off n src n len
-    beside-fits =
+    pub off-diagonal-fits : Fits off n src n len
+    off-diagonal-fits =
         let r = room y len fits i j (omega arith) g in
         let l = loaded-other y i j h in
         ((omega (arith, r.working), omega (arith, r.loaded)), inr (omega (arith, r.apart)))
 
     module _ (t : ℕ → Float) (x : Float) (e : x ≡ t j) (w w′ : List Float) where
-      pub fixed-done : i ≡ y .k → EachShape n (λ s. w′ ≡ scaledOnce s off src x w) → BlockStarted y t i j w w′
+      pub fixed-done : i ≡ y .k → EachShape n (λ s. w′ ≡ scaledOnce s off src x w) → BlockScaled y t i j w w′
       fixed-done k q row =
           q (shape y row i j) (size-working y row i j ∙ sym c)
           ∙ rw (a, b, e)
-          (subst (λ (r : ℕ). scaledOnce (shape y row r j) (workingAt y r j) (loadedAt y r j) (t j) w ≡ startedBlock y row t r j w) (sym k)
-          (sym (fixed-started y row t j (omega arith) w)))
+          (subst (λ (r : ℕ). scaledOnce (shape y row r j) (workingAt y r j) (loadedAt y r j) (t j) w ≡ scaledBlock y row t r j w) (sym k)
+          (sym (fixed-scaled y row t j (omega arith) w)))
 
-      pub pair-done : (i ≡ y .k → ⊥) → (z : Float) → z ≡ t i → EachShape n (λ s. w′ ≡ scaledTwice s off src x z w) → BlockStarted y t i j w w′
+      pub pair-done : (i ≡ y .k → ⊥) → (z : Float) → z ≡ t i → EachShape n (λ s. w′ ≡ scaledTwice s off src x z w) → BlockScaled y t i j w w′
       pair-done k z f q row =
           q (shape y row i j) (size-working y row i j ∙ sym c)
-          ∙ rw (a, b, e, f) (sym (pair-started y row t i j h (below i y.k g k) w))
+          ∙ rw (a, b, e, f) (sym (pair-scaled y row t i j h (below i y.k g k) w))
 
   module _ (off src n : ℕ) (a : off ≡ workingAt y (y .k) (y .k)) (b : src ≡ loadedAt y (y .k) (y .k)) (c : n ≡ loadedSizes y (y .k) (y .k)) where
     pub last-fits : (off + n ≤ len) × (src + n ≤ off)
@@ -86,68 +86,68 @@ module _ (y : Layout) (len : ℕ) (fits : doublesNeeded y ≤ len) where
         let l = loaded-last y in
         (omega (arith, r.working), omega (arith, r.apart))
 
-    pub last-done : (t : ℕ → Float) (w w′ : List Float) → w′ ≡ store off (part src n w) w → BlockStarted y t (y .k) (y .k) w w′
-    last-done t w w′ q row = q ∙ rw (a, b, c) (sym (last-started y row t w))
+    pub last-done : (t : ℕ → Float) (w w′ : List Float) → w′ ≡ store off (part src n w) w → BlockScaled y t (y .k) (y .k) w w′
+    last-done t w w′ q row = q ∙ rw (a, b, c) (sym (last-scaled y row t w))
 
 -- ---- blocks in turn
 
 module _ (y : Layout) (row : ℕ → ℕ) (t : ℕ → Float) where
-  started-append : (a b : List Target) (v : List Float) → startedBlocks y row t (a ++ b) v ≡ startedBlocks y row t b (startedBlocks y row t a v)
-  unfolding startedBlocks
-  started-append [] b v = refl
-  started-append (u ∷ a) b v = started-append a b (startedBlock y row t u.row u.col v)
+  scaled-append : (a b : List Target) (v : List Float) → scaledBlocks y row t (a ++ b) v ≡ scaledBlocks y row t b (scaledBlocks y row t a v)
+  unfolding scaledBlocks
+  scaled-append [] b v = refl
+  scaled-append (u ∷ a) b v = scaled-append a b (scaledBlock y row t u.row u.col v)
 
-  started-next : (l : List Target) (i j : ℕ) (v : List Float) → startedBlocks y row t (l ++ (target i j ∷ [])) v ≡ startedBlock y row t i j (startedBlocks y row t l v)
-  unfolding startedBlocks
-  started-next l i j v = started-append l (target i j ∷ []) v
+  scaled-next : (l : List Target) (i j : ℕ) (v : List Float) → scaledBlocks y row t (l ++ (target i j ∷ [])) v ≡ scaledBlock y row t i j (scaledBlocks y row t l v)
+  unfolding scaledBlocks
+  scaled-next l i j v = scaled-append l (target i j ∷ []) v
 
 -- a loop over a list that grows: the first j of its n pieces are begun
-pub record Starting (y : Layout) (t : ℕ → Float) (l g : ℕ → List Target) (n : ℕ) (w v : List Float) (j : ℕ) : Type 0 where
+pub record Scaling (y : Layout) (t : ℕ → Float) (l g : ℕ → List Target) (n : ℕ) (w v : List Float) (j : ℕ) : Type 0 where
   pub grows : Grows l g
   pub within : j ≤ n
-  pub far : BlocksStarted y t (l j) w v
+  pub far : BlocksScaled y t (l j) w v
   pub long : length v ≡ length w
 
 module _ {y : Layout} {t : ℕ → Float} {l g : ℕ → List Target} {n : ℕ} {w : List Float} where
-  pub starting-none : Grows l g → Starting y t l g n w w 0
-  unfolding startedBlocks
-  starting-none e =
+  pub scaling-none : Grows l g → Scaling y t l g n w w 0
+  unfolding scaledBlocks
+  scaling-none e =
       record {
         grows = e;
         within = omega arith;
-        far = λ row. sym (ap (λ (x : List Target). startedBlocks y row t x w) e.none);
+        far = λ row. sym (ap (λ (x : List Target). scaledBlocks y row t x w) e.none);
         long = refl;
       }
 
-  module _ {v : List Float} {j : ℕ} (e : Starting y t l g n w v j) where
+  module _ {v : List Float} {j : ℕ} (e : Scaling y t l g n w v j) where
     -- one piece more
-    pub starting-more : {u : List Float} → j < n → BlocksStarted y t (g j) v u → length u ≡ length v → Starting y t l g n w u (j + 1)
-    starting-more h f q =
+    pub scaling-more : {u : List Float} → j < n → BlocksScaled y t (g j) v u → length u ≡ length v → Scaling y t l g n w u (j + 1)
+    scaling-more h f q =
         record {
           grows = e.grows;
           within = omega arith;
-          far = λ row. rw (add-one, e.grows.more j) (f row ∙ ap (startedBlocks y row t (g j)) (e.far row) ∙ sym (started-append y row t (l j) (g j) w));
+          far = λ row. rw (add-one, e.grows.more j) (f row ∙ ap (scaledBlocks y row t (g j)) (e.far row) ∙ sym (scaled-append y row t (l j) (g j) w));
           long = q ∙ e.long;
         }
 
     -- a piece that is one block
-    pub starting-block : {u : List Float} {r c : ℕ} → g j ≡ (target r c ∷ []) → j < n → BlockStarted y t r c v u → length u ≡ length v → Starting y t l g n w u (j + 1)
-    unfolding startedBlocks
-    starting-block z h f q = starting-more h (λ row. rw z (f row)) q
+    pub scaling-block : {u : List Float} {r c : ℕ} → g j ≡ (target r c ∷ []) → j < n → BlockScaled y t r c v u → length u ≡ length v → Scaling y t l g n w u (j + 1)
+    unfolding scaledBlocks
+    scaling-block z h f q = scaling-more h (λ row. rw z (f row)) q
 
-    pub starting-all : n ≤ j → BlocksStarted y t (l n) w v
-    starting-all h = let within = e.within in subst (λ (x : ℕ). BlocksStarted y t (l x) w v) (omega arith) e.far
+    pub scaling-all : n ≤ j → BlocksScaled y t (l n) w v
+    scaling-all h = let within = e.within in subst (λ (x : ℕ). BlocksScaled y t (l x) w v) (omega arith) e.far
 
 module _ (y : Layout) (t : ℕ → Float) (w : List Float) where
   -- all of them
-  pub targets-done : (v₁ v₂ v₃ u : List Float) → BlocksStarted y t (factors (y .k)) w v₁ → BlocksStarted y t (pairs (y .k)) v₁ v₂ → BlocksStarted y t (across (y .k) (y .k)) v₂ v₃
-      → BlockStarted y t (y .k) (y .k) v₃ u → BlocksStarted y t (targets (y .k)) w u
+  pub targets-done : (v₁ v₂ v₃ u : List Float) → BlocksScaled y t (factors (y .k)) w v₁ → BlocksScaled y t (pairs (y .k)) v₁ v₂ → BlocksScaled y t (across (y .k) (y .k)) v₂ v₃
+      → BlockScaled y t (y .k) (y .k) v₃ u → BlocksScaled y t (targets (y .k)) w u
   unfolding targets
   targets-done v₁ v₂ v₃ u a b c d row =
       d row
-      ∙ ap (startedBlock y row t y.k y.k)
+      ∙ ap (scaledBlock y row t y.k y.k)
       (c row
-      ∙ ap (startedBlocks y row t (across y.k y.k))
-      (b row ∙ ap (startedBlocks y row t (pairs y.k)) (a row) ∙ sym (started-append y row t (factors y.k) (pairs y.k) w))
-      ∙ sym (started-append y row t (factors y.k ++ pairs y.k) (across y.k y.k) w))
-      ∙ sym (started-next y row t (factors y.k ++ pairs y.k ++ across y.k y.k) y.k y.k w)
+      ∙ ap (scaledBlocks y row t (across y.k y.k))
+      (b row ∙ ap (scaledBlocks y row t (pairs y.k)) (a row) ∙ sym (scaled-append y row t (factors y.k) (pairs y.k) w))
+      ∙ sym (scaled-append y row t (factors y.k ++ pairs y.k) (across y.k y.k) w))
+      ∙ sym (scaled-next y row t (factors y.k ++ pairs y.k ++ across y.k y.k) y.k y.k w)

@@ -20,10 +20,10 @@ use Rattle.layout.proofs.Places.{size-working, size-loaded, loaded-inside, work
 use Rattle.workspace.specs.Memory.{cellOf}
 use Rattle.re_factor.specs.Factor as factor
 use Rattle.cross_block.specs.Blocks.{scaledTwice, scaledOnce}
-use Rattle.update.specs.Working.{started}
+use Rattle.update.specs.Working.{scaled}
 use Rattle.block_places.specs.block_kinds.Rows.{isDiagonal}
 use Rattle.block_places.proofs.block_kinds.Shapes.{rows-level, diagonal-shape, packed-shape, loaded-pair}
-use Rattle.begin.specs.scaled_blocks.Started.{startedBlock}
+use Rattle.begin.specs.scaled_blocks.Scaled.{scaledBlock}
 
 -- ---- shapes
 
@@ -74,49 +74,49 @@ module _ (y : Layout) (row : ℕ → ℕ) (t : ℕ → Float) where
       (pick own (λ r c. cond (eqb r c) (diagonalCell ieee (t j) (cellOf d a r r)) ieee.zero) (λ r c. crossCell ieee (t j) (t i) (cellOf d a r c)))))
 
   pub is-made : (loaded : ℕ → ℕ → Bool) (i j : ℕ) (a : List Float)
-      → started y row loaded t i j a ≡ made (eqb j (y .k)) (eqb i (y .k)) (eqb i j) (shape y row i j) (loadedShape y row i j) i j a
-  unfolding started
+      → scaled y row loaded t i j a ≡ made (eqb j (y .k)) (eqb i (y .k)) (eqb i j) (shape y row i j) (loadedShape y row i j) i j a
+  unfolding scaled
   is-made loaded i j a = refl
 
   module _ (i j : ℕ) (v : List Float) where
     abbrev source : List Float
     source = part (loadedAt y i j) (loadedSizes y i j) v
 
-    block-made : startedBlock y row t i j v
+    block-made : scaledBlock y row t i j v
         ≡ store (workingAt y i j) (made (eqb j (y .k)) (eqb i (y .k)) (eqb i j) (shape y row i j) (loadedShape y row i j) i j source) v
-    unfolding startedBlock
+    unfolding scaledBlock
     block-made = ap (λ (l : List Float). store (workingAt y i j) l v) (is-made (λ r c. false) i j source)
 
   -- a factor of shape s
-  pub factor-started : (j : ℕ) → j < y .k → (s : Shape) → shape y row j j ≡ s → (v : List Float)
-      → startedBlock y row t j j v ≡ factor.started s (workingAt y j j) (levels y j) (loadedAt y j j) (t j) v
-  factor-started j h s e v =
+  pub factor-scaled : (j : ℕ) → j < y .k → (s : Shape) → shape y row j j ≡ s → (v : List Float)
+      → scaledBlock y row t j j v ≡ factor.scaled s (workingAt y j j) (levels y j) (loadedAt y j j) (t j) v
+  factor-scaled j h s e v =
       block-made j j v
       ∙ rw (ne-eqb j y.k (λ q. omega arith), eq-eqb j j refl, e, shape-loaded y j row h, shape-loaded y j (λ x. 0) h) refl
 
   -- a pair
-  pub pair-started : (i j : ℕ) → j < i → i < y .k → (v : List Float)
-      → startedBlock y row t i j v ≡ scaledTwice (shape y row i j) (workingAt y i j) (loadedAt y i j) (t j) (t i) v
-  pair-started i j h g v =
+  pub pair-scaled : (i j : ℕ) → j < i → i < y .k → (v : List Float)
+      → scaledBlock y row t i j v ≡ scaledTwice (shape y row i j) (workingAt y i j) (loadedAt y i j) (t j) (t i) v
+  pair-scaled i j h g v =
       block-made i j v
       ∙ rw (ne-eqb j y.k (λ q. omega arith), ne-eqb i y.k (λ q. omega arith), ne-eqb i j (λ q. omega arith), ← (size-loaded y row i j), loaded-pair y row i j h) refl
 
   -- fixed rows
-  pub fixed-started : (j : ℕ) → j < y .k → (v : List Float)
-      → startedBlock y row t (y .k) j v ≡ scaledOnce (shape y row (y .k) j) (workingAt y (y .k) j) (loadedAt y (y .k) j) (t j) v
-  fixed-started j h v =
+  pub fixed-scaled : (j : ℕ) → j < y .k → (v : List Float)
+      → scaledBlock y row t (y .k) j v ≡ scaledOnce (shape y row (y .k) j) (workingAt y (y .k) j) (loadedAt y (y .k) j) (t j) v
+  fixed-scaled j h v =
       block-made y.k j v
       ∙ rw (ne-eqb j y.k (λ q. omega arith), eq-eqb y.k y.k refl, ← (size-loaded y row y.k j), loaded-pair y row y.k j h) refl
 
   -- the last triangle
-  pub last-started : (v : List Float)
-      → startedBlock y row t (y .k) (y .k) v ≡ store (workingAt y (y .k) (y .k)) (part (loadedAt y (y .k) (y .k)) (loadedSizes y (y .k) (y .k)) v) v
-  last-started v = block-made y.k y.k v ∙ rw (eq-eqb y.k y.k refl) refl
+  pub last-scaled : (v : List Float)
+      → scaledBlock y row t (y .k) (y .k) v ≡ store (workingAt y (y .k) (y .k)) (part (loadedAt y (y .k) (y .k)) (loadedSizes y (y .k) (y .k)) v) v
+  last-scaled v = block-made y.k y.k v ∙ rw (eq-eqb y.k y.k refl) refl
 
   -- a block has as many doubles as its shape has cells
-  pub length-started : (loaded : ℕ → ℕ → Bool) (i j : ℕ) → j ≤ i → i ≤ y .k → (a : List Float) → length a ≡ loadedSizes y i j
-      → length (started y row loaded t i j a) ≡ sizes y i j
-  length-started loaded i j h g a e = ap length (is-made loaded i j a) ∙ go (eqb j y.k) refl
+  pub length-scaled : (loaded : ℕ → ℕ → Bool) (i j : ℕ) → j ≤ i → i ≤ y .k → (a : List Float) → length a ≡ loadedSizes y i j
+      → length (scaled y row loaded t i j a) ≡ sizes y i j
+  length-scaled loaded i j h g a e = ap length (is-made loaded i j a) ∙ go (eqb j y.k) refl
     where
       go : (b : Bool) → eqb j (y .k) ≡ b → length (made b (eqb i (y .k)) (eqb i j) (shape y row i j) (loadedShape y row i j) i j a) ≡ sizes y i j
       go true q =

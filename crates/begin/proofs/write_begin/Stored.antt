@@ -20,10 +20,10 @@ use Rattle.layout.specs.Shapes.{Target, target, factors, across, pairs, targets
 use Rattle.heading_format.specs.Heading.{layoutOf, entryRow}
 use Rattle.layout.proofs.Places.{size-loaded, loaded-inside, working-behind, theta-inside}
 use Rattle.workspace.specs.Memory.{loadedBlock, loadedSome}
-use Rattle.update.specs.Working.{started}
-use Rattle.update.specs.Calls.{storeStarted}
-use Rattle.begin.specs.scaled_blocks.Started.{sortedTheta, startedBlock, startedBlocks, BlocksStarted}
-use Rattle.begin.proofs.scaled_blocks.Shaped.{room, is-made, length-started}
+use Rattle.update.specs.Working.{scaled}
+use Rattle.update.specs.Calls.{storeScaled}
+use Rattle.begin.specs.scaled_blocks.Scaled.{sortedTheta, scaledBlock, scaledBlocks, BlocksScaled}
+use Rattle.begin.proofs.scaled_blocks.Shaped.{room, is-made, length-scaled}
 use Rattle.begin.specs.write_begin.Begun.{DoublesBegun}
 
 -- ---- all blocks of a list are blocks of a workspace
@@ -74,45 +74,45 @@ module _ (h : List ℕ) (w : List Float) (t : ℕ → Float) where
   y = layoutOf h
 
   module _ (i j : ℕ) (a : j ≤ i) (b : i ≤ y .k) (v : List Float) (fits : doublesNeeded y ≤ length v) where
-    block-length : length (started y (entryRow h) (λ r c. false) t i j (part (loadedAt y i j) (loadedSizes y i j) v)) ≡ sizes y i j
-    block-length = length-started y (entryRow h) t (λ r c. false) i j a b _ (length-part (loadedAt y i j) (loadedSizes y i j) v (room y (length v) fits i j a b .loaded))
+    block-length : length (scaled y (entryRow h) (λ r c. false) t i j (part (loadedAt y i j) (loadedSizes y i j) v)) ≡ sizes y i j
+    block-length = length-scaled y (entryRow h) t (λ r c. false) i j a b _ (length-part (loadedAt y i j) (loadedSizes y i j) v (room y (length v) fits i j a b .loaded))
 
-    block-inside : workingAt y i j + length (started y (entryRow h) (λ r c. false) t i j (part (loadedAt y i j) (loadedSizes y i j) v)) ≤ length v
+    block-inside : workingAt y i j + length (scaled y (entryRow h) (λ r c. false) t i j (part (loadedAt y i j) (loadedSizes y i j) v)) ≤ length v
     block-inside = omega (arith, block-length, room y (length v) fits i j a b .working)
 
     -- one block leaves the length and the loaded doubles
-    kept-length : length (startedBlock y (entryRow h) t i j v) ≡ length v
-    unfolding startedBlock
+    kept-length : length (scaledBlock y (entryRow h) t i j v) ≡ length v
+    unfolding scaledBlock
     kept-length = length-store (workingAt y i j) _ v block-inside
 
-    kept-loaded : SameLoaded y v w → SameLoaded y (startedBlock y (entryRow h) t i j v) w
-    unfolding startedBlock
+    kept-loaded : SameLoaded y v w → SameLoaded y (scaledBlock y (entryRow h) t i j v) w
+    unfolding scaledBlock
     kept-loaded = same-behind y v w (workingAt y i j) _ block-inside (omega (arith, working-behind y i j a b))
 
     -- the block out of v is that out of w
     block-same : SameLoaded y v w
-        → store (workingAt y i j) (started y (entryRow h) (loadedSome h w) t i j (loadedBlock h w i j)) v ≡ startedBlock y (entryRow h) t i j v
-    unfolding startedBlock
+        → store (workingAt y i j) (scaled y (entryRow h) (loadedSome h w) t i j (loadedBlock h w i j)) v ≡ scaledBlock y (entryRow h) t i j v
+    unfolding scaledBlock
     block-same same =
         let e : loadedBlock h w i j ≡ part (loadedAt y i j) (loadedSizes y i j) v =
         ap (λ (n : ℕ). part (loadedAt y i j) n w) (size-loaded y (entryRow h) i j) ∙ sym (same (loadedAt y i j) (loadedSizes y i j) (loaded-inside y i j a b)) in
         ap (λ (l : List Float). store (workingAt y i j) l v)
-        (ap (started y (entryRow h) (loadedSome h w) t i j) e ∙ is-made y (entryRow h) t (loadedSome h w) i j _ ∙ sym (is-made y (entryRow h) t (λ r c. false) i j _))
+        (ap (scaled y (entryRow h) (loadedSome h w) t i j) e ∙ is-made y (entryRow h) t (loadedSome h w) i j _ ∙ sym (is-made y (entryRow h) t (λ r c. false) i j _))
 
   list-same : (l : List Target) → InRange (y .k) l → (v : List Float) → doublesNeeded y ≤ length v → SameLoaded y v w
-      → storeStarted h w t l v ≡ startedBlocks y (entryRow h) t l v
-  unfolding storeStarted startedBlocks
+      → storeScaled h w t l v ≡ scaledBlocks y (entryRow h) t l v
+  unfolding storeScaled scaledBlocks
   list-same [] r v fits same = refl
   list-same (b ∷ l) r v fits same =
       let a : b .col ≤ b .row = r.0.0 in
       let g : b .row ≤ y .k = r.0.1 in
-      ap (storeStarted h w t l) (block-same b.row b.col a g v fits same)
-      ∙ list-same l r.1 (startedBlock y (entryRow h) t b.row b.col v) (omega (arith, kept-length b.row b.col a g v fits))
+      ap (storeScaled h w t l) (block-same b.row b.col a g v fits same)
+      ∙ list-same l r.1 (scaledBlock y (entryRow h) t b.row b.col v) (omega (arith, kept-length b.row b.col a g v fits))
       (kept-loaded b.row b.col a g v fits same)
 
   -- all of them, behind theta
   pub blocks-stored : (theta : List Float) → doublesNeeded y ≤ length w → length theta ≡ y .k
-      → storeStarted h w t (targets (y .k)) (store (thetaAt y) theta w) ≡ startedBlocks y (entryRow h) t (targets (y .k)) (store (thetaAt y) theta w)
+      → storeScaled h w t (targets (y .k)) (store (thetaAt y) theta w) ≡ scaledBlocks y (entryRow h) t (targets (y .k)) (store (thetaAt y) theta w)
   blocks-stored theta fits k =
       let u : thetaAt y + length theta ≤ length w = omega (arith, theta-inside y) in
       list-same (targets y.k) (range-targets y.k) (store (thetaAt y) theta w) (omega (arith, length-store (thetaAt y) theta w u))
@@ -133,7 +133,7 @@ theta-stored theta w v at k e q =
 
 -- theta, the blocks and the sum
 pub doubles-begun : (y : Layout) (theta w v₁ v₂ : List Float) (at sum : ℕ) → at ≡ thetaAt y → sum ≡ sumAt y → v₁ ≡ store at theta w
-    → BlocksStarted y (sortedTheta y theta) (targets (y .k)) v₁ v₂ → sum < length v₂ → DoublesBegun y theta w (set v₂ sum (ieee .zero))
+    → BlocksScaled y (sortedTheta y theta) (targets (y .k)) v₁ v₂ → sum < length v₂ → DoublesBegun y theta w (set v₂ sum (ieee .zero))
 doubles-begun y theta w v₁ v₂ at sum a s e f l row =
     stored-one v₂ sum ieee.zero l
     ∙ rw (s, f row, e, a) refl

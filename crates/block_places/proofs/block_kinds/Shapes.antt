@@ -1,4 +1,4 @@
--- The working blocks of a lawful layout as the kernels take them: the shape of each, its limits, its place among the doubles, and that no two share one.
+-- The working blocks of a valid layout as the kernels take them: the shape of each, its limits, its place among the doubles, and that no two share one.
 use Prim.Native.Nat.{ℕ, _+_, _≤_, _<_}
 use mathlib.Core.Path.{_≡_, refl, sym, ap, _∙_}
 use mathlib.Core.Bool.{Bool, true, false, _&&_, _||_, and-eq-true-iff, true≢false}
@@ -10,8 +10,8 @@ use borrow.Author.Tests.{eqb-true, eqb-false, eq-eqb, ne-eqb}
 use Rattle.storage.specs.Shape.{Shape, packed, diagonal, columns, entries, sizeOf}
 use Rattle.layout.specs.declared.Layout.{Layout}
 use Rattle.layout.specs.Shapes.{pick, levels, shape, loadedShape, sizes, loadedSizes, loadedAt, workingAt, doublesNeeded}
-use Rattle.heading_format.specs.Heading.{lawful}
-use Rattle.heading_format.proofs.Lawful.{is-lawful}
+use Rattle.heading_format.specs.Heading.{validLayout}
+use Rattle.heading_format.proofs.Valid.{is-valid}
 use Rattle.heading_format.proofs.Sorted.{dense-rows, packed-rows}
 use Rattle.layout.proofs.Places.{size-working, size-loaded, working-inside, working-behind, working-apart, loaded-inside}
 use Rattle.block_places.specs.block_kinds.Rows.{rowsOf, isDiagonal}
@@ -130,17 +130,17 @@ module _ (y : Layout) where
 
   -- ---- limits
 
-  module _ (ok : lawful y ≡ true) where
+  module _ (ok : validLayout y ≡ true) where
     -- a sparse pair is the one of blocks 1 and 0, and block 1 is diagonal
     pub sparse-two : y .sparse ≡ true → (y .diagonal ≡ true) × (y .k ≡ 2)
-    sparse-two s = is-lawful y ok .sparse s
+    sparse-two s = is-valid y ok .sparse s
 
     -- a triangle has at most 316 rows
     pub rows-limit : (i : ℕ) → 0 < i → i ≤ y .k → (i ≡ y .k) ⊎ ((y .diagonal && eqb i 1) ≡ false) → rowsOf y i ≤ 316
     rows-limit i h g why =
         by-cases (decLt i y.k)
         (λ l. ⊎-elim (λ e. absurd (omega arith)) (λ d. omega (arith, rows-level i l, packed-rows y ok i h l d)) why)
-        (λ l. omega (arith, rows-last i (omega arith), is-lawful y ok .effects .1))
+        (λ l. omega (arith, rows-last i (omega arith), is-valid y ok .effects .1))
 
     pub packed-limit : (j : ℕ) → j ≤ y .k → isDiagonal y j ≡ false → rowsOf y j ≤ 316
     packed-limit j h e = let t = later j e in rows-limit j t.0 h (inr t.1)

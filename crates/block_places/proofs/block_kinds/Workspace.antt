@@ -8,15 +8,15 @@ use lib.ListN.{length}
 use lib.Ieee.{Float}
 use Rattle.layout.specs.declared.Layout.{Layout}
 use Rattle.layout.specs.Shapes.{levels, numbersNeeded, doublesNeeded}
-use Rattle.heading_format.specs.Heading.{lawful, layoutOf, entryRow}
+use Rattle.heading_format.specs.Heading.{validLayout, layoutOf, entryRow}
 use Rattle.heading_format.specs.Fits.{Fits}
 use Rattle.block_places.specs.block_kinds.Rows.{rowsOf}
 use Rattle.block_places.proofs.block_kinds.Shapes.{sparse-two, rows-level}
 
 module _ (h : List ℕ) (w : List Float) (y : Layout) (e : y ≡ layoutOf h) (fit : Fits h (length w)) where
-  -- its layout is lawful
-  pub fits-lawful : lawful y ≡ true
-  fits-lawful = rw e fit.layout
+  -- its layout is valid
+  pub fits-valid : validLayout y ≡ true
+  fits-valid = rw e fit.layout
 
   -- it has as many doubles as the layout needs
   pub fits-room : doublesNeeded y ≤ length w
@@ -24,7 +24,7 @@ module _ (h : List ℕ) (w : List Float) (y : Layout) (e : y ≡ layoutOf h) (fi
 
   -- a sparse pair is that of blocks 1 and 0
   pub fits-two : y .sparse ≡ true → y .k ≡ 2
-  fits-two p = sparse-two y fits-lawful p .1
+  fits-two p = sparse-two y fits-valid p .1
 
   -- and the heading has the row of each of its entries
   pub fits-numbers : y .sparse ≡ true → 128 + rowsOf y 0 ≤ length h

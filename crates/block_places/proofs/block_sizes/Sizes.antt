@@ -1,4 +1,4 @@
--- The cells of each block of a lawful layout, loaded or working, in closed form and in bounds.
+-- The cells of each block of a valid layout, loaded or working, in closed form and in bounds.
 use Prim.Native.Nat.{ℕ, _+_, _*_, _/_, _≤_, _<_}
 use mathlib.Core.Path.{_≡_, refl, sym, subst, _∙_}
 use mathlib.Core.Bool.{Bool, true, false, _&&_, and-eq-true-iff}
@@ -10,8 +10,8 @@ use lib.Dec.{eqb}
 use borrow.Author.Tests.{eqb-true}
 use Rattle.layout.specs.declared.Layout.{Layout}
 use Rattle.layout.specs.Shapes.{levels, sizes, factors, across, pairs, targets, cellsOf, loadedLength, doublesNeeded, sumAt}
-use Rattle.heading_format.specs.Heading.{lawful}
-use Rattle.heading_format.proofs.Lawful.{is-lawful}
+use Rattle.heading_format.specs.Heading.{validLayout}
+use Rattle.heading_format.proofs.Valid.{is-valid}
 use Rattle.layout.proofs.Formula.{
   cells-targets,
   first-factor,
@@ -52,15 +52,15 @@ half-small m s h e = omega (arith, mul-le-mul h h)
 half-is : (a s : ℕ) → 2 * s ≡ a → a / 2 ≡ s
 half-is a s e = omega arith
 
-module _ (y : Layout) (ok : lawful y ≡ true) where
+module _ (y : Layout) (ok : validLayout y ≡ true) where
   pub few-blocks : y .k ≤ 8
-  few-blocks = is-lawful y ok .blocks .1
+  few-blocks = is-valid y ok .blocks .1
 
   pub few-effects : y .p ≤ 32
-  few-effects = is-lawful y ok .effects .1
+  few-effects = is-valid y ok .effects .1
 
   pub few-levels : (j : ℕ) → j < y .k → levels y j ≤ 65535
-  few-levels j h = is-lawful y ok .level j h .1
+  few-levels j h = is-valid y ok .level j h .1
 
   -- ---- closed forms, one for each way out of the code
 
@@ -157,7 +157,7 @@ module _ (y : Layout) (ok : lawful y ≡ true) where
       let k = y.k in
       omega (arith, cells-targets (sizesOf y b) k, before-small b k k (omega arith) (omega arith), block-small b k k (omega arith) (omega arith))
 
-  -- THE BOUND: a workspace of a lawful layout has fewer than 2^41 doubles, so each of its places is far below 2^63.
+  -- THE BOUND: a workspace of a valid layout has fewer than 2^41 doubles, so each of its places is far below 2^63.
   pub doubles-small : doublesNeeded y < 2199023255552
   unfolding sumAt loadedLength
   doubles-small = omega (arith, cells-small true, cells-small false, few-blocks)

@@ -1,4 +1,4 @@
--- The rows of a lawful layout's blocks: no row is in two blocks.
+-- The rows of a valid layout's blocks: no row is in two blocks.
 use Prim.Native.Nat.{ℕ, zero, suc, _+_, _*_, _/_, _%_, _≤_, _<_}
 use mathlib.Core.Path.{_≡_, refl, sym, ap, subst, _∙_}
 use mathlib.Core.Bool.{Bool, true, false, cond, and-eq-true-iff}
@@ -15,8 +15,8 @@ use Rattle.layout.specs.declared.Layout.{Layout}
 use Rattle.layout.specs.Blocks.{sorted, sum}
 use Rattle.layout.specs.Shapes.{levels}
 use Rattle.layout.proofs.Sums.{sum-more, sum-small, sum-le}
-use Rattle.heading_format.specs.Heading.{sheetLevels, lawful}
-use Rattle.heading_format.proofs.Lawful.{is-lawful}
+use Rattle.heading_format.specs.Heading.{sheetLevels, validLayout}
+use Rattle.heading_format.proofs.Valid.{is-valid}
 use Rattle.heading_format.proofs.Sorted.{all-at, length-sorted, below-sorted, same-lists, order-apart, levels-at}
 use Rattle.workspace.specs.Loaded.{rowStart, inBlock}
 use Rattle.block_places.specs.sheet_rows.Blocks.{blockOf}
@@ -61,13 +61,13 @@ module _ (y : Layout) where
   unfolding blockOf
   block-more j x b r e f = rw add-one (f ∙ ap (λ (t : ℕ). cond (inBlock y j x) j t) e)
 
-  module _ (ok : lawful y ≡ true) where
+  module _ (ok : validLayout y ≡ true) where
     abbrev sheetM : ℕ → ℕ
     sheetM = sheetLevels y y.k
 
     order-list : (s : ℕ) → s < y .k → getD (sorted sheetM (y .k)) s 0 ≡ sheetIndex s
     order-list s l =
-        ap (λ (z : List ℕ). getD z s 0) (sym (same-lists (take y.k y.order) (sorted sheetM y.k) (is-lawful y ok .order)))
+        ap (λ (z : List ℕ). getD z s 0) (sym (same-lists (take y.k y.order) (sorted sheetM y.k) (is-valid y ok .order)))
         ∙ getD-take y.k y.order s 0 l
 
     pub order-below : (j : ℕ) → j < y .k → sheetIndex j < y .k
@@ -80,7 +80,7 @@ module _ (y : Layout) where
     sheet-small (suc n) i h = step (sheet-small n i (omega arith)) (eqb (sheetIndex n) i)
       where
         step : sheetLevels y n i ≤ 65535 → (b : Bool) → cond b (levels y n) (sheetLevels y n i) ≤ 65535
-        step f true = is-lawful y ok .level n (omega arith) .1
+        step f true = is-valid y ok .level n (omega arith) .1
         step f false = f
 
     pub levels-small : (i : ℕ) → sheetM i ≤ 65535
@@ -90,7 +90,7 @@ module _ (y : Layout) where
     rows-small n = sum-small sheetM 65535 n (λ i h. levels-small i)
 
     pub start-small : (j : ℕ) → j < y .k → rowStart y j ≤ 524280
-    start-small j h = omega (arith, rows-small (sheetIndex j), order-below j h, is-lawful y ok .blocks .1)
+    start-small j h = omega (arith, rows-small (sheetIndex j), order-below j h, is-valid y ok .blocks .1)
 
     -- a block ends before each that comes later in the sheet starts
     ends : (i j : ℕ) → i < y .k → sheetIndex i < sheetIndex j → rowStart y i + levels y i ≤ rowStart y j

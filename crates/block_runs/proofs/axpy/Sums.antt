@@ -15,10 +15,10 @@ use Rattle.storage.proofs.Starts.{start-dense, start-le}
 use Rattle.storage.proofs.Cells.{length-tab, getD-tab, tab-ext, take-tab}
 use Rattle.storage.proofs.Parts.{length-store, store-in, store-store, store-part}
 use Rattle.rules.specs.Arithmetic.{ieee}
-use Rattle.rules.specs.Sums.{all, sumFrom, lessFrom}
+use Rattle.rules.specs.Sums.{all, sumFrom, subtractFrom}
 use Rattle.block_runs.specs.blocks.Blocks.{block}
 use Rattle.block_runs.proofs.blocks.Laws.{read-block, has-dense}
-use Rattle.block_runs.specs.axpy.Axpy.{at, run, along, oneMore, fourMore, products, Some, taking, signedOf}
+use Rattle.block_runs.specs.axpy.Axpy.{at, run, along, oneMore, fourMore, products, Some, addOrSubtract, signedOf}
 
 -- the sums of the rules
 pub sum-along : (s : Float) (a b : ℕ → Float) (n : ℕ) → along (ieee .plus) s a b n ≡ sumFrom ieee s (all ieee) a b n
@@ -26,10 +26,10 @@ unfolding along sumFrom
 sum-along s a b zero = refl
 sum-along s a b (suc n) = ap (λ (x : Float). ieee .plus x (ieee.times (a n) (b n))) (sum-along s a b n)
 
-pub less-along : (s : Float) (a b : ℕ → Float) (n : ℕ) → along (ieee .minus) s a b n ≡ lessFrom ieee s (all ieee) a b n
-unfolding along lessFrom
-less-along s a b zero = refl
-less-along s a b (suc n) = ap (λ (x : Float). ieee .minus x (ieee.times (a n) (b n))) (less-along s a b n)
+pub subtract-along : (s : Float) (a b : ℕ → Float) (n : ℕ) → along (ieee .minus) s a b n ≡ subtractFrom ieee s (all ieee) a b n
+unfolding along subtractFrom
+subtract-along s a b zero = refl
+subtract-along s a b (suc n) = ap (λ (x : Float). ieee .minus x (ieee.times (a n) (b n))) (subtract-along s a b n)
 
 module _ (f : Float → Float → Float) where
   pub along-ext : (s s′ : Float) (a a′ b b′ : ℕ → Float) (n : ℕ) → s ≡ s′ → ((x : ℕ) → x < n → a x ≡ a′ x) → ((x : ℕ) → x < n → b x ≡ b′ x)
@@ -68,18 +68,18 @@ read-run to n g w fits i k l e =
 
 module _ (f : Float → Float → Float) (acc : List Float) (n : ℕ) (w : List Float) (a rows : ℕ) (v : List Float) (b step r : ℕ)
     (room : n ≤ length acc) (narrow : n ≤ rows) (one : r < step) where
-  pub none-taken : acc ≡ products f acc n w a rows v b step r 0
+  pub none-added : acc ≡ products f acc n w a rows v b step r 0
   unfolding along
-  none-taken =
+  none-added =
       sym (store-part 0 n acc (omega arith)) ∙ ap (λ (l : List Float). store 0 l acc)
       (take-tab nan n (at acc) acc room (λ i l. refl))
 
   -- x products and k more
-  pub more-taken : (x k p q : ℕ) (acc₁ acc₂ : List Float) → p ≡ a + start (dense rows) x → q ≡ b + start (dense step) x
+  pub more-added : (x k p q : ℕ) (acc₁ acc₂ : List Float) → p ≡ a + start (dense rows) x → q ≡ b + start (dense step) x
       → a + sizeOf (columns rows (x + k)) ≤ length w → b + sizeOf (columns step (x + k)) ≤ length v
       → acc₁ ≡ products f acc n w a rows v b step r x → acc₂ ≡ products f acc₁ n w p rows v q step r k
       → acc₂ ≡ products f acc n w a rows v b step r (x + k)
-  more-taken x k p q acc₁ acc₂ e d fits fits′ so then =
+  more-added x k p q acc₁ acc₂ e d fits fits′ so then =
       let g : ℕ → Float = λ i. along f (at acc i) (block a (columns rows x) w i) (block b (columns step x) v r) x in
       then ∙ ap (λ (l : List Float). run 0 n (λ i. along f (at l i) (block p (columns rows k) w i) (block q (columns step k) v r) k) l) so
       ∙ run-run n g (λ i. along f (at (run 0 n g acc) i) (block p (columns rows k) w i) (block q (columns step k) v r) k) acc room
@@ -112,16 +112,16 @@ module _ (f : Float → Float → Float) (n : ℕ) (w : List Float) (p rows : �
       (read-block (columns rows k) p w i y (p′ + i) (has-dense rows k i y (omega arith) l) (omega (arith, start-le (dense rows) k left top)) (omega arith))
       (read-block (columns step k) q v r y q′ (has-dense step k r y one l) (omega (arith, start-le (dense step) k left top)) (omega arith))
 
-  pub one-taken : (acc acc′ : List Float) (q′ : ℕ) → 1 ≤ left → q′ ≡ q + r → acc′ ≡ run 0 n (oneMore f w p (at v q′) (at acc)) acc
+  pub one-added : (acc acc′ : List Float) (q′ : ℕ) → 1 ≤ left → q′ ≡ q + r → acc′ ≡ run 0 n (oneMore f w p (at v q′) (at acc)) acc
       → Some f acc acc′ n w p rows v q step r left 1
   unfolding along start
-  one-taken acc acc′ q′ some d so =
+  one-added acc acc′ q′ some d so =
       (omega arith, some, so ∙ ap (λ (l : List Float). store 0 l acc) (tab-ext n _ _ (λ i l. ap (f (at acc i)) (factors 1 some 0 (omega arith) p q′ (omega arith) (omega arith) i l))))
 
-  pub four-taken : (acc acc′ : List Float) (q′ : ℕ) → 4 ≤ left → q′ ≡ q + r → acc′ ≡ fourMore f acc n w p rows v q′ step
+  pub four-added : (acc acc′ : List Float) (q′ : ℕ) → 4 ≤ left → q′ ≡ q + r → acc′ ≡ fourMore f acc n w p rows v q′ step
       → Some f acc acc′ n w p rows v q step r left 4
   unfolding along
-  four-taken acc acc′ q′ some d so = (
+  four-added acc acc′ q′ some d so = (
     omega arith,
     some,
     so
@@ -194,84 +194,84 @@ summed f n w a rows v b step r inner acc acc₁ acc₂ z room first then i l =
     ∙ ap (λ (x : Float). along f x (block a (columns rows inner) w i) (block b (columns step inner) v r) inner)
     (ap (λ (x : List Float). at x i) first ∙ read-run 0 n z acc (omega arith) i i l (omega arith))
 
--- ---- to take a product off is to add it with a factor whose sign is turned
-odd-turned : (d : ℕ) (s : Bool) (q k l : ℕ) → neg (odd d s q k l) ≡ odd d (not s) q k l
+-- ---- to take a product off is to add it with a factor that is negated
+odd-negated : (d : ℕ) (s : Bool) (q k l : ℕ) → neg (odd d s q k l) ≡ odd d (not s) q k l
 unfolding odd neg
-odd-turned d s zero k l = refl
-odd-turned d s (suc q) k l = refl
+odd-negated d s zero k l = refl
+odd-negated d s (suc q) k l = refl
 
-units-turned : (f : Format) (s : Bool) (q k : ℕ) (b : Bool) → neg (cond b (odd (suc (prec f)) s q k (low f)) (inf s)) ≡ cond b (odd (suc (prec f)) (not s) q k (low f)) (inf (not s))
+units-negated : (f : Format) (s : Bool) (q k : ℕ) (b : Bool) → neg (cond b (odd (suc (prec f)) s q k (low f)) (inf s)) ≡ cond b (odd (suc (prec f)) (not s) q k (low f)) (inf (not s))
 unfolding neg
-units-turned f s q k true = odd-turned (suc (prec f)) s q k (low f)
-units-turned f s q k false = refl
+units-negated f s q k true = odd-negated (suc (prec f)) s q k (low f)
+units-negated f s q k false = refl
 
-unit-turned : (f : Format) (s : Bool) (q k : ℕ) → neg (units f s q k) ≡ units f (not s) q k
+unit-negated : (f : Format) (s : Bool) (q k : ℕ) → neg (units f s q k) ≡ units f (not s) q k
 unfolding units
-unit-turned f s q k = units-turned f s q k (ltb (q * 2 ^ k) (2 ^ (low f + suc (emax f))))
+unit-negated f s q k = units-negated f s q k (ltb (q * 2 ^ k) (2 ^ (low f + suc (emax f))))
 
-round-turned : (f : Format) (s : Bool) (n d : ℕ) → neg (round f s n d) ≡ round f (not s) n d
+round-negated : (f : Format) (s : Bool) (n d : ℕ) → neg (round f s n d) ≡ round f (not s) n d
 unfolding round
-round-turned f s num den =
+round-negated f s num den =
     let n : ℕ = num * 2 ^ low f in
     let k : ℕ = size (n / den) - prec f in
     let u : ℕ = den * 2 ^ k in
-    unit-turned f s (nearest (n / u) (compare (n % u * 2) u)) k
+    unit-negated f s (nearest (n / u) (compare (n % u * 2) u)) k
 
-unlike-turned : (s t : Bool) → unlike s (not t) ≡ not (unlike s t)
-unlike-turned true true = refl
-unlike-turned true false = refl
-unlike-turned false true = refl
-unlike-turned false false = refl
+unlike-negated : (s t : Bool) → unlike s (not t) ≡ not (unlike s t)
+unlike-negated true true = refl
+unlike-negated true false = refl
+unlike-negated false true = refl
+unlike-negated false false = refl
 
-null-turned : (b s t : Bool) → cond b nan (inf (unlike s (not t))) ≡ neg (cond b nan (inf (unlike s t)))
+null-negated : (b s t : Bool) → cond b nan (inf (unlike s (not t))) ≡ neg (cond b nan (inf (unlike s t)))
 unfolding neg
-null-turned true s t = refl
-null-turned false s t = ap inf (unlike-turned s t)
+null-negated true s t = refl
+null-negated false s t = ap inf (unlike-negated s t)
 
-times-turned : (x y : Float) → ieee .times x (neg y) ≡ neg (ieee .times x y)
+times-negated : (x y : Float) → ieee .times x (neg y) ≡ neg (ieee .times x y)
 unfolding mul neg
-times-turned nan nan = refl
-times-turned nan (inf t) = refl
-times-turned nan (fin t n d) = refl
-times-turned (inf s) nan = refl
-times-turned (inf s) (inf t) = ap inf (unlike-turned s t)
-times-turned (inf s) (fin t n d) = null-turned (eqb n 0) s t
-times-turned (fin s m e) nan = refl
-times-turned (fin s m e) (inf t) = null-turned (eqb m 0) s t
-times-turned (fin s m e) (fin t n d) =
-    ap (λ (b : Bool). round binary64 b (m * up e * (n * up d)) (down e * down d)) (unlike-turned s t)
-    ∙ sym (round-turned binary64 (unlike s t) (m * up e * (n * up d)) (down e * down d))
+times-negated nan nan = refl
+times-negated nan (inf t) = refl
+times-negated nan (fin t n d) = refl
+times-negated (inf s) nan = refl
+times-negated (inf s) (inf t) = ap inf (unlike-negated s t)
+times-negated (inf s) (fin t n d) = null-negated (eqb n 0) s t
+times-negated (fin s m e) nan = refl
+times-negated (fin s m e) (inf t) = null-negated (eqb m 0) s t
+times-negated (fin s m e) (fin t n d) =
+    ap (λ (b : Bool). round binary64 b (m * up e * (n * up d)) (down e * down d)) (unlike-negated s t)
+    ∙ sym (round-negated binary64 (unlike s t) (m * up e * (n * up d)) (down e * down d))
 
-signed-taking : (less : Bool) (s x y : Float) → ieee .plus s (ieee .times x (signedOf less y)) ≡ taking less s (ieee .times x y)
+signed-add-or-subtract : (subtract : Bool) (s x y : Float) → ieee .plus s (ieee .times x (signedOf subtract y)) ≡ addOrSubtract subtract s (ieee .times x y)
 unfolding sub
-signed-taking false s x y = refl
-signed-taking true s x y = ap (ieee.plus s) (times-turned x y)
+signed-add-or-subtract false s x y = refl
+signed-add-or-subtract true s x y = ap (ieee.plus s) (times-negated x y)
 
 -- a product with a signed factor
-taken : (less : Bool) (s x y f : Float) → f ≡ signedOf less y → ieee .plus s (ieee .times x f) ≡ taking less s (ieee .times x y)
-taken less s x y f e = ap (λ (z : Float). ieee .plus s (ieee.times x z)) e ∙ signed-taking less s x y
+product-added : (subtract : Bool) (s x y f : Float) → f ≡ signedOf subtract y → ieee .plus s (ieee .times x f) ≡ addOrSubtract subtract s (ieee .times x y)
+product-added subtract s x y f e = ap (λ (z : Float). ieee .plus s (ieee.times x z)) e ∙ signed-add-or-subtract subtract s x y
 
-pub one-signed : (less : Bool) (acc acc′ : List Float) (n : ℕ) (w : List Float) (p : ℕ) (y f : Float) → f ≡ signedOf less y
-    → acc′ ≡ run 0 n (oneMore (ieee .plus) w p f (at acc)) acc → acc′ ≡ run 0 n (oneMore (taking less) w p y (at acc)) acc
-one-signed less acc acc′ n w p y f e so = so ∙ ap (λ (l : List Float). store 0 l acc) (tab-ext n _ _ (λ i l. taken less (at acc i) (at w (p + i)) y f e))
+pub one-signed : (subtract : Bool) (acc acc′ : List Float) (n : ℕ) (w : List Float) (p : ℕ) (y f : Float) → f ≡ signedOf subtract y
+    → acc′ ≡ run 0 n (oneMore (ieee .plus) w p f (at acc)) acc → acc′ ≡ run 0 n (oneMore (addOrSubtract subtract) w p y (at acc)) acc
+one-signed subtract acc acc′ n w p y f e so = so ∙ ap (λ (l : List Float). store 0 l acc) (tab-ext n _ _ (λ i l. product-added subtract (at acc i) (at w (p + i)) y f e))
 
-pub four-signed : (less : Bool) (acc acc′ : List Float) (n : ℕ) (w : List Float) (p rows : ℕ) (v : List Float) (q step : ℕ) (f f1 f2 f3 : Float)
-    → f ≡ signedOf less (at v q) → f1 ≡ signedOf less (at v (q + step)) → f2 ≡ signedOf less (at v (q + step + step))
-    → f3 ≡ signedOf less (at v (q + step + step + step))
+pub four-signed : (subtract : Bool) (acc acc′ : List Float) (n : ℕ) (w : List Float) (p rows : ℕ) (v : List Float) (q step : ℕ) (f f1 f2 f3 : Float)
+    → f ≡ signedOf subtract (at v q) → f1 ≡ signedOf subtract (at v (q + step)) → f2 ≡ signedOf subtract (at v (q + step + step))
+    → f3 ≡ signedOf subtract (at v (q + step + step + step))
     → acc′
     ≡ run 0 n
     (oneMore (ieee .plus) w (p + rows + rows + rows) f3
     (oneMore (ieee .plus) w (p + rows + rows) f2 (oneMore (ieee .plus) w (p + rows) f1 (oneMore (ieee .plus) w p f (at acc)))))
     acc
-    → acc′ ≡ fourMore (taking less) acc n w p rows v q step
-four-signed less acc acc′ n w p rows v q step f f1 f2 f3 e e1 e2 e3 so =
+    → acc′ ≡ fourMore (addOrSubtract subtract) acc n w p rows v q step
+four-signed subtract acc acc′ n w p rows v q step f f1 f2 f3 e e1 e2 e3 so =
     so
     ∙ ap (λ (l : List Float). store 0 l acc)
     (tab-ext n _ _
     (λ i l.
-    taken less _ (at w (p + rows + rows + rows + i)) (at v (q + step + step + step)) f3 e3
-    ∙ ap (λ (s : Float). taking less s (ieee.times (at w (p + rows + rows + rows + i)) (at v (q + step + step + step))))
-    (taken less _ (at w (p + rows + rows + i)) (at v (q + step + step)) f2 e2
-    ∙ ap (λ (s : Float). taking less s (ieee.times (at w (p + rows + rows + i)) (at v (q + step + step))))
-    (taken less _ (at w (p + rows + i)) (at v (q + step)) f1 e1
-    ∙ ap (λ (s : Float). taking less s (ieee.times (at w (p + rows + i)) (at v (q + step)))) (taken less (at acc i) (at w (p + i)) (at v q) f e)))))
+    product-added subtract _ (at w (p + rows + rows + rows + i)) (at v (q + step + step + step)) f3 e3
+    ∙ ap (λ (s : Float). addOrSubtract subtract s (ieee.times (at w (p + rows + rows + rows + i)) (at v (q + step + step + step))))
+    (product-added subtract _ (at w (p + rows + rows + i)) (at v (q + step + step)) f2 e2
+    ∙ ap (λ (s : Float). addOrSubtract subtract s (ieee.times (at w (p + rows + rows + i)) (at v (q + step + step))))
+    (product-added subtract _ (at w (p + rows + i)) (at v (q + step)) f1 e1
+    ∙ ap (λ (s : Float). addOrSubtract subtract s (ieee.times (at w (p + rows + i)) (at v (q + step)))) (product-added subtract (at acc i) (at w (p + i)) (at v q) f e)))))

@@ -10,7 +10,7 @@ use Rattle.storage.specs.Shape.{columns, sizeOf}
 use Rattle.storage.proofs.Starts.{start-dense, start-le}
 use Rattle.rules.specs.Arithmetic.{ieee}
 use Rattle.block_runs.specs.axpy.Axpy.{fourMore, products}
-use Rattle.block_runs.proofs.axpy.Sums.{left-fits, next-start, more-taken, four-taken}
+use Rattle.block_runs.proofs.axpy.Sums.{left-fits, next-start, more-added, four-added}
 
 -- room for the columns that are left when x are taken
 pub rest-fits : (a rows x inner top : ℕ) → x ≤ inner → a + sizeOf (columns rows inner) ≤ top → a + x * rows + sizeOf (columns rows (inner - x)) ≤ top
@@ -31,12 +31,12 @@ reached w a rows v b step inner x p q l h k e d =
 
 module _ {w : List Float} {a rows : ℕ} {v : List Float} {b step inner x p q : ℕ} (e : Reached w a rows v b step inner x p q) where
   -- each sum with the products that are left
-  pub rest-taken : (acc acc₁ acc₂ : List Float) (n r : ℕ) → n ≤ length acc → n ≤ rows → r < step → acc₁ ≡ products (ieee .plus) acc n w a rows v b step r x
+  pub rest-added : (acc acc₁ acc₂ : List Float) (n r : ℕ) → n ≤ length acc → n ≤ rows → r < step → acc₁ ≡ products (ieee .plus) acc n w a rows v b step r x
       → acc₂ ≡ products (ieee .plus) acc₁ n w p rows v q step r (inner - x) → acc₂ ≡ products (ieee .plus) acc n w a rows v b step r inner
-  rest-taken acc acc₁ acc₂ n r room narrow one so then =
+  rest-added acc acc₁ acc₂ n r room narrow one so then =
       let within = e.within in
       let g : x + (inner - x) ≡ inner = omega arith in
-      more-taken ieee.plus acc n w a rows v b step r room narrow one x (inner - x) p q acc₁ acc₂ e.place e.place′ (rw g e.fits) (rw g e.fits′) so then
+      more-added ieee.plus acc n w a rows v b step r room narrow one x (inner - x) p q acc₁ acc₂ e.place e.place′ (rw g e.fits) (rw g e.fits′) so then
       ∙ ap (products ieee.plus acc n w a rows v b step r) g
 
   module _ (more : x + 4 ≤ inner) where
@@ -61,6 +61,6 @@ module _ {w : List Float} {a rows : ℕ} {v : List Float} {b step inner x p q : 
     pub four-more : (acc acc₁ acc₂ : List Float) (n r q′ : ℕ) → n ≤ length acc → n ≤ rows → r < step → q′ ≡ q + r → acc₁ ≡ products (ieee .plus) acc n w a rows v b step r x
         → acc₂ ≡ fourMore (ieee .plus) acc₁ n w p rows v q′ step → acc₂ ≡ products (ieee .plus) acc n w a rows v b step r (x + 4)
     four-more acc acc₁ acc₂ n r q′ room narrow one d so then =
-        more-taken ieee.plus acc n w a rows v b step r room narrow one x 4 p q acc₁ acc₂ e.place e.place′
+        more-added ieee.plus acc n w a rows v b step r room narrow one x 4 p q acc₁ acc₂ e.place e.place′
         (omega (arith, start-le (dense rows) (x + 4) inner more, e.fits)) (omega (arith, start-le (dense step) (x + 4) inner more, e.fits′)) so
-        (four-taken ieee.plus n w p rows v q step r 4 narrow one (omega (arith, start-dense rows 4, reached-four)) (omega (arith, start-dense step 4, reached-four)) acc₁ acc₂ q′ (omega arith) d then .2)
+        (four-added ieee.plus n w p rows v q step r 4 narrow one (omega (arith, start-dense rows 4, reached-four)) (omega (arith, start-dense step 4, reached-four)) acc₁ acc₂ q′ (omega arith) d then .2)

@@ -25,12 +25,12 @@ unfoldable pub along : (Float → Float → Float) → Float → (ℕ → Float)
 along f s a b zero = s
 along f s a b (suc n) = f (along f s a b n) (ieee .times (a n) (b n))
 
--- how a product is taken in: added, or taken off
-abbrev pub taking : Bool → Float → Float → Float
-taking false = ieee .plus
-taking true = ieee .minus
+-- how a product is taken in: added, or subtracted
+abbrev pub addOrSubtract : Bool → Float → Float → Float
+addOrSubtract false = ieee .plus
+addOrSubtract true = ieee .minus
 
--- a factor, with its sign turned where the product is taken off
+-- a factor, negated where the product is subtracted
 abbrev pub signedOf : Bool → Float → Float
 signedOf false x = x
 signedOf true x = neg x

@@ -25,43 +25,43 @@ fn wide(x: u32) -> u64 {
 }
 
 // Number or double i as a word.
-fn word_at(h: &[u32; 1024], w: &[f64; 8192], i: usize) -> u64
+fn word_at(heading: &[u32; 1024], doubles: &[f64; 8192], i: usize) -> u64
     requires { ⌜ i < 9216 ⌝ }
 {
     if i < 1024 {
-        return wide(h[i]);
+        return wide(heading[i]);
     }
-    words::word_of(w[i - 1024])
+    words::word_of(doubles[i - 1024])
 }
 
 // Puts a word into number or double i, if there is one.
-fn put(h: &mut [u32; 1024], w: &mut [f64; 8192], i: usize, x: u64) {
+fn put(heading: &mut [u32; 1024], doubles: &mut [f64; 8192], i: usize, x: u64) {
     if i < 1024 {
-        h[i] = (x % 0x100000000) as u32;
+        heading[i] = (x % 0x100000000) as u32;
         return;
     }
     if i < 9216 {
-        w[i - 1024] = words::double(x);
+        doubles[i - 1024] = words::double(x);
     }
 }
 
 // Memory that no call has written.
-pub fn reset(m: &mut [u64; 65536], h: &mut [u32; 1024], w: &mut [f64; 8192]) {
+pub fn reset(m: &mut [u64; 65536], heading: &mut [u32; 1024], doubles: &mut [f64; 8192]) {
     let mut i: usize = 0;
     while i < 13312 {
         let x = pattern(i);
-        put(h, w, i, x);
+        put(heading, doubles, i, x);
         m[BEFORE + i] = x;
         i += 1;
     }
 }
 
 // What a stranger to the calls writes: places and words by turns, as the body has them.
-pub fn alter(m: &[u64; 65536], h: &mut [u32; 1024], w: &mut [f64; 8192]) {
+pub fn alter(m: &[u64; 65536], heading: &mut [u32; 1024], doubles: &mut [f64; 8192]) {
     let end = HEAD + test_words::size(m[9], 40960);
     let mut i = HEAD;
     while i < end {
-        put(h, w, test_words::size(m[i], 9216), m[i + 1]);
+        put(heading, doubles, test_words::size(m[i], 9216), m[i + 1]);
         i += 2;
     }
 }
@@ -78,10 +78,10 @@ fn print_change(m: &mut [u64; 65536], i: usize, x: u64)
 }
 
 // The lines of numbers and doubles.
-pub fn print_changes(m: &mut [u64; 65536], h: &[u32; 1024], w: &[f64; 8192]) {
+pub fn print_changes(m: &mut [u64; 65536], heading: &[u32; 1024], doubles: &[f64; 8192]) {
     let mut i: usize = 0;
     while i < 9216 {
-        print_change(m, i, word_at(h, w, i));
+        print_change(m, i, word_at(heading, doubles, i));
         i += 1;
     }
 }

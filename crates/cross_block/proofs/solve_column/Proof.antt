@@ -7,17 +7,17 @@ use borrow.Author.Needs.{needs}
 use Rattle.cross_block.proofs.solve_column.Statement.{statement}
 use Rattle.cross_block.proofs.solve_column.Tie as tie
 
-less-products-requires : tie.Need-less-products-requires
-less-products-requires c κs = let a = c.before.before.before.before.before.before.before.before.before.args in
+subtract-products-requires : tie.Need-subtract-products-requires
+subtract-products-requires c κs = let a = c.before.before.before.before.before.before.before.before.before.args in
     omega (arith, start-dense 1 a.c)
 
 returns : tie.Need-returns
 returns c =
     let a = c.before.before.before.before.before.before.before.before.before.before.before.before.before.before.before.before.before.before.args in
-    column-solved a.w.now _ a.acc.now _ _ (a.off + a .to) a.off a.rows a.row a.c (omega arith)
-    c.before.before.before.before.before.before.before.before.before.before.before.before.before.read.ensures c.before.before.before.before.before.before.before.before.less-products.ensures c.before.before.over.ensures
+    column-solved a.doubles.now _ a.acc.now _ _ (a.off + a .to) a.off a.rows a.row a.c (omega arith)
+    c.before.before.before.before.before.before.before.before.before.before.before.before.before.read.ensures c.before.before.before.before.before.before.before.before.subtract-products.ensures c.before.before.over.ensures
 
 pub solve-column-spec : {M : Type 1} → statement M
-solve-column-spec = tie.close (tie.spec (λ c. search needs) (λ c κs. search needs) less-products-requires
+solve-column-spec = tie.close (tie.spec (λ c. search needs) (λ c κs. search needs) subtract-products-requires
     (λ c. search needs) (λ c. search needs) (λ c. search needs) (λ c κs. search needs) (λ c. search needs)
     (λ c. search needs) returns)

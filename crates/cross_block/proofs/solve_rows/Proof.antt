@@ -29,7 +29,7 @@ add-end c = let a = c.before.args in omega (arith, start-dense a.rows a.cols)
 loop-holds : tie.Need-loop-holds Inv-loop μ-loop
 unfolding start
 loop-holds c = let a = c.before.args in let e = start-dense a.rows a.cols in
-    (refl, omega arith, writing-none a.off _ (dense a.rows) a.cols _ a.w.now (omega arith) (omega arith))
+    (refl, omega arith, writing-none a.off _ (dense a.rows) a.cols _ a.doubles.now (omega arith) (omega arith))
 
 solve-column-requires : tie.Need-solve-column-requires Inv-loop μ-loop
 solve-column-requires c κs = let l = c.before.before.before.loop in

@@ -16,12 +16,12 @@ use Rattle.storage.proofs.Blocks.{cell-part}
 use Rattle.rules.specs.Arithmetic.{ieee}
 use Rattle.rules.specs.Sums.{dot}
 use Rattle.rules.specs.Cholesky.{at}
-use Rattle.rules.specs.Solves.{lessDenseT}
+use Rattle.rules.specs.Solves.{matvecTSub}
 use Rattle.block_runs.specs.blocks.Blocks.{block, entry}
 use Rattle.block_runs.proofs.blocks.Laws.{has-dense}
 use Rattle.block_runs.specs.axpy.Axpy.{at as double}
 use Rattle.block_runs.proofs.axpy.Sums.{sum-along, along-ext, along-swap, read-run}
-use Rattle.cross_matvec.specs.Products.{lessProductT, columnSum}
+use Rattle.cross_matvec.specs.Products.{subtractedProductT, columnSum}
 use Rattle.cross_matvec.proofs.Vectors.{read-entry, run-else}
 use Rattle.cross_matvec.proofs.Dense.{column-sum}
 
@@ -36,9 +36,9 @@ sum-lists v p z n x u room room′ is is′ =
     column-sum v p v z n (at ieee x) (at ieee u) (λ i l. read-entry p n v i l room ∙ ap (λ (y : List Float). at ieee y i) is)
     (λ i l. read-entry z n v i l room′ ∙ ap (λ (y : List Float). at ieee y i) is′)
 
-module _ (off cols z rows a : ℕ) (v v′ : List Float) (fits : off + cols ≤ length v) (so : v′ ≡ lessProductT off cols z rows a v v) where
+module _ (off cols z rows a : ℕ) (v v′ : List Float) (fits : off + cols ≤ length v) (so : v′ ≡ subtractedProductT off cols z rows a v v) where
   abbrev cells : ℕ → Float
-  cells = lessDenseT ieee (block a (columns rows cols) v) (entry z rows v) (entry off cols v) rows
+  cells = matvecTSub ieee (block a (columns rows cols) v) (entry z rows v) (entry off cols v) rows
 
   pub product-long : length v′ ≡ length v
   product-long = ap length so ∙ length-store off (tab cols cells) v (omega (arith, length-tab cols cells))

@@ -19,8 +19,8 @@ use Rattle.layout.specs.Shapes.{Target, target, pick, levels, targets, shape, l
 use Rattle.heading_format.specs.Heading.{layoutOf, entryRow}
 use Rattle.layout.proofs.Places.{block-inside, blocks-apart, in-targets, size-working, size-loaded, theta-inside}
 use Rattle.workspace.specs.Memory.{loadedBlock, loadedSome}
-use Rattle.update.specs.Working.{started}
-use Rattle.update.specs.Calls.{storeStarted, begun}
+use Rattle.update.specs.Working.{scaled}
+use Rattle.update.specs.Calls.{storeScaled, begun}
 use Rattle.demand3.proofs.frame.Step.{cell-stored}
 use Rattle.demand3.proofs.frame.Stored.{same-or-other, run-length, run-part, run-drop, run-own}
 
@@ -43,9 +43,9 @@ last-size y i j e =
 
 module _ (y : Layout) (row : ℕ → ℕ) (loaded : ℕ → ℕ → Bool) (t : ℕ → Float) where
   -- a begun block is as long as it works
-  pub started-length : (i j : ℕ) (a : List Float) → length a ≡ loadedSizes y i j → length (started y row loaded t i j a) ≡ sizes y i j
-  unfolding started
-  started-length i j a size =
+  pub scaled-length : (i j : ℕ) (a : List Float) → length a ≡ loadedSizes y i j → length (scaled y row loaded t i j a) ≡ sizes y i j
+  unfolding scaled
+  scaled-length i j a size =
       length-pick (eqb j y.k) a _ (sizes y i j) (λ e. size ∙ last-size y i j e) (length-fill (shape y row i j) _ ∙ size-working y row i j)
 
 -- ---- the targets of a workspace
@@ -91,18 +91,18 @@ module _ (h : List ℕ) (w theta : List Float) (room : doublesNeeded (layoutOf h
   place t = workingAt y t.row t.col
 
   abbrev made : Target → List Float
-  made t = started y (entryRow h) (loadedSome h w) thetaIn t.row t.col (loadedBlock h w t.row t.col)
+  made t = scaled y (entryRow h) (loadedSome h w) thetaIn t.row t.col (loadedBlock h w t.row t.col)
 
   -- the blocks of a list, one after the other
   abbrev run : List Target → List Float → List Float
-  run = storeStarted h w thetaIn
+  run = storeScaled h w thetaIn
 
   ends : (v : List Float) → run [] v ≡ v
-  unfolding storeStarted
+  unfolding storeScaled
   ends v = refl
 
   goes-on : (t : Target) (l : List Target) (v : List Float) → run (t ∷ l) v ≡ run l (store (place t) (made t) v)
-  unfolding storeStarted
+  unfolding storeScaled
   goes-on t l v = refl
 
   -- theta alone, and the blocks with it
@@ -123,7 +123,7 @@ module _ (h : List ℕ) (w theta : List Float) (room : doublesNeeded (layoutOf h
   made-length : (t : Target) → List·Memᴰ t every → length (made t) ≡ sizes y (t .row) (t .col)
   made-length t m =
       let size : sizeOf (loadedShape y (entryRow h) t.row t.col) ≡ loadedSizes y t.row t.col = size-loaded y (entryRow h) t.row t.col in
-      started-length y (entryRow h) (loadedSome h w) thetaIn t.row t.col (loadedBlock h w t.row t.col)
+      scaled-length y (entryRow h) (loadedSome h w) thetaIn t.row t.col (loadedBlock h w t.row t.col)
       (length-part (loadedAt y t.row t.col) (sizeOf (loadedShape y (entryRow h) t.row t.col)) w
       (omega (arith, size, loaded-within y t m, theta-inside y))
       ∙ size)
@@ -156,7 +156,7 @@ module _ (h : List ℕ) (w theta : List Float) (room : doublesNeeded (layoutOf h
 
   -- every block is begun, out of the numbers as they were before
   pub begun-block : (i j : ℕ) → j ≤ i → i ≤ layoutOf h .k
-      → part (workingAt (layoutOf h) i j) (sizes (layoutOf h) i j) (begun h w theta .doubles) ≡ started (layoutOf h) (entryRow h) (loadedSome h w) thetaIn i j (loadedBlock h w i j)
+      → part (workingAt (layoutOf h) i j) (sizes (layoutOf h) i j) (begun h w theta .doubles) ≡ scaled (layoutOf h) (entryRow h) (loadedSome h w) thetaIn i j (loadedBlock h w i j)
   unfolding begun
   begun-block i j l m =
       let t : Target = target i j in

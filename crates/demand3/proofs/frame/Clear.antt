@@ -9,30 +9,30 @@ use Rattle.storage.proofs.Parts.{length-store, take-store, drop-store}
 use Rattle.rules.specs.Arithmetic.{ieee}
 use Rattle.layout.specs.declared.Layout.{Layout}
 use Rattle.layout.specs.Shapes.{loadedLength, thetaAt, sumAt, doublesNeeded}
-use Rattle.workspace.specs.Memory.{noughts, cleared}
+use Rattle.workspace.specs.Memory.{zeros, cleared}
 use Rattle.layout.proofs.Places.{theta-inside}
 
--- the noughts reach from theta to the end of the workspace
-pub noughts-length : (y : Layout) → loadedLength y + length (noughts y) ≡ doublesNeeded y
-unfolding noughts
-noughts-length y = omega (arith, theta-inside y, length-replicate (suc (sumAt y) - thetaAt y) ieee.zero)
+-- the zeros reach from theta to the end of the workspace
+pub zeros-length : (y : Layout) → loadedLength y + length (zeros y) ≡ doublesNeeded y
+unfolding zeros
+zeros-length y = omega (arith, theta-inside y, length-replicate (suc (sumAt y) - thetaAt y) ieee.zero)
 
 module _ (y : Layout) (w : List Float) (room : doublesNeeded y ≤ length w) where
   -- so they fit
-  noughts-fit : loadedLength y + length (noughts y) ≤ length w
-  noughts-fit = omega (arith, noughts-length y)
+  zeros-fit : loadedLength y + length (zeros y) ≤ length w
+  zeros-fit = omega (arith, zeros-length y)
 
   -- the length stays
   pub cleared-length : length (cleared y w) ≡ length w
   unfolding cleared
-  cleared-length = length-store (thetaAt y) (noughts y) w noughts-fit
+  cleared-length = length-store (thetaAt y) (zeros y) w zeros-fit
 
   -- the loaded numbers stay
   pub cleared-loaded : take (loadedLength y) (cleared y w) ≡ take (loadedLength y) w
   unfolding cleared
-  cleared-loaded = take-store (thetaAt y) (noughts y) w noughts-fit
+  cleared-loaded = take-store (thetaAt y) (zeros y) w zeros-fit
 
   -- what lies behind the workspace stays
   pub cleared-behind : drop (doublesNeeded y) (cleared y w) ≡ drop (doublesNeeded y) w
   unfolding cleared
-  cleared-behind = drop-store (thetaAt y) (noughts y) w noughts-fit (doublesNeeded y) (omega (arith, noughts-length y))
+  cleared-behind = drop-store (thetaAt y) (zeros y) w zeros-fit (doublesNeeded y) (omega (arith, zeros-length y))

@@ -24,8 +24,8 @@ use Rattle.layout.specs.declared.Layout.{Layout}
 use Rattle.heading_format.specs.declared.State.the-variants.{UnderWay, Finished}
 use Rattle.layout.specs.Shapes.{pick, loadedLength, thetaAt, sumAt, doublesNeeded}
 use Rattle.heading_format.specs.Heading.{layoutOf, stageOf, written, underWay}
-use Rattle.heading_format.proofs.Lawful.{is-lawful}
-use Rattle.heading_format.proofs.Heading.{layout-back, progress-stored, under-way-lawful}
+use Rattle.heading_format.proofs.Valid.{is-valid}
+use Rattle.heading_format.proofs.Heading.{layout-back, progress-stored, under-way-valid}
 use Rattle.workspace.specs.Memory.{Workspace, workingBlock, logSum, headingWith}
 use Rattle.workspace.specs.Answers.{Outcome, untouched, firstInfinite, unlessAt}
 use Rattle.update.specs.Calls.{begun, beginOf}
@@ -33,25 +33,25 @@ use Rattle.book.specs.Calls.{begin, plain}
 use Rattle.book.specs.Book.{Book, book, Entry, layout, last, nothing, entry, onBegin}
 use Rattle.book.specs.Values.{rulesHere, startHere}
 use Rattle.demand3.proofs.frame.Begin.{begun-length, begun-block, begun-sum, begun-loaded, begun-theta, begun-behind}
-use Rattle.demand3.proofs.same_rules.Same.{stateOf, started-same}
-use Rattle.demand3.proofs.invariant.Stands.{Site, Begun, Stands, Follows, behind}
-use Rattle.demand3.proofs.invariant.Site.{layout-of, headed-of, alike}
+use Rattle.demand3.proofs.same_rules.Same.{stateOf, scaled-same}
+use Rattle.demand3.proofs.invariant.Invariant.{Site, Begun, Invariant, Follows, behind}
+use Rattle.demand3.proofs.invariant.Site.{layout-of, valid-heading-of, alike}
 use Rattle.demand3.proofs.invariant.Step.{working-is}
 
 -- past two tests and an index
 goes : (a b : Bool) (f : Option ℕ) (bad : ℕ → Outcome) (o p q : Outcome) → a ≡ true → b ≡ true → f ≡ none → pick a (pick b (unlessAt f bad o) p) q ≡ o
 goes a b f bad o p q aa bb ff = rw (aa, bb, ff)
 
--- a list of noughts
-nought-at : (n i : ℕ) → getD {A = ℕ} (replicate n 0) i 0 ≡ 0
-nought-at zero i = refl
-nought-at (suc n) zero = refl
-nought-at (suc n) (suc i) = nought-at n i
+-- a list of zeros
+zero-at : (n i : ℕ) → getD {A = ℕ} (replicate n 0) i 0 ≡ 0
+zero-at zero i = refl
+zero-at (suc n) zero = refl
+zero-at (suc n) (suc i) = zero-at n i
 
-module _ (sheet : Sheet) (h : List ℕ) (w : List Float) (here : Site sheet h w) (b : Book) (v : Workspace) (s : Stands sheet h w b v) (theta : List Float) where
+module _ (sheet : Sheet) (h : List ℕ) (w : List Float) (here : Site sheet h w) (b : Book) (v : Workspace) (s : Invariant sheet h w b v) (theta : List Float) where
   -- at most eight blocks, and doubles enough
   few : last sheet ≤ 8
-  few = is-lawful (layout sheet) here.layout-lawful .blocks .1
+  few = is-valid (layout sheet) here.layout-valid .blocks .1
 
   -- its layout is the sheet's
   same : layoutOf (v .heading) ≡ layout sheet
@@ -68,7 +68,7 @@ module _ (sheet : Sheet) (h : List ℕ) (w : List Float) (here : Site sheet h w)
     -- it goes past 20, 13 and 14
     begins-so : beginOf (v .heading) (v .doubles) theta ≡ record { answer = Accepted; left = begun (v .heading) (v .doubles) theta }
     unfolding beginOf
-    begins-so = goes _ _ _ _ _ _ _ (headed-of sheet h w here b v s) (eq-eqb (length theta) (layoutOf v.heading .k) fits) finite
+    begins-so = goes _ _ _ _ _ _ _ (valid-heading-of sheet h w here b v s) (eq-eqb (length theta) (layoutOf v.heading .k) fits) finite
 
     pub begin-accepts : beginOf (v .heading) (v .doubles) theta .answer ≡ Accepted
     begin-accepts = ap (λ (o : Outcome). o .answer) begins-so
@@ -93,7 +93,7 @@ module _ (sheet : Sheet) (h : List ℕ) (w : List Float) (here : Site sheet h w)
         sym
         (working-is (layoutOf v.heading) after-it.heading after-it.doubles (begun-layout ∙ sym same) i j
         ∙ begun-block v.heading v.doubles theta room fits i j l (subst (λ (y : Layout). i ≤ y .k) (sym same) m)
-        ∙ started-same sheet b.loaded theta v (alike sheet h w here b v s) (underWay (last sheet)) i j l m)
+        ∙ scaled-same sheet b.loaded theta v (alike sheet h w here b v s) (underWay (last sheet)) i j l m)
 
     same-sum : ieee .zero ≡ logSum (after-it .heading) (after-it .doubles)
     same-sum =
@@ -101,11 +101,11 @@ module _ (sheet : Sheet) (h : List ℕ) (w : List Float) (here : Site sheet h w)
         (ap (λ (y : Layout). getD after-it.doubles (sumAt y) ieee.zero) (begun-layout ∙ sym same) ∙ begun-sum v.heading v.doubles theta room fits)
 
     same-stage : (i j : ℕ) → 0 ≡ stageOf (underWay (last sheet)) i j
-    same-stage i j = sym (nought-at 45 (start triangle i + j))
+    same-stage i j = sym (zero-at 45 (start triangle i + j))
 
     -- so the order theorem's invariant begins to hold
-    started-out : Begun sheet (b .loaded) theta nothing (underWay (last sheet)) after-it
-    started-out =
+    scaled-out : Begun sheet (b .loaded) theta nothing (underWay (last sheet)) after-it
+    scaled-out =
         record {
           theta-many = many;
           theta-finite = finite;
@@ -124,33 +124,33 @@ module _ (sheet : Sheet) (h : List ℕ) (w : List Float) (here : Site sheet h w)
         sym (ap (λ (t : Bool). pick t Finished UnderWay) (ne-eqb (stepsLeft (last sheet) nothing) 0 (λ z. omega arith)))
 
     -- the workspace stands as the page with the empty set
-    begun-stands : Stands sheet h w (book (b .loaded) theta (some nothing)) after-it
-    begun-stands =
+    begun-invariant : Invariant sheet h w (book (b .loaded) theta (some nothing)) after-it
+    begun-invariant =
         record {
           progress = underWay (last sheet);
           heading = begun-heading;
           stages = length-replicate {A = ℕ} 45 0;
-          lawful-progress = under-way-lawful (last sheet) few;
+          valid-progress = under-way-valid (last sheet) few;
           many = begun-length v.heading v.doubles theta room fits ∙ s.many;
           loaded = subst (λ (y : Layout). take (loadedLength y) after-it.doubles ≡ take (loadedLength y) v.doubles) same (begun-loaded v.heading v.doubles theta room fits)
               ∙ s.loaded;
           unwritten = subst (λ (y : Layout). drop (doublesNeeded y) after-it.doubles ≡ drop (doublesNeeded y) v.doubles) same (begun-behind v.heading v.doubles theta room fits)
               ∙ s.unwritten;
-          updating = (under-way, started-out);
+          updating = (under-way, scaled-out);
         }
 
-    pub begin-stands : Stands sheet h w (book (b .loaded) theta (some nothing)) (beginOf (v .heading) (v .doubles) theta .left)
-    begin-stands = subst (λ (o : Outcome). Stands sheet h w (book b.loaded theta (some nothing)) o.left) (sym begins-so) begun-stands
+    pub begin-invariant : Invariant sheet h w (book (b .loaded) theta (some nothing)) (beginOf (v .heading) (v .doubles) theta .left)
+    begin-invariant = subst (λ (o : Outcome). Invariant sheet h w (book b.loaded theta (some nothing)) o.left) (sym begins-so) begun-invariant
 
   -- an outcome against an entry of the book
   abbrev Met : Outcome → Entry → Type 0
-  Met o e = (plain o.answer ≡ e .reply) × Stands sheet h w e.next o.left
+  Met o e = (plain o.answer ≡ e .reply) × Invariant sheet h w e.next o.left
 
   -- whatever the two tests of theta say
   answered : (c : Bool) (f : Option ℕ) → eqb (length theta) (last sheet) ≡ c → firstInfinite 0 theta ≡ f
       → Met (pick c (unlessAt f (λ i. untouched (v .heading) (v .doubles) 14 0 i) (record { answer = Accepted; left = begun (v .heading) (v .doubles) theta })) (untouched (v .heading) (v .doubles) 13 0 0))
       (pick c (unlessAt f (λ i. entry (plain (refuse 14 0 i)) b) (entry (plain Accepted) (book (b .loaded) theta (some nothing)))) (entry (plain (refuse 13 0 0)) b))
-  answered true none e g = (refl, begun-stands (eqb-true (length theta) (last sheet) e) g)
+  answered true none e g = (refl, begun-invariant (eqb-true (length theta) (last sheet) e) g)
   answered true (some i) e g = (refl, s)
   answered false f e g = (refl, s)
 
@@ -163,7 +163,7 @@ module _ (sheet : Sheet) (h : List ℕ) (w : List Float) (here : Site sheet h w)
       (ap₂ (λ (t : Bool) (k : ℕ). pick t (pick (eqb (length theta) k)
       (unlessAt (firstInfinite 0 theta) (λ i. untouched v.heading v.doubles 14 0 i) (record { answer = Accepted; left = begun v.heading v.doubles theta }))
       (untouched v.heading v.doubles 13 0 0)) (untouched v.heading v.doubles 20 0 0))
-      (headed-of sheet h w here b v s) (ap (λ (y : Layout). y .k) same)))
+      (valid-heading-of sheet h w here b v s) (ap (λ (y : Layout). y .k) same)))
       (answered (eqb (length theta) (last sheet)) (firstInfinite 0 theta) refl refl)
 
   pub begin-follows : Follows sheet h w b v (begin theta)

@@ -21,31 +21,31 @@ use Rattle.sheet.specs.declared.Reading.the-variants.{Sheet as Read, Refused as
 use Rattle.sheet.specs.Sheet.{Sheet, accepted, sheetOf}
 use Rattle.sheet.specs.Sheet as Sheets
 use Rattle.sheet.specs.Answer.{Answers}
-use Rattle.sheet.specs.Fault.{refusalOf}
+use Rattle.sheet.specs.Fault.{faultNumber}
 use Rattle.refusal.specs.declared.Refusal.{Refusal}
 use Rattle.refusal.specs.declared.Answer.the-variants.{Accepted}
 use Rattle.layout.specs.declared.Layout.{Layout}
 use Rattle.layout.specs.Shapes.{pick, levels, pairs, loadedLength, numbersNeeded, doublesNeeded}
 use Rattle.heading_format.specs.Heading.{entryRow, written, idle}
-use Rattle.heading_format.proofs.Lawful.{is-lawful}
-use Rattle.heading_format.proofs.Heading.{length-written, rows-back, idle-lawful}
-use Rattle.workspace.specs.Memory.{noughts}
-use Rattle.workspace.specs.Answers.{Outcome, space, accept, untouched}
-use Rattle.workspace.specs.Loaded.{firstDenied, entryRowIn, loadedNumbers}
-use Rattle.workspace.specs.Load.{Loads, headingOf, doublesOf, roomy, afterGate, loadSheet, loadParsed, loadOf}
-use Rattle.workspace.proofs.Lawful.{sparse-columns, sheet-lawful}
+use Rattle.heading_format.proofs.Valid.{is-valid}
+use Rattle.heading_format.proofs.Heading.{length-written, rows-back, idle-valid}
+use Rattle.workspace.specs.Memory.{zeros}
+use Rattle.workspace.specs.Answers.{Outcome, workspace, accept, untouched}
+use Rattle.workspace.specs.Loaded.{firstRefusedPair, entryRowIn, loadedNumbers}
+use Rattle.workspace.specs.Load.{Loads, headingOf, doublesOf, hasRoom, afterGate, loadSheet, loadParsed, loadOf}
+use Rattle.workspace.proofs.Valid.{sparse-columns, sheet-valid}
 use Rattle.workspace.proofs.Lengths.{length-loaded, length-doubles, length-heading}
-use Rattle.workspace.proofs.Headed.{row-below, length-m, length-order}
+use Rattle.workspace.proofs.ValidHeading.{row-below, length-m, length-order}
 use Rattle.book.specs.Book.{book, layout, last, opened, fresh}
-use Rattle.demand3.proofs.frame.Clear.{noughts-length}
-use Rattle.demand3.proofs.invariant.Stands.{Site, Stands, behind}
+use Rattle.demand3.proofs.frame.Clear.{zeros-length}
+use Rattle.demand3.proofs.invariant.Invariant.{Site, Invariant, behind}
 
 -- ---- what an accepted load came to
-record Taken (sheet : Sheet) (h : List ℕ) (w : List Float) (o : Outcome) : Type 0 where
-  fine : refusalOf sheet ≡ 0
-  gate : firstDenied sheet (layout sheet) (pairs (last sheet)) ≡ none
-  room : roomy (layout sheet) h w ≡ true
-  left : o .left ≡ space (store 0 (headingOf sheet (layout sheet)) h) (store 0 (doublesOf sheet (layout sheet)) w)
+record Applied (sheet : Sheet) (h : List ℕ) (w : List Float) (o : Outcome) : Type 0 where
+  fine : faultNumber sheet ≡ 0
+  gate : firstRefusedPair sheet (layout sheet) (pairs (last sheet)) ≡ none
+  room : hasRoom (layout sheet) h w ≡ true
+  left : o .left ≡ workspace (store 0 (headingOf sheet (layout sheet)) h) (store 0 (doublesOf sheet (layout sheet)) w)
 
 module _ (sheet : Sheet) (h : List ℕ) (w : List Float) where
   -- it fitted
@@ -55,29 +55,29 @@ module _ (sheet : Sheet) (h : List ℕ) (w : List Float) where
 
   -- the gate let every pair pass
   passed : (y : Layout) (g : Option Refusal) → afterGate g sheet y h w .answer ≡ Accepted
-      → (g ≡ none) × (roomy y h w ≡ true) × (afterGate g sheet y h w ≡ accept (store 0 (headingOf sheet y) h) (store 0 (doublesOf sheet y) w))
-  passed y none a = let f = fitted (roomy y h w) (accept (store 0 (headingOf sheet y) h) (store 0 (doublesOf sheet y) w)) a in (refl, f.0, f.1)
+      → (g ≡ none) × (hasRoom y h w ≡ true) × (afterGate g sheet y h w ≡ accept (store 0 (headingOf sheet y) h) (store 0 (doublesOf sheet y) w))
+  passed y none a = let f = fitted (hasRoom y h w) (accept (store 0 (headingOf sheet y) h) (store 0 (doublesOf sheet y) w)) a in (refl, f.0, f.1)
   passed y (some r) a = absurd (let z : _≡_ {A = ℕ} 0 1 = cc in omega arith)
 
   -- so a sheet without a fault was taken
-  sheet-taken : refusalOf sheet ≡ 0 → loadSheet sheet h w .answer ≡ Accepted → Taken sheet h w (loadSheet sheet h w)
+  sheet-opened : faultNumber sheet ≡ 0 → loadSheet sheet h w .answer ≡ Accepted → Applied sheet h w (loadSheet sheet h w)
   unfolding loadSheet
-  sheet-taken fine a =
-      let p = passed (layout sheet) (firstDenied sheet (layout sheet) (pairs (last sheet))) a in
+  sheet-opened fine a =
+      let p = passed (layout sheet) (firstRefusedPair sheet (layout sheet) (pairs (last sheet))) a in
       record { fine = fine; gate = p.0; room = p.1; left = ap (λ (o : Outcome). o .left) p.2 }
 
   -- the sheet was read without a fault
   taken : (bytes : List ℕ) (starts : Starts) → sheetOf bytes ≡ accepted sheet starts → (r : Reading) → Answers (accepted sheet starts) r
-      → loadOf bytes r h w .answer ≡ Accepted → Taken sheet h w (loadOf bytes r h w)
+      → loadOf bytes r h w .answer ≡ Accepted → Applied sheet h w (loadOf bytes r h w)
   unfolding loadOf
   taken bytes starts e (Unread number line) r a = absurd (let z : _≡_ {A = ℕ} 0 1 = cc in omega arith)
   taken bytes starts e (Read found) r a =
-      subst (λ (p : Sheets.Outcome). loadParsed p h w .answer ≡ Accepted → Taken sheet h w (loadParsed p h w)) (sym e) (sheet-taken r.0) a
+      subst (λ (p : Sheets.Outcome). loadParsed p h w .answer ≡ Accepted → Applied sheet h w (loadParsed p h w)) (sym e) (sheet-opened r.0) a
 
   -- the same of what load came to
-  load-taken : (bytes : List ℕ) (starts : Starts) (o : Outcome) → sheetOf bytes ≡ accepted sheet starts → Loads bytes h w o → o .answer ≡ Accepted → Taken sheet h w o
-  load-taken bytes starts o e l a =
-      subst (Taken sheet h w) (sym l.comes)
+  load-opened : (bytes : List ℕ) (starts : Starts) (o : Outcome) → sheetOf bytes ≡ accepted sheet starts → Loads bytes h w o → o .answer ≡ Accepted → Applied sheet h w o
+  load-opened bytes starts o e l a =
+      subst (Applied sheet h w) (sym l.comes)
       (taken bytes starts e l.reading (subst (λ (p : Sheets.Outcome). Answers p l.reading) e l.read) (ap (λ (x : Outcome). x .answer) (sym l.comes) ∙ a))
 
 -- ---- the heading that load writes
@@ -110,8 +110,8 @@ first-doubles : (sheet : Sheet) (w : List Float) → take (loadedLength (layout 
 unfolding store doublesOf
 first-doubles sheet w =
     let rest : List Float = drop (0 + length (doublesOf sheet (layout sheet))) w in
-    ap (take (loadedLength (layout sheet))) (append-assoc (loadedNumbers sheet (layout sheet)) (noughts (layout sheet)) rest)
-    ∙ take-at (loadedNumbers sheet (layout sheet)) (noughts (layout sheet) ++ rest) (loadedLength (layout sheet)) (length-loaded sheet (layout sheet))
+    ap (take (loadedLength (layout sheet))) (append-assoc (loadedNumbers sheet (layout sheet)) (zeros (layout sheet)) rest)
+    ∙ take-at (loadedNumbers sheet (layout sheet)) (zeros (layout sheet) ++ rest) (loadedLength (layout sheet)) (length-loaded sheet (layout sheet))
 
 -- a list written over itself
 over-itself : (l : List ℕ) → store 0 l l ≡ l
@@ -120,14 +120,14 @@ over-itself l = ap (λ (x : List ℕ). l ++ x) (ap (λ (n : ℕ). drop n l) (zer
 
 -- what load writes stands by the opened book
 stored : (sheet : Sheet) (h : List ℕ) (w : List Float) → Site sheet h w
-    → Stands sheet h w (opened sheet) (space (store 0 (headingOf sheet (layout sheet)) h) (store 0 (doublesOf sheet (layout sheet)) w))
+    → Invariant sheet h w (opened sheet) (workspace (store 0 (headingOf sheet (layout sheet)) h) (store 0 (doublesOf sheet (layout sheet)) w))
 stored sheet h w here =
     let fits : 0 + length (doublesOf sheet (layout sheet)) ≤ length w = omega (arith, here.doubles, length-doubles sheet (layout sheet)) in
     record {
       progress = idle (last sheet);
       heading = first-numbers sheet h;
       stages = length-replicate {A = ℕ} 45 0;
-      lawful-progress = idle-lawful (last sheet) (is-lawful (layout sheet) here.layout-lawful .blocks .1);
+      valid-progress = idle-valid (last sheet) (is-valid (layout sheet) here.layout-valid .blocks .1);
       many = length-store 0 (doublesOf sheet (layout sheet)) w fits;
       loaded = first-doubles sheet w;
       unwritten = drop-store 0 (doublesOf sheet (layout sheet)) w fits (doublesNeeded (layout sheet)) (omega (arith, length-doubles sheet (layout sheet)));
@@ -138,10 +138,10 @@ stored sheet h w here =
 pub open-site : (bytes : List ℕ) (sheet : Sheet) (starts : Starts) (h : List ℕ) (w : List Float) (o : Outcome)
     → sheetOf bytes ≡ accepted sheet starts → Loads bytes h w o → o .answer ≡ Accepted → Site sheet h w
 open-site bytes sheet starts h w o e l a =
-    let t = load-taken sheet h w bytes starts o e l a in
+    let t = load-opened sheet h w bytes starts o e l a in
     let both = and-eq-true-iff (leb (numbersNeeded (layout sheet)) (length h)) (leb (doublesNeeded (layout sheet)) (length w)) .0 t.room in
     record {
-      layout-lawful = sheet-lawful bytes sheet starts e t.fine t.gate;
+      layout-valid = sheet-valid bytes sheet starts e t.fine t.gate;
       eight-levels = length-m sheet;
       eight-places = length-order sheet;
       numbers = leb-true (numbersNeeded (layout sheet)) (length h) both.0;
@@ -150,33 +150,33 @@ open-site bytes sheet starts h w o e l a =
     }
 
 -- and its workspace, which stands by the opened book
-pub open-stands : (bytes : List ℕ) (sheet : Sheet) (starts : Starts) (h : List ℕ) (w : List Float) (o : Outcome)
-    → sheetOf bytes ≡ accepted sheet starts → Loads bytes h w o → o .answer ≡ Accepted → Stands sheet h w (opened sheet) (o .left)
-open-stands bytes sheet starts h w o e l a =
-    subst (Stands sheet h w (opened sheet)) (sym (load-taken sheet h w bytes starts o e l a .left)) (stored sheet h w (open-site bytes sheet starts h w o e l a))
+pub open-invariant : (bytes : List ℕ) (sheet : Sheet) (starts : Starts) (h : List ℕ) (w : List Float) (o : Outcome)
+    → sheetOf bytes ≡ accepted sheet starts → Loads bytes h w o → o .answer ≡ Accepted → Invariant sheet h w (opened sheet) (o .left)
+open-invariant bytes sheet starts h w o e l a =
+    subst (Invariant sheet h w (opened sheet)) (sym (load-opened sheet h w bytes starts o e l a .left)) (stored sheet h w (open-site bytes sheet starts h w o e l a))
 
 -- a freshly loaded workspace with any loaded numbers, of no length beyond the formula
 module _ (sheet : Sheet) (h : List ℕ) (w : List Float) (here : Site sheet h w) (loaded : List Float) (many : length loaded ≡ loadedLength (layout sheet)) where
-  pub fresh-site : Site sheet (headingOf sheet (layout sheet)) (loaded ++ noughts (layout sheet))
+  pub fresh-site : Site sheet (headingOf sheet (layout sheet)) (loaded ++ zeros (layout sheet))
   fresh-site =
       record {
-        layout-lawful = here.layout-lawful;
+        layout-valid = here.layout-valid;
         eight-levels = here.eight-levels;
         eight-places = here.eight-places;
         numbers = omega (arith, length-heading sheet (layout sheet));
-        doubles = omega (arith, length-append loaded (noughts (layout sheet)), many, noughts-length (layout sheet));
+        doubles = omega (arith, length-append loaded (zeros (layout sheet)), many, zeros-length (layout sheet));
         rows = here.rows;
       }
 
-  pub fresh-stands : Stands sheet (headingOf sheet (layout sheet)) (loaded ++ noughts (layout sheet)) (book loaded [] none) (fresh sheet loaded)
-  fresh-stands =
+  pub fresh-invariant : Invariant sheet (headingOf sheet (layout sheet)) (loaded ++ zeros (layout sheet)) (book loaded [] none) (fresh sheet loaded)
+  fresh-invariant =
       record {
         progress = idle (last sheet);
         heading = sym (over-itself (headingOf sheet (layout sheet))) ∙ first-numbers sheet (headingOf sheet (layout sheet));
         stages = length-replicate {A = ℕ} 45 0;
-        lawful-progress = idle-lawful (last sheet) (is-lawful (layout sheet) here.layout-lawful .blocks .1);
+        valid-progress = idle-valid (last sheet) (is-valid (layout sheet) here.layout-valid .blocks .1);
         many = refl;
-        loaded = take-at loaded (noughts (layout sheet)) (loadedLength (layout sheet)) many;
+        loaded = take-at loaded (zeros (layout sheet)) (loadedLength (layout sheet)) many;
         unwritten = refl;
         updating = refl;
       }

@@ -16,17 +16,17 @@ use Rattle.layout.specs.declared.Layout.{Layout}
 use Rattle.heading_format.specs.declared.Progress.{Progress}
 use Rattle.layout.specs.Blocks.{padded}
 use Rattle.layout.specs.Shapes.{pick, levels, loadedLength, sumAt, numbersNeeded, doublesNeeded}
-use Rattle.heading_format.specs.Heading.{layoutNumbers, progressNumbers, written, layoutOf, progressOf, entryRow, headed, idle}
-use Rattle.heading_format.proofs.Lawful.{is-lawful}
+use Rattle.heading_format.specs.Heading.{layoutNumbers, progressNumbers, written, layoutOf, progressOf, entryRow, validHeading, idle}
+use Rattle.heading_format.proofs.Valid.{is-valid}
 use Rattle.heading_format.proofs.Heading.{length-written, rows-back, layout-back, progress-back}
 use Rattle.workspace.specs.Memory.{Workspace}
 use Rattle.workspace.specs.Loaded.{entryRowIn}
 use Rattle.workspace.specs.Load.{headingOf}
 use Rattle.workspace.proofs.Lengths.{length-heading}
 use Rattle.book.specs.Book.{Book, layout, last}
-use Rattle.update.proofs.progress_laws.Moves.{headed-written}
+use Rattle.update.proofs.progress_laws.Moves.{valid-heading-written}
 use Rattle.demand3.proofs.same_rules.Same.{Alike}
-use Rattle.demand3.proofs.invariant.Stands.{behind, Site, Stands}
+use Rattle.demand3.proofs.invariant.Invariant.{behind, Site, Invariant}
 
 -- behind the progress nothing depends on it
 after-progress : (y : Layout) (g f : Progress) (rest : List ℕ) → drop 69 (written y g ++ rest) ≡ drop 69 (written y f ++ rest)
@@ -84,7 +84,7 @@ module _ (sheet : Sheet) (h : List ℕ) (w : List Float) (here : Site sheet h w)
       ∙ ap (λ (x : ℕ). getD (store 0 (headingOf sheet (layout sheet)) h) x 0) (sym (zero-add (128 + c)))
       ∙ store-in 0 (headingOf sheet (layout sheet)) h fits 0 (128 + c) (omega (arith, length-heading sheet (layout sheet), sparse-numbers (layout sheet) s))
 
-  module _ (b : Book) (v : Workspace) (s : Stands sheet h w b v) where
+  module _ (b : Book) (v : Workspace) (s : Invariant sheet h w b v) where
     -- its layout and its progress are those that are written there
     pub layout-of : layoutOf (v .heading) ≡ layout sheet
     layout-of = rw s.heading (layout-back (layout sheet) s.progress (behind sheet h) here.eight-levels here.eight-places)
@@ -93,11 +93,11 @@ module _ (sheet : Sheet) (h : List ℕ) (w : List Float) (here : Site sheet h w)
     progress-of = rw s.heading (progress-back (layout sheet) s.progress (behind sheet h) s.stages)
 
     -- 20 never comes
-    pub headed-of : headed (v .heading) (length (v .doubles)) ≡ true
-    headed-of =
+    pub valid-heading-of : validHeading (v .heading) (length (v .doubles)) ≡ true
+    valid-heading-of =
         rw s.heading
-        (headed-written (layout sheet) here.layout-lawful here.eight-levels here.eight-places (behind sheet h) (omega (arith, here.numbers, behind-many))
-        (λ e c l. rw (behind-row e c l) (here.rows e c l)) s.progress s.stages s.lawful-progress (length v.doubles) (omega (arith, s.many, here.doubles)))
+        (valid-heading-written (layout sheet) here.layout-valid here.eight-levels here.eight-places (behind sheet h) (omega (arith, here.numbers, behind-many))
+        (λ e c l. rw (behind-row e c l) (here.rows e c l)) s.progress s.stages s.valid-progress (length v.doubles) (omega (arith, s.many, here.doubles)))
 
     -- behind the progress it is as load left it, and no number longer
     pub heading-behind : drop 69 (v .heading) ≡ drop 69 (store 0 (headingOf sheet (layout sheet)) h)
@@ -110,12 +110,12 @@ module _ (sheet : Sheet) (h : List ℕ) (w : List Float) (here : Site sheet h w)
         ∙ omega (arith, length-written (layout sheet) s.progress, behind-many)
 
   -- the loaded numbers are as many as the layout says
-  pub loaded-many : (b : Book) (v : Workspace) → Stands sheet h w b v → length (b .loaded) ≡ loadedLength (layout sheet)
+  pub loaded-many : (b : Book) (v : Workspace) → Invariant sheet h w b v → length (b .loaded) ≡ loadedLength (layout sheet)
   loaded-many b v s =
       ap length (sym s.loaded) ∙ length-take-le (loadedLength (layout sheet)) v.doubles (omega (arith, s.many, here.doubles, loaded-within (layout sheet)))
 
   -- it has the sheet's layout and sparse rows, and the book's loaded numbers
-  pub alike : (b : Book) (v : Workspace) (s : Stands sheet h w b v) → Alike sheet (b .loaded) v
+  pub alike : (b : Book) (v : Workspace) (s : Invariant sheet h w b v) → Alike sheet (b .loaded) v
   alike b v s =
       record {
         same-layout = layout-of b v s;
@@ -123,5 +123,5 @@ module _ (sheet : Sheet) (h : List ℕ) (w : List Float) (here : Site sheet h w)
         same-loaded = s.loaded;
         many = loaded-many b v s;
         fresh-layout = heading-layout sheet here.eight-levels here.eight-places;
-        two = λ e. is-lawful (layout sheet) here.layout-lawful .sparse e .1;
+        two = λ e. is-valid (layout sheet) here.layout-valid .sparse e .1;
       }

@@ -13,7 +13,7 @@ use borrow.Author.Tests.{ne-eqb}
 use Rattle.storage.specs.Shape.{sizeOf}
 use Rattle.storage.specs.Part.{part}
 use Rattle.storage.proofs.Parts.{length-part}
-use Rattle.step_order.specs.Steps.{Step, Named, row, col, named, after}
+use Rattle.step_order.specs.Steps.{Step, IsStep, row, col, isStep, forerunners}
 use Rattle.step_order.specs.Progress.{all, join, stepsLeft, done, advance, put, Ready, made, summed, moved, refusedNow, refusedIn}
 use Rattle.step_order.proofs.Tables.{at, put-here, put-else, in-range}
 use Rattle.step_order.proofs.Invariant.{held-moved, held-same}
@@ -30,19 +30,19 @@ use Rattle.heading_format.specs.declared.State.the-variants.{UnderWay, Finished
 use Rattle.layout.specs.Shapes.{pick, shape, sizes, loadedLength, thetaAt, workingAt, sumAt, doublesNeeded}
 use Rattle.heading_format.specs.Heading.{layoutOf, progressOf, stageOf, entryRow, written, idle}
 use Rattle.layout.proofs.Places.{size-working, working-inside}
-use Rattle.heading_format.proofs.Lawful.{is-lawful}
-use Rattle.heading_format.proofs.Heading.{layout-back, progress-stored, idle-lawful}
+use Rattle.heading_format.proofs.Valid.{is-valid}
+use Rattle.heading_format.proofs.Heading.{layout-back, progress-stored, idle-valid}
 use Rattle.workspace.specs.Memory.{Workspace, workingBlock, logSum, headingWith, cleared}
 use Rattle.workspace.specs.Answers.{Outcome}
 use Rattle.update.specs.Calls.{advanced, madeBy, sumBy, refusedBy, stepped, dropped, isUnderWay, stepOf, onPivot}
 use Rattle.book.specs.Book.{book, layout, last}
 use Rattle.book.specs.Values.{rulesHere, startHere}
-use Rattle.update.proofs.progress_laws.Moves.{lawfully, length-advanced, stage-advanced, lawful-advanced}
+use Rattle.update.proofs.progress_laws.Moves.{stays-valid, length-advanced, stage-advanced, valid-advanced}
 use Rattle.demand3.proofs.frame.Step.{withBlock, with-length, with-own, with-other, with-sum, with-loaded, with-theta, with-behind}
 use Rattle.demand3.proofs.frame.Clear.{cleared-length, cleared-loaded, cleared-behind}
 use Rattle.demand3.proofs.same_rules.Same.{stateOf, Alike, made-same, sum-same, refused-same, made-length}
-use Rattle.demand3.proofs.invariant.Stands.{Site, Begun, Stands, behind}
-use Rattle.demand3.proofs.invariant.Site.{layout-of, progress-of, headed-of, alike}
+use Rattle.demand3.proofs.invariant.Invariant.{Site, Begun, Invariant, behind}
+use Rattle.demand3.proofs.invariant.Site.{layout-of, progress-of, valid-heading-of, alike}
 
 -- past five tests: three passed, one failed, one passed
 through : (a b c d e : Bool) (p q r s t o : Outcome) → a ≡ true → b ≡ true → c ≡ true → d ≡ false → e ≡ true
@@ -63,14 +63,14 @@ working-is y h w e i j =
 module _ (sheet : Sheet) (h : List ℕ) (w : List Float) (here : Site sheet h w) (loaded theta : List Float) (d : Step → Bool) where
   -- what a step on an update with the set d may come to, r being the row of the pivot that the Rust's order refuses in it
   abbrev pub Comes : Step → Option ℕ → Outcome → Type 0
-  Comes s none o = (o.answer ≡ Accepted) × Stands sheet h w (book loaded theta (some (join d s))) o.left
-  Comes s (some r) o = (o.answer ≡ refuse 26 (col s) r) × Stands sheet h w (book loaded theta none) o.left
+  Comes s none o = (o.answer ≡ Accepted) × Invariant sheet h w (book loaded theta (some (join d s))) o.left
+  Comes s (some r) o = (o.answer ≡ refuse 26 (col s) r) × Invariant sheet h w (book loaded theta none) o.left
 
-  module _ (v : Workspace) (u : Stands sheet h w (book loaded theta (some d)) v) (s : Step) (n : Named (last sheet) s) (undone : d s ≡ false)
-      (forerun : all d (after s) ≡ true) where
+  module _ (v : Workspace) (u : Invariant sheet h w (book loaded theta (some d)) v) (s : Step) (n : IsStep (last sheet) s) (undone : d s ≡ false)
+      (forerun : all d (forerunners s) ≡ true) where
     -- what the site and the book's page say: at most eight blocks, doubles enough, an update that has begun
     few : last sheet ≤ 8
-    few = is-lawful (layout sheet) here.layout-lawful .blocks .1
+    few = is-valid (layout sheet) here.layout-valid .blocks .1
 
     room : doublesNeeded (layout sheet) ≤ length (v .doubles)
     room = omega (arith, here.doubles, u.many)
@@ -90,7 +90,7 @@ module _ (sheet : Sheet) (h : List ℕ) (w : List Float) (here : Site sheet h w)
     under-way = u.updating.0 ∙ ap (λ (b : Bool). pick b Finished UnderWay) (ne-eqb (stepsLeft (last sheet) d) 0 (λ z. omega (arith, one-left)))
 
     -- the two tests of the set, by the stages
-    tests : (done (stageOf (u .progress)) s ≡ false) × (all (done (stageOf (u .progress))) (after s) ≡ true)
+    tests : (done (stageOf (u .progress)) s ≡ false) × (all (done (stageOf (u .progress))) (forerunners s) ≡ true)
     tests = ready-after (last sheet) (stageOf u.progress) begun.held.most (done (stageOf u.progress)) (λ t m. refl) s n .0 ready
 
     -- it goes past 20, 22, 21, 23 and 24
@@ -99,11 +99,11 @@ module _ (sheet : Sheet) (h : List ℕ) (w : List Float) (here : Site sheet h w)
     step-ready =
         let p : progressOf v.heading ≡ u .progress = progress-of sheet h w here (book loaded theta (some d)) v u in
         let y : layoutOf v.heading ≡ layout sheet = layout-of sheet h w here (book loaded theta (some d)) v u in
-        through _ _ _ _ _ _ _ _ _ _ _ (headed-of sheet h w here (book loaded theta (some d)) v u)
+        through _ _ _ _ _ _ _ _ _ _ _ (valid-heading-of sheet h w here (book loaded theta (some d)) v u)
         (ap (λ (g : Progress). isUnderWay g.state) p ∙ ap isUnderWay under-way)
-        (ap (λ (z : Layout). named z.k s) y ∙ named-iff (last sheet) s .1 n)
+        (ap (λ (z : Layout). isStep z.k s) y ∙ named-iff (last sheet) s .1 n)
         (ap (λ (g : Progress). done (stageOf g) s) p ∙ tests.0)
-        (ap (λ (g : Progress). all (done (stageOf g)) (after s)) p ∙ tests.1)
+        (ap (λ (g : Progress). all (done (stageOf g)) (forerunners s)) p ∙ tests.1)
 
     -- ---- an accepted step: what it leaves
     abbrev after-it : Workspace
@@ -200,14 +200,14 @@ module _ (sheet : Sheet) (h : List ℕ) (w : List Float) (here : Site sheet h w)
         }
 
     -- and the workspace stands as the page with the step in the set
-    joined : refusedNow (rulesHere sheet loaded theta) s (stateOf sheet loaded theta v (u .progress)) ≡ none
-        → Stands sheet h w (book loaded theta (some (join d s))) after-it
-    joined passes =
+    flattened : refusedNow (rulesHere sheet loaded theta) s (stateOf sheet loaded theta v (u .progress)) ≡ none
+        → Invariant sheet h w (book loaded theta (some (join d s))) after-it
+    flattened passes =
         record {
           progress = advanced u.progress s;
           heading = stepped-heading;
           stages = length-advanced (last sheet) few u.progress u.stages s n;
-          lawful-progress = lawful-advanced (last sheet) few u.progress u.stages s n u.lawful-progress under-way ready;
+          valid-progress = valid-advanced (last sheet) few u.progress u.stages s n u.valid-progress under-way ready;
           many = ap (λ (x : List Float). length x) stepped-doubles
               ∙ with-length (layout sheet) v.doubles room (row s) (col s) left-of above-last (madeBy v.heading v.doubles s) size (sumBy v.heading v.doubles s)
               ∙ u.many;
@@ -219,7 +219,7 @@ module _ (sheet : Sheet) (h : List ℕ) (w : List Float) (here : Site sheet h w)
               ∙ u.unwritten;
           updating = (
             last-one (stepsLeft (last sheet) (join d s)) u.progress.left
-                (lawfully (last sheet) u.progress u.lawful-progress .left
+                (stays-valid (last sheet) u.progress u.valid-progress .left
                 ∙ sym (left-represents (last sheet) (stageOf u.progress) d begun.represents)
                 ∙ one-left),
             moved-on passes,
@@ -227,14 +227,14 @@ module _ (sheet : Sheet) (h : List ℕ) (w : List Float) (here : Site sheet h w)
         }
 
     -- ---- a refused pivot: the working doubles are +0.0, and no update is under way
-    stopped : Stands sheet h w (book loaded theta none) (dropped (v .heading) (v .doubles))
+    stopped : Invariant sheet h w (book loaded theta none) (dropped (v .heading) (v .doubles))
     stopped =
         record {
           progress = idle (last sheet);
           heading = ap₂ (λ (y : Layout) (x : List ℕ). headingWith x (idle y.k)) same.same-layout u.heading
               ∙ progress-stored (layout sheet) u.progress (idle (last sheet)) (behind sheet h);
           stages = length-replicate {A = ℕ} 45 0;
-          lawful-progress = idle-lawful (last sheet) few;
+          valid-progress = idle-valid (last sheet) few;
           many = ap (λ (y : Layout). length (cleared y v.doubles)) same.same-layout ∙ cleared-length (layout sheet) v.doubles room ∙ u.many;
           loaded = ap (λ (y : Layout). take (loadedLength (layout sheet)) (cleared y v.doubles)) same.same-layout
               ∙ cleared-loaded (layout sheet) v.doubles room ∙ u.loaded;
@@ -253,5 +253,5 @@ module _ (sheet : Sheet) (h : List ℕ) (w : List Float) (here : Site sheet h w)
       where
         go : (q : Option ℕ) → refusedNow (rulesHere sheet loaded theta) s (stateOf sheet loaded theta v (u .progress)) ≡ q
             → Comes s q (onPivot (v .heading) (v .doubles) q s)
-        go none e = (refl, joined e)
+        go none e = (refl, flattened e)
         go (some r) e = (refl, stopped)

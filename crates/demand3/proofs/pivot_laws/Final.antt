@@ -16,18 +16,18 @@ use Rattle.step_order.specs.Elimination.{Rules, value, final, column, round}
 use Rattle.step_order.proofs.Invariant.{finished}
 use Rattle.rules.specs.Arithmetic.{ieee}
 use Rattle.rules.specs.Begin.{diagonalCell, fixedCell}
-use Rattle.rules.specs.Sums.{chain, dot, sumFrom, lessFrom}
+use Rattle.rules.specs.Sums.{chain, dot, sumFrom, subtractFrom}
 use Rattle.rules.specs.Steps.{subtractDense, subtractDiagonal, subtractLast, subtractSparse}
-use Rattle.rules.specs.Cholesky.{at, besidePivot, factor, radicand}
+use Rattle.rules.specs.Cholesky.{at, leftOfPivot, factor, radicand}
 use Rattle.re_lower.proofs.Pivotal.{chain-fits}
 use Rattle.sheet.specs.Sheet.{Sheet}
 use Rattle.layout.specs.declared.Layout.{Layout}
 use Rattle.layout.specs.Shapes.{pick, levels, shape, loadedShape}
-use Rattle.heading_format.specs.Heading.{layoutOf, entryRow, lawful}
-use Rattle.heading_format.proofs.Lawful.{both, is-lawful}
-use Rattle.workspace.specs.Memory.{cellOf, loadedBlock, loadedSome, noughts}
+use Rattle.heading_format.specs.Heading.{layoutOf, entryRow, validLayout}
+use Rattle.heading_format.proofs.Valid.{both, is-valid}
+use Rattle.workspace.specs.Memory.{cellOf, loadedBlock, loadedSome, zeros}
 use Rattle.workspace.specs.Load.{headingOf}
-use Rattle.update.specs.Working.{factored, refusedRow, pivotCount, isDiagonal, subtracted, started, rulesOf}
+use Rattle.update.specs.Working.{factored, refusedRow, pivotCount, isDiagonal, subtracted, scaled, rulesOf}
 use Rattle.book.specs.Book.{layout, last}
 use Rattle.book.specs.Values.{rulesHere, valueAt, finalValue}
 use Rattle.rules.proofs.Rows.{pivot-root, accepted-at}
@@ -56,7 +56,7 @@ pub factor-pivot : (s : Shape) (b : List Float) → ((r : ℕ) → r < pivotCoun
     → (r : ℕ) → r < pivotCount s → RootOf (cellOf s (factored s b) r r)
 unfolding factored refusedRow
 factor-pivot (packed n) b doubles e r l =
-    let row = besidePivot ieee (cellOf (packed n) b) (factor ieee (cellOf (packed n) b) r) r in
+    let row = leftOfPivot ieee (cellOf (packed n) b) (factor ieee (cellOf (packed n) b) r) r in
     record {
       x = radicand ieee (cellOf (packed n) b) r;
       double = chain-fits (cellOf (packed n) b r r) (at ieee row) (at ieee row) r (doubles r l);
@@ -75,15 +75,15 @@ factor-pivot (entries cols row) b doubles e r l = absurd (omega arith)
 -- ---- the block that C takes
 -- a difference, product by product, of one product at least
 some-chain : (s : Float) (a b : ℕ → Float) (n : ℕ) → 1 ≤ n → Double (chain ieee s a b n)
-unfolding lessFrom
+unfolding subtractFrom
 some-chain s a b zero l = absurd (omega arith)
 some-chain s a b (suc n) l = sub-fits binary64 (chain ieee s a b n) (ieee.times (a n) (b n))
 
 -- cell (r, r) of what begin writes into a factor's block
-cell-started : (latest : Bool) (s : Shape) (a : List Float) (f g : ℕ → ℕ → Float) (r : ℕ) → latest ≡ false → hasCell s r r ≡ true → Double (g r r)
+cell-scaled : (latest : Bool) (s : Shape) (a : List Float) (f g : ℕ → ℕ → Float) (r : ℕ) → latest ≡ false → hasCell s r r ≡ true → Double (g r r)
     → Double (cellOf s (pick latest a (fill s (pick latest f g))) r r)
-cell-started true s a f g r e h d = absurd (true≢false e)
-cell-started false s a f g r e h d = subst Double (sym (cell-fill ieee.zero s g r r h)) d
+cell-scaled true s a f g r e h d = absurd (true≢false e)
+cell-scaled false s a f g r e h d = subst Double (sym (cell-fill ieee.zero s g r r h)) d
 
 -- begin writes its sum where row and column are the same
 on-diagonal : (r : ℕ) (x z : Float) → Double x → Double (cond (eqb r r) x z)
@@ -96,14 +96,14 @@ cell-subtracted true apart sparse s f g h i r has a b c = subst Double (sym (cel
 cell-subtracted false true sparse s f g h i r has a b c = subst Double (sym (cell-fill ieee.zero s g r r has)) b
 cell-subtracted false false sparse s f g h i r has a b c = subst Double (sym (cell-fill ieee.zero s i r r has)) c
 
-module _ (y : Layout) (row : ℕ → ℕ) (loaded : ℕ → ℕ → Bool) (lawfully : lawful y ≡ true) where
+module _ (y : Layout) (row : ℕ → ℕ) (loaded : ℕ → ℕ → Bool) (stays-valid : validLayout y ≡ true) where
   -- what begin writes on a diagonal is a sum
-  started-double : (t : ℕ → Float) (a : List Float) (r : ℕ) → r < pivotCount (shape y row 0 0) → Double (cellOf (shape y row 0 0) (started y row loaded t 0 0 a) r r)
-  unfolding started
-  started-double t a r l =
+  scaled-double : (t : ℕ → Float) (a : List Float) (r : ℕ) → r < pivotCount (shape y row 0 0) → Double (cellOf (shape y row 0 0) (scaled y row loaded t 0 0 a) r r)
+  unfolding scaled
+  scaled-double t a r l =
       let a' = cellOf (loadedShape y row 0 0) a in
-      cell-started (eqb 0 y.k) (shape y row 0 0) a (λ q c. fixedCell ieee (t 0) (a' q c)) (λ q c. cond (eqb q c) (diagonalCell ieee (t 0) (a' q q)) ieee.zero) r
-      (ne-eqb 0 y.k (λ (e : 0 ≡ y .k). omega (arith, is-lawful y lawfully .blocks)))
+      cell-scaled (eqb 0 y.k) (shape y row 0 0) a (λ q c. fixedCell ieee (t 0) (a' q c)) (λ q c. cond (eqb q c) (diagonalCell ieee (t 0) (a' q q)) ieee.zero) r
+      (ne-eqb 0 y.k (λ (e : 0 ≡ y .k). omega (arith, is-valid y stays-valid .blocks)))
       (has-pivot (shape y row 0 0) r l)
       (on-diagonal r (diagonalCell ieee (t 0) (a' r r)) ieee.zero (add-fits binary64 (ieee.times (ieee.times (t 0) (t 0)) (a' r r)) ieee.one))
 
@@ -120,7 +120,7 @@ module _ (y : Layout) (row : ℕ → ℕ) (loaded : ℕ → ℕ → Bool) (lawfu
       cell-subtracted (eqb j y.k) (eqb j j && isDiagonal y row loaded j) y.sparse (shape y row j j)
       (subtractLast ieee cells A inner) (subtractDiagonal ieee loaded cells A inner) (subtractSparse ieee row cells A (λ x. getD b x ieee.zero) inner) (subtractDense ieee cells A B inner)
       r (has-pivot (shape y row j j) r l)
-      (some-chain (cells r r) (A r) (A r) inner (is-lawful y lawfully .level h m .0))
+      (some-chain (cells r r) (A r) (A r) inner (is-valid y stays-valid .level h m .0))
       (sub-fits binary64 (cells r r) (sumFrom ieee ieee.zero (loaded r) (A r) (A r) inner))
       (sub-fits binary64 (cells r r) (dot ieee (A r) (B r) inner))
 
@@ -131,12 +131,12 @@ module _ (y : Layout) (row : ℕ → ℕ) (loaded : ℕ → ℕ → Bool) (lawfu
     R = rulesOf y row loaded
 
     abbrev begun : ℕ → ℕ → List Float
-    begun i j = started y row loaded t i j (a i j)
+    begun i j = scaled y row loaded t i j (a i j)
 
     -- The block that C(j) takes has doubles for its pivots, whatever was loaded: a sum of begin for j = 0, and what its last S leaves for a later j.
     value-double : (j : ℕ) → j ≤ y .k → (r : ℕ) → r < pivotCount (shape y row j j) → Double (cellOf (shape y row j j) (value R begun j j j) r r)
     unfolding value
-    value-double zero m r l = started-double t (a 0 0) r l
+    value-double zero m r l = scaled-double t (a 0 0) r l
     value-double (suc h) m r l =
         subst (λ (z : List Float). Double (cellOf (shape y row (suc h) (suc h)) z r r)) (sym (later h (value R begun h)))
         (subtracted-double h m (value R begun h (suc h) (suc h)) (column R h (value R begun h) (suc h)) (column R h (value R begun h) (suc h)) r l)
@@ -154,7 +154,7 @@ module _ (y : Layout) (row : ℕ → ℕ) (loaded : ℕ → ℕ → Bool) (lawfu
         own : (j : ℕ) (B : ℕ → ℕ → List Float) → column R j B j ≡ R .factor j (B j j)
         own j B = rw (eq-eqb j j refl) refl
 
-module _ (sheet : Sheet) (loaded theta : List Float) (lawfully : lawful (layout sheet) ≡ true)
+module _ (sheet : Sheet) (loaded theta : List Float) (stays-valid : validLayout (layout sheet) ≡ true)
     (fresh-layout : layoutOf (headingOf sheet (layout sheet)) ≡ layout sheet) where
   -- the shape of factor j; it asks no rows of entries
   abbrev pub factorShape : ℕ → Shape
@@ -165,8 +165,8 @@ module _ (sheet : Sheet) (loaded theta : List Float) (lawfully : lawful (layout 
       → (r : ℕ) → r < pivotCount (factorShape j) → RootOf (cellOf (factorShape j) (finalValue sheet loaded theta j j) r r)
   final-pivot j l e r b =
       let h = headingOf sheet (layout sheet) in
-      let w = loaded ++ noughts (layout sheet) in
+      let w = loaded ++ zeros (layout sheet) in
       let t : ℕ → Float = λ i. getD theta (getD (layoutOf h .order) i 0) ieee.zero in
       subst (λ (y : Layout). r < pivotCount (shape y (entryRow h) j j) → RootOf (cellOf (shape y (entryRow h) j j) (finalValue sheet loaded theta j j) r r)) fresh-layout
-      (made-pivot (layoutOf h) (entryRow h) (loadedSome h w) (ap lawful fresh-layout ∙ lawfully) t (loadedBlock h w) j (subst (λ (y : Layout). j ≤ y .k) (sym fresh-layout) l) e r)
+      (made-pivot (layoutOf h) (entryRow h) (loadedSome h w) (ap validLayout fresh-layout ∙ stays-valid) t (loadedBlock h w) j (subst (λ (y : Layout). j ≤ y .k) (sym fresh-layout) l) e r)
       b

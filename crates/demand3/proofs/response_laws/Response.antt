@@ -13,9 +13,9 @@ use Rattle.sheet.specs.Sheet.{Sheet}
 use Rattle.refusal.specs.declared.Answer.the-variants.{Accepted}
 use Rattle.layout.specs.declared.Layout.{Layout}
 use Rattle.layout.specs.Shapes.{pick, loadedLength, doublesNeeded}
-use Rattle.heading_format.specs.Heading.{layoutOf, headed, idle}
-use Rattle.heading_format.proofs.Lawful.{is-lawful}
-use Rattle.heading_format.proofs.Heading.{progress-stored, idle-lawful}
+use Rattle.heading_format.specs.Heading.{layoutOf, validHeading, idle}
+use Rattle.heading_format.proofs.Valid.{is-valid}
+use Rattle.heading_format.proofs.Heading.{progress-stored, idle-valid}
 use Rattle.workspace.specs.Memory.{Workspace, headingWith}
 use Rattle.workspace.specs.Answers.{Outcome, untouched, firstInfinite, unlessAt}
 use Rattle.workspace.specs.Load.{headingOf}
@@ -23,8 +23,8 @@ use Rattle.workspace.specs.Response.{responded, replaceOf}
 use Rattle.book.specs.Calls.{plain, replaceResponse}
 use Rattle.book.specs.Book.{Book, book, Entry, layout, last, onResponse}
 use Rattle.demand3.proofs.frame.Response.{responded-length, responded-behind, responded-loaded}
-use Rattle.demand3.proofs.invariant.Stands.{behind, Site, Stands, Follows}
-use Rattle.demand3.proofs.invariant.Site.{loaded-within, heading-layout, layout-of, headed-of}
+use Rattle.demand3.proofs.invariant.Invariant.{behind, Site, Invariant, Follows}
+use Rattle.demand3.proofs.invariant.Site.{loaded-within, heading-layout, layout-of, valid-heading-of}
 
 -- what a new response comes to where 20 does not: the lengths first, then the words, with q, p and what it writes given
 abbrev tested : ℕ → ℕ → List ℕ → List Float → List Float → List Float → List Float → Outcome → Outcome
@@ -39,7 +39,7 @@ tested q p h w zy xy yy good =
     (untouched h w 13 0 0)
 
 -- where 20 does not come, it comes to that
-replace-tested : (h : List ℕ) (w zy xy yy : List Float) → headed h (length w) ≡ true
+replace-tested : (h : List ℕ) (w zy xy yy : List Float) → validHeading h (length w) ≡ true
     → replaceOf h w zy xy yy ≡ tested (layoutOf h .q) (layoutOf h .p) h w zy xy yy (responded h w zy xy (getD yy 0 (ieee .zero)))
 unfolding replaceOf
 replace-tested h w zy xy yy e = rw e
@@ -56,7 +56,7 @@ responded-heading h w zy xy yy = refl
 module _ (sheet : Sheet) (h : List ℕ) (w : List Float) where
   -- an outcome and an entry of the book say the same
   abbrev Agree : Outcome → Entry → Type 0
-  Agree o e = (plain o.answer ≡ e .reply) × Stands sheet h w e.next o.left
+  Agree o e = (plain o.answer ≡ e .reply) × Invariant sheet h w e.next o.left
 
   -- a test that both make, and an index that both refuse
   agree-pick : (c : Bool) (o p : Outcome) (e f : Entry) → Agree o e → Agree p f → Agree (pick c o p) (pick c e f)
@@ -67,7 +67,7 @@ module _ (sheet : Sheet) (h : List ℕ) (w : List Float) where
   agree-unless none o p e f a b = b
   agree-unless (some i) o p e f a b = a i
 
-module _ (sheet : Sheet) (h : List ℕ) (w : List Float) (here : Site sheet h w) (b : Book) (v : Workspace) (stands : Stands sheet h w b v) (zy xy yy : List Float) where
+module _ (sheet : Sheet) (h : List ℕ) (w : List Float) (here : Site sheet h w) (b : Book) (v : Workspace) (stands : Invariant sheet h w b v) (zy xy yy : List Float) where
   -- y'y
   abbrev number : Float
   number = getD yy 0 ieee.zero
@@ -88,8 +88,8 @@ module _ (sheet : Sheet) (h : List ℕ) (w : List Float) (here : Site sheet h w)
       (ap (λ (y : Layout). take (loadedLength y) v.doubles) same ∙ stands.loaded)
 
   -- an accepted response leaves a workspace that stands as the book's next page
-  response-stands : Stands sheet h w (book (responded (headingOf sheet (layout sheet)) (b .loaded) zy xy number .left .doubles) (b .theta) none) (responded (v .heading) (v .doubles) zy xy number .left)
-  response-stands =
+  response-invariant : Invariant sheet h w (book (responded (headingOf sheet (layout sheet)) (b .loaded) zy xy number .left .doubles) (b .theta) none) (responded (v .heading) (v .doubles) zy xy number .left)
+  response-invariant =
       record {
         progress = idle (last sheet);
         heading =
@@ -98,7 +98,7 @@ module _ (sheet : Sheet) (h : List ℕ) (w : List Float) (here : Site sheet h w)
             ∙ ap (λ (l : List ℕ). headingWith l (idle (last sheet))) stands.heading
             ∙ progress-stored (layout sheet) stands.progress (idle (last sheet)) (behind sheet h);
         stages = length-replicate {A = ℕ} 45 0;
-        lawful-progress = idle-lawful (last sheet) (is-lawful (layout sheet) here.layout-lawful .blocks .1);
+        valid-progress = idle-valid (last sheet) (is-valid (layout sheet) here.layout-valid .blocks .1);
         many = responded-length v.heading v.doubles zy xy number room ∙ stands.many;
         loaded = loaded-new;
         unwritten =
@@ -115,7 +115,7 @@ module _ (sheet : Sheet) (h : List ℕ) (w : List Float) (here : Site sheet h w)
       (agree-pick sheet h w (eqb (length yy) 1) _ _ _ _
       (agree-unless sheet h w (firstInfinite 0 zy) _ _ _ _ (λ i. (refl, stands))
       (agree-unless sheet h w (firstInfinite 0 xy) _ _ _ _ (λ i. (refl, stands))
-      (agree-unless sheet h w (firstInfinite 0 yy) _ _ _ _ (λ i. (refl, stands)) (ap plain (responded-answer v.heading v.doubles zy xy number), response-stands))))
+      (agree-unless sheet h w (firstInfinite 0 yy) _ _ _ _ (λ i. (refl, stands)) (ap plain (responded-answer v.heading v.doubles zy xy number), response-invariant))))
       (refl, stands))
       (refl, stands))
       (refl, stands)
@@ -125,7 +125,7 @@ module _ (sheet : Sheet) (h : List ℕ) (w : List Float) (here : Site sheet h w)
   response-follows =
       let a =
       subst (λ (o : Outcome). Agree sheet h w o (onResponse sheet zy xy yy b))
-      (sym (replace-tested v.heading v.doubles zy xy yy (headed-of sheet h w here b v stands)
+      (sym (replace-tested v.heading v.doubles zy xy yy (valid-heading-of sheet h w here b v stands)
       ∙ ap (λ (y : Layout). tested y.q y.p v.heading v.doubles zy xy yy (responded v.heading v.doubles zy xy number)) same))
       agrees in
       record { reply = a.0; left = a.1 }

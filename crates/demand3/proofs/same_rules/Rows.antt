@@ -12,14 +12,14 @@ use Rattle.storage.specs.Shape.{Shape, packed, diagonal, columns, entries, hasC
 use Rattle.storage.proofs.Cells.{tab-ext}
 use Rattle.storage.proofs.Blocks.{fill-entries}
 use Rattle.rules.specs.Arithmetic.{Arithmetic, ieee}
-use Rattle.rules.specs.Sums.{lessFrom}
+use Rattle.rules.specs.Sums.{subtractFrom}
 use Rattle.rules.specs.Begin.{diagonalCell, crossCell, fixedCell}
 use Rattle.rules.specs.Steps.{subtractDense, subtractDiagonal, subtractLast, subtractSparse, divide}
 use Rattle.rules.specs.Cholesky.{at, forward, logsOfFirst, logsOfLater}
 use Rattle.layout.specs.declared.Layout.{Layout}
 use Rattle.layout.specs.Shapes.{pick, levels, shape, loadedShape}
 use Rattle.workspace.specs.Memory.{cellOf}
-use Rattle.update.specs.Working.{pivotCount, solved, subtracted, logged, started}
+use Rattle.update.specs.Working.{pivotCount, solved, subtracted, logged, scaled}
 
 -- two choices by one test are equal where what is chosen is equal
 pick-ext : {A : Type 0} (b : Bool) (s s′ t t′ : A) → (b ≡ true → s ≡ s′) → (b ≡ false → t ≡ t′) → pick b s t ≡ pick b s′ t′
@@ -27,8 +27,8 @@ pick-ext true s s′ t t′ p q = p refl
 pick-ext false s s′ t t′ p q = q refl
 
 -- a difference of n products asks only which of those n count
-less-counts : (A : Arithmetic) (s : A .Num) (f g : ℕ → Bool) (a b : ℕ → A .Num) (n : ℕ) → ((x : ℕ) → x < n → f x ≡ g x) → lessFrom A s f a b n ≡ lessFrom A s g a b n
-unfolding lessFrom
+less-counts : (A : Arithmetic) (s : A .Num) (f g : ℕ → Bool) (a b : ℕ → A .Num) (n : ℕ) → ((x : ℕ) → x < n → f x ≡ g x) → subtractFrom A s f a b n ≡ subtractFrom A s g a b n
+unfolding subtractFrom
 less-counts A s f g a b zero h = refl
 less-counts A s f g a b (suc n) h =
     ap₂ (λ (c : Bool) (v : A .Num). cond c (A.minus v (A.times (a n) (b n))) v) (h n (omega arith)) (less-counts A s f g a b n (λ x l. h x (omega arith)))
@@ -177,9 +177,9 @@ module _ (y : Layout) (row row′ : ℕ → ℕ) (agree : y .sparse ≡ true →
       ∙ ap (λ (X : ℕ → ℕ → Float). formed y row′ loaded i j h T′ A′ X v) (cell-shape j h b))
 
   -- begin asks nothing of what was loaded but the block itself
-  pub started-rows : (loaded loaded′ : ℕ → ℕ → Bool) (t : ℕ → Float) (i j : ℕ) (a : List Float) → started y row loaded t i j a ≡ started y row′ loaded′ t i j a
-  unfolding started
-  started-rows loaded loaded′ t i j a =
+  pub scaled-rows : (loaded loaded′ : ℕ → ℕ → Bool) (t : ℕ → Float) (i j : ℕ) (a : List Float) → scaled y row loaded t i j a ≡ scaled y row′ loaded′ t i j a
+  unfolding scaled
+  scaled-rows loaded loaded′ t i j a =
       ap (pick (eqb j y.k) a)
       (fill-shape i j (begunCell y t i j (cellOf (loadedShape y row i j) a))
       ∙ ap (λ (X : ℕ → ℕ → Float). fill (shape y row′ i j) (begunCell y t i j X)) (cell-loaded i j a))

@@ -10,7 +10,7 @@ use Rattle.storage.specs.Shape.{Shape, packed, diagonal, columns, entries, size
 use Rattle.storage.specs.Part.{part}
 use Rattle.storage.proofs.Blocks.{length-fill}
 use Rattle.storage.proofs.Parts.{part-left}
-use Rattle.step_order.specs.Steps.{Step, S, C, T, Named, row, col}
+use Rattle.step_order.specs.Steps.{Step, S, C, T, IsStep, row, col}
 use Rattle.step_order.specs.Progress.{State, made, summed, refusedNow}
 use Rattle.rules.specs.Arithmetic.{ieee}
 use Rattle.sheet.specs.Sheet.{Sheet}
@@ -19,14 +19,14 @@ use Rattle.heading_format.specs.declared.Progress.{Progress}
 use Rattle.layout.specs.Shapes.{levels, shape, loadedShape, sizes, loadedSizes, loadedLength, loadedAt}
 use Rattle.heading_format.specs.Heading.{layoutOf, stageOf, entryRow}
 use Rattle.layout.proofs.Places.{size-working, size-loaded, loaded-inside}
-use Rattle.workspace.specs.Memory.{Workspace, loadedBlock, loadedSome, workingBlock, logSum, noughts}
+use Rattle.workspace.specs.Memory.{Workspace, loadedBlock, loadedSome, workingBlock, logSum, zeros}
 use Rattle.workspace.specs.Load.{headingOf}
-use Rattle.update.specs.Working.{factored, refusedRow, solved, subtracted, logged, started}
+use Rattle.update.specs.Working.{factored, refusedRow, solved, subtracted, logged, scaled}
 use Rattle.update.specs.Calls.{madeBy, sumBy, refusedBy}
 use Rattle.book.specs.Book.{layout, last}
 use Rattle.book.specs.Values.{rulesHere, startHere}
 use Rattle.update.proofs.Lengths.{length-solved}
-use Rattle.demand3.proofs.same_rules.Rows.{someOf, shape-factor, some-rows, solved-rows, logged-rows, subtracted-rows, started-rows}
+use Rattle.demand3.proofs.same_rules.Rows.{someOf, shape-factor, some-rows, solved-rows, logged-rows, subtracted-rows, scaled-rows}
 
 -- ---- what a rule makes is as long as its shape says, if the block was
 
@@ -79,7 +79,7 @@ module _ (sheet : Sheet) where
     w = v.doubles
 
     abbrev w′ : List Float
-    w′ = loaded ++ noughts (layout sheet)
+    w′ = loaded ++ zeros (layout sheet)
 
     -- What is the same at the sheet's layout is the same at the layouts of the two headings.
     at-layout : {A : Type 0} (F F′ : Layout → (ℕ → ℕ) → A) → F y (entryRow h) ≡ F′ y (entryRow h′) → F (layoutOf h) (entryRow h) ≡ F′ (layoutOf h′) (entryRow h′)
@@ -92,7 +92,7 @@ module _ (sheet : Sheet) where
         let fits : off + n ≤ length loaded = omega (arith, a.many) in
         let rest : List Float = drop (loadedLength y) w in
         ap (part off n) (sym (take-append-drop (loadedLength y) w) ∙ ap (λ (x : List Float). x ++ rest) a.same-loaded)
-        ∙ part-left loaded rest off n fits ∙ sym (part-left loaded (noughts y) off n fits)
+        ∙ part-left loaded rest off n fits ∙ sym (part-left loaded (zeros y) off n fits)
 
     -- so is a loaded block
     loaded-same : (i j : ℕ) → j ≤ i → i ≤ last sheet → loadedBlock h w i j ≡ loadedBlock h′ w′ i j
@@ -118,7 +118,7 @@ module _ (sheet : Sheet) where
         (ap (λ (d : Shape). factored d b) (shape-factor y (entryRow h) (entryRow h′) a.same-rows j))
 
     -- a step makes the same block by the rules of v as by those of a fresh workspace
-    pub made-same : (s : Step) → Named (last sheet) s → madeBy (v .heading) (v .doubles) s ≡ made (rulesHere sheet loaded theta) s (stateOf loaded theta v g)
+    pub made-same : (s : Step) → IsStep (last sheet) s → madeBy (v .heading) (v .doubles) s ≡ made (rulesHere sheet loaded theta) s (stateOf loaded theta v g)
     unfolding madeBy
     made-same (S i j x) n =
         let t = workingBlock h w i j in
@@ -135,7 +135,7 @@ module _ (sheet : Sheet) where
         (solved-rows y (entryRow h) (entryRow h′) a.same-rows i j t f)
 
     -- and the same sum of logarithms
-    pub sum-same : (s : Step) → Named (last sheet) s → sumBy (v .heading) (v .doubles) s ≡ summed (rulesHere sheet loaded theta) s (stateOf loaded theta v g)
+    pub sum-same : (s : Step) → IsStep (last sheet) s → sumBy (v .heading) (v .doubles) s ≡ summed (rulesHere sheet loaded theta) s (stateOf loaded theta v g)
     unfolding sumBy
     sum-same (S i j x) n = refl
     sum-same (C j) n =
@@ -146,7 +146,7 @@ module _ (sheet : Sheet) where
     sum-same (T i j) n = refl
 
     -- and refuses the same pivot
-    pub refused-same : (s : Step) → Named (last sheet) s → refusedBy (v .heading) (v .doubles) s ≡ refusedNow (rulesHere sheet loaded theta) s (stateOf loaded theta v g)
+    pub refused-same : (s : Step) → IsStep (last sheet) s → refusedBy (v .heading) (v .doubles) s ≡ refusedNow (rulesHere sheet loaded theta) s (stateOf loaded theta v g)
     unfolding refusedBy
     refused-same (S i j x) n = refl
     refused-same (C j) n =
@@ -156,7 +156,7 @@ module _ (sheet : Sheet) where
     refused-same (T i j) n = refl
 
     -- what a step makes is as long as its target, where the target's own block is
-    pub made-length : (s : Step) → Named (last sheet) s → length (workingBlock (v .heading) (v .doubles) (row s) (col s)) ≡ sizes (layout sheet) (row s) (col s)
+    pub made-length : (s : Step) → IsStep (last sheet) s → length (workingBlock (v .heading) (v .doubles) (row s) (col s)) ≡ sizes (layout sheet) (row s) (col s)
         → length (madeBy (v .heading) (v .doubles) s) ≡ sizes (layout sheet) (row s) (col s)
     unfolding madeBy
     made-length (S i j x) n e =
@@ -167,12 +167,12 @@ module _ (sheet : Sheet) where
         ∙ size-here i j
 
     -- begin writes the same block
-    pub started-same : (i j : ℕ) → j ≤ i → i ≤ last sheet
-        → started (layoutOf (v .heading)) (entryRow (v .heading)) (loadedSome (v .heading) (v .doubles)) (λ b. getD theta (getD (layoutOf (v .heading) .order) b 0) (ieee .zero)) i j
+    pub scaled-same : (i j : ℕ) → j ≤ i → i ≤ last sheet
+        → scaled (layoutOf (v .heading)) (entryRow (v .heading)) (loadedSome (v .heading) (v .doubles)) (λ b. getD theta (getD (layoutOf (v .heading) .order) b 0) (ieee .zero)) i j
         (loadedBlock (v .heading) (v .doubles) i j)
         ≡ startHere sheet loaded theta i j
-    started-same i j l m =
-        at-layout (λ z row. started z row (loadedSome h w) (thetaBy theta z) i j (loadedBlock h w i j))
-        (λ z row. started z row (loadedSome h′ w′) (thetaBy theta z) i j (loadedBlock h′ w′ i j))
-        (started-rows y (entryRow h) (entryRow h′) a.same-rows (loadedSome h w) (loadedSome h′ w′) (thetaBy theta y) i j (loadedBlock h w i j)
-        ∙ ap (started y (entryRow h′) (loadedSome h′ w′) (thetaBy theta y) i j) (loaded-same i j l m))
+    scaled-same i j l m =
+        at-layout (λ z row. scaled z row (loadedSome h w) (thetaBy theta z) i j (loadedBlock h w i j))
+        (λ z row. scaled z row (loadedSome h′ w′) (thetaBy theta z) i j (loadedBlock h′ w′ i j))
+        (scaled-rows y (entryRow h) (entryRow h′) a.same-rows (loadedSome h w) (loadedSome h′ w′) (thetaBy theta y) i j (loadedBlock h w i j)
+        ∙ ap (scaled y (entryRow h′) (loadedSome h′ w′) (thetaBy theta y) i j) (loaded-same i j l m))

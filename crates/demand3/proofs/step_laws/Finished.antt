@@ -7,7 +7,7 @@ use mathlib.Core.Option.{none, some}
 use native.Mathlib.Omega.{arith}
 use lib.Dec.{eqb}
 use lib.Ieee.{Float}
-use Rattle.step_order.specs.Steps.{Step, named}
+use Rattle.step_order.specs.Steps.{Step, isStep}
 use Rattle.step_order.specs.Elimination.{value}
 use Rattle.step_order.specs.Progress.{stepsLeft}
 use Rattle.step_order.proofs.Invariant.{held-done}
@@ -22,10 +22,10 @@ use Rattle.workspace.specs.Memory.{Workspace, workingBlock, logSum}
 use Rattle.book.specs.Book.{book, last}
 use Rattle.book.specs.Values.{rulesHere, startHere, finalValue, logsAfter, refusedPivot}
 use Rattle.demand3.proofs.same_rules.Same.{stateOf}
-use Rattle.demand3.proofs.invariant.Stands.{Begun, Stands}
+use Rattle.demand3.proofs.invariant.Invariant.{Begun, Invariant}
 
 module _ (sheet : Sheet) (h : List ℕ) (w : List Float) (loaded theta : List Float) (d : Step → Bool) (v : Workspace)
-    (s : Stands sheet h w (book loaded theta (some d)) v) (left : stepsLeft (last sheet) d ≡ 0) where
+    (s : Invariant sheet h w (book loaded theta (some d)) v) (left : stepsLeft (last sheet) d ≡ 0) where
   -- the update on the page
   begun : Begun sheet loaded theta d (s .progress) v
   begun = s.updating.1
@@ -56,19 +56,19 @@ module _ (sheet : Sheet) (h : List ℕ) (w : List Float) (loaded theta : List Fl
   finished-none = none-refused (rulesHere sheet loaded theta) (startHere sheet loaded theta) (suc (last sheet)) (λ j l. finished-pivots j (omega arith))
 
   -- the set may as well be that of all steps there are
-  pub finished-named : Stands sheet h w (book loaded theta (some (named (last sheet)))) v
+  pub finished-named : Invariant sheet h w (book loaded theta (some (isStep (last sheet)))) v
   finished-named =
       record {
         progress = s.progress;
         heading = s.heading;
         stages = s.stages;
-        lawful-progress = s.lawful-progress;
+        valid-progress = s.valid-progress;
         many = s.many;
         loaded = s.loaded;
         unwritten = s.unwritten;
         updating = (
           s .updating .0
-              ∙ ap (λ (n : ℕ). pick (eqb n 0) Finished UnderWay) (left ∙ sym (none-left (last sheet) (named (last sheet)) .1 (λ t n. named-iff (last sheet) t .1 n))),
+              ∙ ap (λ (n : ℕ). pick (eqb n 0) Finished UnderWay) (left ∙ sym (none-left (last sheet) (isStep (last sheet)) .1 (λ t n. named-iff (last sheet) t .1 n))),
           record {
             theta-many = begun.theta-many;
             theta-finite = begun.theta-finite;

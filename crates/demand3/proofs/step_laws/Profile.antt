@@ -11,7 +11,7 @@ use lib.ListN.{length}
 use lib.Ieee.{Float}
 use borrow.Author.Tests.{eqb-true}
 use Rattle.storage.specs.Shape.{packed}
-use Rattle.step_order.specs.Steps.{Step, named, rustOrder}
+use Rattle.step_order.specs.Steps.{Step, isStep, rustOrder}
 use Rattle.step_order.specs.Progress.{joinAll}
 use Rattle.step_order.proofs.Next.{rust-order}
 use Rattle.step_order.proofs.Theorems.{rust-complete}
@@ -24,7 +24,7 @@ use Rattle.refusal.specs.Numbers.{refusal, refuse}
 use Rattle.layout.specs.declared.Layout.{Layout}
 use Rattle.layout.specs.Shapes.{pick}
 use Rattle.heading_format.specs.Heading.{layoutOf}
-use Rattle.workspace.specs.Memory.{Workspace, cellOf, workingBlock, logSum, noughts}
+use Rattle.workspace.specs.Memory.{Workspace, cellOf, workingBlock, logSum, zeros}
 use Rattle.workspace.specs.Answers.{Outcome, firstInfinite, unlessAt}
 use Rattle.workspace.specs.Load.{headingOf}
 use Rattle.update.specs.Calls.{beginOf, runOf}
@@ -34,10 +34,10 @@ use Rattle.profile.specs.Deviance.{freedom, devianceValue, Profiled, afterSteps
 use Rattle.book.specs.Calls.{Reply, plain, deviance, profileDeviance}
 use Rattle.book.specs.Book.{Book, book, Entry, entry, nothing, layout, last, fresh, rust, afterAll}
 use Rattle.book.specs.Values.{finalValue, logsAfter, refusedPivot}
-use Rattle.demand3.proofs.invariant.Stands.{Site, Stands, Follows}
+use Rattle.demand3.proofs.invariant.Invariant.{Site, Invariant, Follows}
 use Rattle.demand3.proofs.invariant.Site.{layout-of, loaded-many}
-use Rattle.demand3.proofs.invariant.Open.{fresh-site, fresh-stands}
-use Rattle.demand3.proofs.invariant.Begin.{begin-accepts, begin-stands, begin-follows}
+use Rattle.demand3.proofs.invariant.Open.{fresh-site, fresh-invariant}
+use Rattle.demand3.proofs.invariant.Begin.{begin-accepts, begin-invariant, begin-follows}
 use Rattle.demand3.proofs.step_laws.Run.{Through, run-comes}
 use Rattle.demand3.proofs.step_laws.Finished.{finished-factor, finished-sum, finished-none, finished-named}
 use Rattle.demand3.proofs.step_laws.Rust.{answerFor, rust-answer}
@@ -66,7 +66,7 @@ value-of h w reml y block sum e f g =
 
 -- the set that an accepted call leaves, by the pivot that the Rust's order refuses
 abbrev setBy : ℕ → Option (ℕ × ℕ) → Option (Step → Bool)
-setBy k none = some (named k)
+setBy k none = some (isStep k)
 setBy k (some p) = none
 
 -- the book has the same
@@ -90,11 +90,11 @@ profile-begins : (h : List ℕ) (w theta : List Float) (reml : Bool) → profile
 unfolding profileOf
 profile-begins h w theta reml = refl
 
-module _ (sheet : Sheet) (h : List ℕ) (w : List Float) (here : Site sheet h w) (b : Book) (v : Workspace) (stands : Stands sheet h w b v) (theta : List Float) (reml : Bool)
+module _ (sheet : Sheet) (h : List ℕ) (w : List Float) (here : Site sheet h w) (b : Book) (v : Workspace) (stands : Invariant sheet h w b v) (theta : List Float) (reml : Bool)
     (many : length theta ≡ last sheet) (finite : firstInfinite 0 theta ≡ none) where
   -- an accepted call, by the pivot
   abbrev Ends : Option (ℕ × ℕ) → Profiled → Type 0
-  Ends q p = (p.answer ≡ answerBy sheet b.loaded theta reml q) × Stands sheet h w (book b.loaded theta (setBy (last sheet) q)) p.left
+  Ends q p = (p.answer ≡ answerBy sheet b.loaded theta reml q) × Invariant sheet h w (book b.loaded theta (setBy (last sheet) q)) p.left
 
   -- the steps of the Rust's order, from the begun update
   abbrev steps : Outcome
@@ -123,7 +123,7 @@ module _ (sheet : Sheet) (h : List ℕ) (w : List Float) (here : Site sheet h w)
       (λ t. subst (λ (q : Option (ℕ × ℕ)). Ends q (afterSteps steps.answer steps reml)) (sym t.pivot)
       (subst (λ (a : Answer). Ends (some (t.block, t.row)) (afterSteps a steps reml)) (sym t.answer) (refl, t.stands)))
       (run-comes sheet h w here b.loaded theta (rustOrder (last sheet)) nothing (beginOf v.heading v.doubles theta .left)
-      (begin-stands sheet h w here b v stands theta many finite) (rust-order (last sheet)))
+      (begin-invariant sheet h w here b v stands theta many finite) (rust-order (last sheet)))
 
   -- the whole call
   profile-ends : Ends (refusedPivot sheet (b .loaded) theta) (profileOf (v .heading) (v .doubles) theta reml)
@@ -140,15 +140,15 @@ abbrev answerOf : Reply → Answer
 answerOf (plain a) = a
 answerOf (deviance d) = Accepted
 
-module _ (sheet : Sheet) (h : List ℕ) (w : List Float) (here : Site sheet h w) (b : Book) (v : Workspace) (stands : Stands sheet h w b v) (theta : List Float) (reml : Bool) where
+module _ (sheet : Sheet) (h : List ℕ) (w : List Float) (here : Site sheet h w) (b : Book) (v : Workspace) (stands : Invariant sheet h w b v) (theta : List Float) (reml : Bool) where
   -- an answer against an entry of the book
   abbrev Met : Profiled → Entry → Type 0
-  Met p e = (deviance p.answer ≡ e .reply) × Stands sheet h w e.next p.left
+  Met p e = (deviance p.answer ≡ e .reply) × Invariant sheet h w e.next p.left
 
   -- the book's entry where theta is not refused
   abbrev good : Entry
   good =
-      entry (deviance (profileOf (headingOf sheet (layout sheet)) (b.loaded ++ noughts (layout sheet)) theta reml .answer))
+      entry (deviance (profileOf (headingOf sheet (layout sheet)) (b.loaded ++ zeros (layout sheet)) theta reml .answer))
       (book b.loaded theta (afterAll sheet (rust sheet b.loaded theta .answer)))
 
   -- an accepted call answers as on a freshly loaded workspace
@@ -157,16 +157,16 @@ module _ (sheet : Sheet) (h : List ℕ) (w : List Float) (here : Site sheet h w)
       let loaded-so = loaded-many sheet h w here b v stands in
       let mine = profile-ends sheet h w here b v stands theta reml many finite in
       let other =
-      profile-ends sheet (headingOf sheet (layout sheet)) (b.loaded ++ noughts (layout sheet)) (fresh-site sheet h w here b.loaded loaded-so) (book b.loaded [] none)
-      (fresh sheet b.loaded) (fresh-stands sheet h w here b.loaded loaded-so) theta reml many finite in (
+      profile-ends sheet (headingOf sheet (layout sheet)) (b.loaded ++ zeros (layout sheet)) (fresh-site sheet h w here b.loaded loaded-so) (book b.loaded [] none)
+      (fresh sheet b.loaded) (fresh-invariant sheet h w here b.loaded loaded-so) theta reml many finite in (
         ap deviance (mine.0 ∙ sym other.0),
-        subst (λ (m : Option (Step → Bool)). Stands sheet h w (book b.loaded theta m) (profileOf v.heading v.doubles theta reml .left))
+        subst (λ (m : Option (Step → Bool)). Invariant sheet h w (book b.loaded theta m) (profileOf v.heading v.doubles theta reml .left))
             (sym (ap (afterAll sheet) (rust-answer sheet h w here b.loaded theta loaded-so many finite) ∙ set-by sheet (refusedPivot sheet b.loaded theta)))
             mine.1,
       )
 
   -- begin's refusal is the call's
-  refused : (n a i : ℕ) → beginOf (v .heading) (v .doubles) theta .answer ≡ refuse n a i → Stands sheet h w b (beginOf (v .heading) (v .doubles) theta .left)
+  refused : (n a i : ℕ) → beginOf (v .heading) (v .doubles) theta .answer ≡ refuse n a i → Invariant sheet h w b (beginOf (v .heading) (v .doubles) theta .left)
       → Met (profileOf (v .heading) (v .doubles) theta reml) (entry (deviance (Refused (refusal n a i))) b)
   refused n a i e u =
       subst (λ (p : Profiled). Met p (entry (deviance (Refused (refusal n a i))) b))
@@ -179,7 +179,7 @@ module _ (sheet : Sheet) (h : List ℕ) (w : List Float) (here : Site sheet h w)
   answered : (c : Bool) (f : Option ℕ) → eqb (length theta) (last sheet) ≡ c → firstInfinite 0 theta ≡ f
       → (plain (beginOf (v .heading) (v .doubles) theta .answer)
       ≡ pick c (unlessAt f (λ i. entry (plain (refuse 14 0 i)) b) (entry (plain Accepted) (book (b .loaded) theta (some nothing)))) (entry (plain (refuse 13 0 0)) b) .reply)
-      × Stands sheet h w
+      × Invariant sheet h w
       (pick c (unlessAt f (λ i. entry (plain (refuse 14 0 i)) b) (entry (plain Accepted) (book (b .loaded) theta (some nothing)))) (entry (plain (refuse 13 0 0)) b) .next)
       (beginOf (v .heading) (v .doubles) theta .left)
       → Met (profileOf (v .heading) (v .doubles) theta reml)

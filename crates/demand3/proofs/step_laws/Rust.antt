@@ -18,15 +18,15 @@ use Rattle.refusal.specs.declared.Answer.{Answer}
 use Rattle.refusal.specs.declared.Answer.the-variants.{Accepted, Refused}
 use Rattle.refusal.specs.Numbers.{refuse}
 use Rattle.layout.specs.Shapes.{loadedLength}
-use Rattle.workspace.specs.Memory.{workingBlock, logSum, noughts}
+use Rattle.workspace.specs.Memory.{workingBlock, logSum, zeros}
 use Rattle.workspace.specs.Answers.{firstInfinite}
 use Rattle.workspace.specs.Load.{headingOf}
 use Rattle.update.specs.Calls.{beginOf}
 use Rattle.book.specs.Book.{book, nothing, layout, last, fresh, rust, inStep}
 use Rattle.book.specs.Values.{rulesHere, startHere, finalValue, logsAfter, refusedPivot}
-use Rattle.demand3.proofs.invariant.Stands.{Site, Stands}
-use Rattle.demand3.proofs.invariant.Open.{fresh-site, fresh-stands}
-use Rattle.demand3.proofs.invariant.Begin.{begin-stands}
+use Rattle.demand3.proofs.invariant.Invariant.{Site, Invariant}
+use Rattle.demand3.proofs.invariant.Open.{fresh-site, fresh-invariant}
+use Rattle.demand3.proofs.invariant.Begin.{begin-invariant}
 use Rattle.demand3.proofs.step_laws.Run.{Through, Stopped, run-comes}
 use Rattle.demand3.proofs.step_laws.Finished.{finished-factor, finished-sum, finished-none}
 
@@ -56,14 +56,14 @@ module _ (sheet : Sheet) (h : List ℕ) (w : List Float) (here : Site sheet h w)
   h′ = headingOf sheet (layout sheet)
 
   abbrev w′ : List Float
-  w′ = loaded ++ noughts (layout sheet)
+  w′ = loaded ++ zeros (layout sheet)
 
   -- begin, then the Rust's order: all steps done, or a pivot refused
   ends : Through sheet h′ w′ (fresh-site sheet h w here loaded many) loaded theta (joinAll nothing (rustOrder (last sheet))) (rust sheet loaded theta)
       ⊎ Stopped sheet h′ w′ (fresh-site sheet h w here loaded many) loaded theta (rust sheet loaded theta)
   ends =
       run-comes sheet h′ w′ (fresh-site sheet h w here loaded many) loaded theta (rustOrder (last sheet)) nothing (beginOf h′ w′ theta .left)
-      (begin-stands sheet h′ w′ (fresh-site sheet h w here loaded many) (book loaded [] none) (fresh sheet loaded) (fresh-stands sheet h w here loaded many) theta theta-many finite)
+      (begin-invariant sheet h′ w′ (fresh-site sheet h w here loaded many) (book loaded [] none) (fresh sheet loaded) (fresh-invariant sheet h w here loaded many) theta theta-many finite)
       (rust-order (last sheet))
 
   -- it answers the pivot that it refuses, if there is one
@@ -83,7 +83,7 @@ module _ (sheet : Sheet) (h : List ℕ) (w : List Float) (here : Site sheet h w)
   -- where it refuses none: the factor and the sum
   module _ (none-refused : refusedPivot sheet loaded theta ≡ none) where
     -- all steps were done
-    through : Stands sheet h′ w′ (book loaded theta (some (joinAll nothing (rustOrder (last sheet))))) (rust sheet loaded theta .left)
+    through : Invariant sheet h′ w′ (book loaded theta (some (joinAll nothing (rustOrder (last sheet))))) (rust sheet loaded theta .left)
     through = ⊎-elim (λ t. t .stands) (λ t. absurd (let z : _≡_ {A = ℕ} 0 1 = cc t.pivot in omega arith)) ends
 
     pub rust-factor : (i j : ℕ) → j ≤ i → i ≤ last sheet

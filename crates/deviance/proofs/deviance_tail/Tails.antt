@@ -1,4 +1,4 @@
--- The deviance of a workspace by its layout, and where the pivots and the sum of a lawful layout lie.
+-- The deviance of a workspace by its layout, and where the pivots and the sum of a valid layout lie.
 use Prim.Native.Nat.{ℕ, zero, suc, _+_, _≤_, _<_}
 use mathlib.Core.Path.{_≡_, refl, sym, ap, _∙_}
 use mathlib.Core.Bool.{Bool, true, false, _||_}
@@ -18,8 +18,8 @@ use Rattle.block_runs.proofs.blocks.Laws.{read-block, has-packed}
 use Rattle.re_factor.specs.Factor.{pivotAt}
 use Rattle.layout.specs.declared.Layout.{Layout}
 use Rattle.layout.specs.Shapes.{pick, shape, sizes, workingAt, sumAt, doublesNeeded}
-use Rattle.heading_format.specs.Heading.{layoutOf, progressOf, entryRow, lawful, headed}
-use Rattle.heading_format.proofs.Lawful.{is-lawful}
+use Rattle.heading_format.specs.Heading.{layoutOf, progressOf, entryRow, validLayout, validHeading}
+use Rattle.heading_format.proofs.Valid.{is-valid}
 use Rattle.layout.proofs.Places.{working-inside}
 use Rattle.block_places.proofs.block_sizes.Sizes.{doubles-small}
 use Rattle.heading_format.proofs.Fits.{fits}
@@ -83,10 +83,10 @@ module _ (y : Layout) (w : List Float) (logdet : Float) (reml : Bool) (x d : Flo
   scaled v t e = rw (← is-x, ← is-d, t) (ap Value e)
 
 -- ---- places
-module _ (y : Layout) (n : ℕ) (ok : lawful y ≡ true) (room : doublesNeeded y ≤ n) where
+module _ (y : Layout) (n : ℕ) (ok : validLayout y ≡ true) (room : doublesNeeded y ≤ n) where
   -- few doubles, so that no place overflows
   pub few-effects : y .p ≤ 32
-  few-effects = is-lawful y ok .effects .1
+  few-effects = is-valid y ok .effects .1
 
   -- the last pivot lies within the doubles, and far below 2 ^ 63
   pub last-place : (at s : ℕ) → at ≡ workingAt y (y .k) (y .k) → s ≡ start triangle (y .p) → (at + s + y .p < n) × (at + s + y .p < 2199023255552)
@@ -109,11 +109,11 @@ sum-read y w room at e =
 
 -- ---- the refusals, and a workspace
 module _ (h : List ℕ) (w : List Float) (reml : Bool) where
-  pub not-headed : headed h (length w) ≡ false → (f : Refusal) → f ≡ refusal 20 0 0 → Refused f ≡ devianceFromFactor h w reml
+  pub not-valid-heading : validHeading h (length w) ≡ false → (f : Refusal) → f ≡ refusal 20 0 0 → Refused f ≡ devianceFromFactor h w reml
   unfolding devianceFromFactor
-  not-headed e f q = rw (e, q) refl
+  not-valid-heading e f q = rw (e, q) refl
 
-  module _ (ok : headed h (length w) ≡ true) (b : Bool) (is-b : b ≡ isFinished (progressOf h .state)) where
+  module _ (ok : validHeading h (length w) ≡ true) (b : Bool) (is-b : b ≡ isFinished (progressOf h .state)) where
     pub not-finished : b ≡ false → (f : Refusal) → f ≡ refusal 25 0 0 → Refused f ≡ devianceFromFactor h w reml
     unfolding devianceFromFactor
     not-finished e f q = rw (ok, ← is-b, e, q) refl
@@ -124,5 +124,5 @@ module _ (h : List ℕ) (w : List Float) (reml : Bool) where
         is-r ∙ ap (λ (x : Float). devianceWith y w x reml) is-l ∙ ap (λ (z : Layout). devianceWith z w (logDeterminantOf z w) reml) is-y ∙ tail-value h w reml ∙ rw (ok, ← is-b, e) refl
 
   -- what the calls on a workspace need
-  pub workspace : headed h (length w) ≡ true → (y : Layout) → y ≡ layoutOf h → (lawful y ≡ true) × (doublesNeeded y ≤ length w)
-  workspace ok y e = let k = fits h (length w) ok in (rw e k.layout, rw e k.room)
+  pub workspace-fits : validHeading h (length w) ≡ true → (y : Layout) → y ≡ layoutOf h → (validLayout y ≡ true) × (doublesNeeded y ≤ length w)
+  workspace-fits ok y e = let k = fits h (length w) ok in (rw e k.layout, rw e k.room)

@@ -15,10 +15,10 @@ use Rattle.layout.specs.declared.Layout.{Layout}
 use Rattle.layout.specs.Blocks.{sum}
 use Rattle.layout.proofs.Sums.{sum-same, sum-le, sum-more}
 use Rattle.layout.specs.Shapes.{levels, shape, workingAt, doublesNeeded}
-use Rattle.heading_format.specs.Heading.{lawful, layoutOf, entryRow}
-use Rattle.heading_format.proofs.Lawful.{is-lawful, lawful-doubles}
+use Rattle.heading_format.specs.Heading.{validLayout, layoutOf, entryRow}
+use Rattle.heading_format.proofs.Valid.{is-valid, valid-doubles}
 use Rattle.workspace.specs.Memory.{cellOf, workingBlock}
-use Rattle.workspace.specs.Answers.{space}
+use Rattle.workspace.specs.Answers.{workspace}
 use Rattle.update.specs.Working.{pivotCount}
 use Rattle.factor_output.specs.Print.{pivotLine}
 use Rattle.factor_output.specs.Program.{pivotRows, pivotLines}
@@ -53,9 +53,9 @@ module _ (y : Layout) (w : List Float) (j : ℕ) (from : ℕ) (out₀ : List ℕ
     pub near : at ≤ from + 31 * r
     pub long : length out ≡ length out₀
 
-  module _ (ok : lawful y ≡ true) (there : j ≤ y .k) (few : rowsOf y j ≤ 4096) (room : from + 31 * rowsOf y j + 34 ≤ length out₀) where
+  module _ (ok : validLayout y ≡ true) (there : j ≤ y .k) (few : rowsOf y j ≤ 4096) (room : from + 31 * rowsOf y j + 34 ≤ length out₀) where
     small-block : j < 10
-    small-block = omega (arith, is-lawful y ok .blocks .1)
+    small-block = omega (arith, is-valid y ok .blocks .1)
 
     pub rows-none : RowsPut 0 from out₀
     unfolding rowLines
@@ -89,7 +89,7 @@ sum-levels : (y : Layout) (n : ℕ) → n ≤ y .k → sum (rowsOf y) n ≡ sum 
 sum-levels y n h = sum-same (rowsOf y) (levels y) n (λ i b. rows-level y i (omega arith))
 
 -- one for each column of the random effects, each fixed effect and the response: fewer than there are doubles
-module _ (y : Layout) (ok : lawful y ≡ true) where
+module _ (y : Layout) (ok : validLayout y ≡ true) where
   all-rows : sum (rowsOf y) (y .k + 1) ≤ doublesNeeded y
   all-rows =
       omega (
@@ -97,8 +97,8 @@ module _ (y : Layout) (ok : lawful y ≡ true) where
         sum-more (rowsOf y) y.k,
         sum-levels y y.k (omega arith),
         rows-last y y.k refl,
-        is-lawful y ok .total,
-        lawful-doubles y ok,
+        is-valid y ok .total,
+        valid-doubles y ok,
       )
 
   -- those of the blocks up to one of them
@@ -122,7 +122,7 @@ module _ (y : Layout) (w : List Float) (out₀ : List ℕ) where
   unfolding blockLines
   blocks-none = record { put = (refl, sym (store-nil 0 out₀)); within = omega arith; near = omega arith; long = refl }
 
-  module _ (ok : lawful y ≡ true) (need : doublesNeeded y ≤ length w) (few : length w ≤ 4096) (room : 131072 ≤ length out₀) where
+  module _ (ok : validLayout y ≡ true) (need : doublesNeeded y ≤ length w) (few : length w ≤ 4096) (room : 131072 ≤ length out₀) where
     module _ (j at : ℕ) (out : List ℕ) (p : BlocksPut j at out) where
       module _ (more : j ≤ y .k) where
         -- there is room for its lines
@@ -132,7 +132,7 @@ module _ (y : Layout) (w : List Float) (out₀ : List ℕ) where
         pub blocks-next : (at′ : ℕ) (out′ : List ℕ) → Put at (rowLines y w j (rowsOf y j)) out at′ out′ → BlocksPut (j + 1) at′ out′
         blocks-next at′ out′ q =
             let few′ = blocks-room in
-            let b : j < 10 = omega (arith, is-lawful y ok .blocks .1) in
+            let b : j < 10 = omega (arith, is-valid y ok .blocks .1) in
             let short = rows-short y w j (rowsOf y j) b few′.0 in
             record {
               put = subst (λ (l : List ℕ). Put 0 l out₀ at′ out′) (sym (block-more y w j)) (put-then 0 (blockLines y w j) (rowLines y w j (rowsOf y j)) out₀ (omega (arith, p.put.0, p.long, few′.1)) p.put q);
@@ -159,19 +159,19 @@ module _ (h : List ℕ) (w : List Float) where
   unfolding pivotAt
   cell-is j r = ap (λ (s : Shape). cellOf s (part (workingAt (layoutOf h) j j) (sizeOf s) w) r r) (shape-is (layoutOf h) (entryRow h) j)
 
-  rows-are : (j n : ℕ) → pivotRows (space h w) j n ≡ rowLines (layoutOf h) w j n
+  rows-are : (j n : ℕ) → pivotRows (workspace h w) j n ≡ rowLines (layoutOf h) w j n
   unfolding pivotRows rowLines
   rows-are j zero = refl
   rows-are j (suc r) = ap₂ (λ (l : List ℕ) (x : Float). l ++ pivotLine j r x) (rows-are j r) (cell-is j r)
 
-  lines-are : (n : ℕ) → pivotLines (space h w) n ≡ blockLines (layoutOf h) w n
+  lines-are : (n : ℕ) → pivotLines (workspace h w) n ≡ blockLines (layoutOf h) w n
   unfolding pivotLines blockLines
   lines-are zero = refl
   lines-are (suc j) =
       ap₂ (λ (l m : List ℕ). l ++ m) (lines-are j)
-      (ap (pivotRows (space h w) j) (ap pivotCount (shape-is (layoutOf h) (entryRow h) j) ∙ count-is (layoutOf h) j) ∙ rows-are j (rowsOf (layoutOf h) j))
+      (ap (pivotRows (workspace h w) j) (ap pivotCount (shape-is (layoutOf h) (entryRow h) j) ∙ count-is (layoutOf h) j) ∙ rows-are j (rowsOf (layoutOf h) j))
 
   pub lines-put : (y : Layout) → y ≡ layoutOf h → (out₀ : List ℕ) (r : ℕ) (out : List ℕ) → (r ≤ 131072) × Put 0 (blockLines y w (suc (y .k))) out₀ r out
-      → (r ≤ 131072) × Put 0 (pivotLines (space h w) (suc (layoutOf h .k))) out₀ r out
+      → (r ≤ 131072) × Put 0 (pivotLines (workspace h w) (suc (layoutOf h .k))) out₀ r out
   lines-put y e out₀ r out p =
       subst (λ (l : List ℕ). (r ≤ 131072) × Put 0 l out₀ r out) (ap (λ (z : Layout). blockLines z w (suc z.k)) e ∙ sym (lines-are (suc (layoutOf h .k)))) p

@@ -19,20 +19,20 @@ use Rattle.sheet.specs.declared.Reading.the-variants.{Sheet as Read, Refused as
 use Rattle.sheet.specs.declared.Starts.{Starts}
 use Rattle.sheet.specs.Sheet.{Sheet, accepted, refused, readSheet}
 use Rattle.sheet.specs.Sheet as Sheets
-use Rattle.sheet.specs.Fault.{refusalOf}
+use Rattle.sheet.specs.Fault.{faultNumber}
 use Rattle.sheet.specs.Answer.{Answers}
 use Rattle.sheet.proofs.Whole.{read-whole}
 use Rattle.layout.specs.declared.Layout.{Layout}
-use Rattle.heading_format.specs.Heading.{layoutOf, headed, underWay}
+use Rattle.heading_format.specs.Heading.{layoutOf, validHeading, underWay}
 use Rattle.heading_format.proofs.Fits.{fits}
-use Rattle.heading_format.proofs.Lawful.{is-lawful}
+use Rattle.heading_format.proofs.Valid.{is-valid}
 use Rattle.workspace.specs.Memory.{headingWith}
-use Rattle.workspace.specs.Answers.{Outcome, space}
+use Rattle.workspace.specs.Answers.{Outcome, workspace}
 use Rattle.workspace.specs.Load.{loadSheet}
 use Rattle.update.specs.Calls.{runOf, beginOf}
 use Rattle.update.proofs.progress_laws.Kept.{layout-kept}
 use Rattle.update.proofs.progress_laws.Calls.{begin-accepted, run-kept}
-use Rattle.profile_deviance.specs.ready_step.Underway.{isRefused, Underway, Ran}
+use Rattle.profile_deviance.specs.ready_step.ReadyInTurn.{isRefused, ReadyInTurn, Ran}
 use Rattle.profile_deviance.proofs.ready_step.Turns.{just-begun}
 use Rattle.load_numbers.proofs.sheet_words.Facts.{few-entries}
 use Rattle.factor_output.specs.Print.{refusedLine}
@@ -47,39 +47,39 @@ answered f a b n old out e t = subst (λ (x : Answer). Text (f x) n old out) (sy
 -- ---- begin
 module _ (h : List ℕ) (w theta : List Float) where
   -- what an accepted begin leaves waits for the steps in the Rust's order, with the same blocks
-  pub begun-underway : (a : Answer) (h₁ : List ℕ) (w₁ : List Float) → length w₁ ≡ length w → record { answer = a; left = space h₁ w₁ } ≡ beginOf h w theta → a ≡ Accepted
-      → Underway (space h₁ w₁) (rustOrder (length theta)) × (layoutOf h₁ .k ≡ length theta)
+  pub begun-underway : (a : Answer) (h₁ : List ℕ) (w₁ : List Float) → length w₁ ≡ length w → record { answer = a; left = workspace h₁ w₁ } ≡ beginOf h w theta → a ≡ Accepted
+      → ReadyInTurn (workspace h₁ w₁) (rustOrder (length theta)) × (layoutOf h₁ .k ≡ length theta)
   begun-underway a h₁ w₁ long e q =
       let b = begin-accepted h w theta (ap (λ (o : Outcome). o .answer) (sym e) ∙ q) in
       let left : h₁ ≡ headingWith h (underWay (layoutOf h .k)) = ap (λ (o : Outcome). o .left .heading) e ∙ b.2 in
       let same : layoutOf h₁ .k ≡ length theta =
       ap (λ (x : List ℕ). layoutOf x .k) left ∙ ap (λ (y : Layout). y .k) (layout-kept h (fits h (length w) b.0 .long) (underWay (layoutOf h .k))) ∙ sym b.1 in
-      (subst (λ (k : ℕ). Underway (space h₁ w₁) (rustOrder k)) same (just-begun h (space h₁ w₁) (ap (headed h) long ∙ b.0) left), same)
+      (subst (λ (k : ℕ). ReadyInTurn (workspace h₁ w₁) (rustOrder k)) same (just-begun h (workspace h₁ w₁) (ap (validHeading h) long ∙ b.0) left), same)
 
   -- the text of begin's outcome
-  pub begin-out : (k : ℕ) (a : Answer) (h₁ : List ℕ) (w₁ : List Float) (n : ℕ) (old out : List ℕ) → record { answer = a; left = space h₁ w₁ } ≡ beginOf h w theta
-      → Text (afterBegin a (space h₁ w₁) k) n old out → Text (factorWith (space h w) k theta) n old out
+  pub begin-out : (k : ℕ) (a : Answer) (h₁ : List ℕ) (w₁ : List Float) (n : ℕ) (old out : List ℕ) → record { answer = a; left = workspace h₁ w₁ } ≡ beginOf h w theta
+      → Text (afterBegin a (workspace h₁ w₁) k) n old out → Text (factorWith (workspace h w) k theta) n old out
   unfolding factorWith
   begin-out k a h₁ w₁ n old out e t = subst (λ (o : Outcome). Text (afterBegin o.answer o.left k) n old out) e t
 
 -- ---- the steps
 -- a workspace has at most eight blocks
-pub few-blocks : (h : List ℕ) (w : List Float) (k : ℕ) → headed h (length w) ≡ true → layoutOf h .k ≡ k → k ≤ 8
-few-blocks h w k ok e = omega (arith, is-lawful (layoutOf h) (fits h (length w) ok .layout) .blocks .1)
+pub few-blocks : (h : List ℕ) (w : List Float) (k : ℕ) → validHeading h (length w) ≡ true → layoutOf h .k ≡ k → k ≤ 8
+few-blocks h w k ok e = omega (arith, is-valid (layoutOf h) (fits h (length w) ok .layout) .blocks .1)
 
 -- what an accepted run leaves is a workspace
-pub run-headed : (h : List ℕ) (w : List Float) (k : ℕ) (a : Answer) (h₁ : List ℕ) (w₁ : List Float) → Underway (space h w) (rustOrder k)
-    → Ran (space h w) (rustOrder k) (record { answer = a; left = space h₁ w₁ }) → a ≡ Accepted → headed h₁ (length w₁) ≡ true
-run-headed h w k a h₁ w₁ u r q = r.next [] (subst (Underway (space h w)) (sym (append-nil (rustOrder k))) u) (ap isRefused q) .lawful
+pub run-valid-heading : (h : List ℕ) (w : List Float) (k : ℕ) (a : Answer) (h₁ : List ℕ) (w₁ : List Float) → ReadyInTurn (workspace h w) (rustOrder k)
+    → Ran (workspace h w) (rustOrder k) (record { answer = a; left = workspace h₁ w₁ }) → a ≡ Accepted → validHeading h₁ (length w₁) ≡ true
+run-valid-heading h w k a h₁ w₁ u r q = r.next [] (subst (ReadyInTurn (workspace h w)) (sym (append-nil (rustOrder k))) u) (ap isRefused q) .valid
 
 -- what the run leaves is printed as the steps' outcome
-pub run-out : (h : List ℕ) (w : List Float) (k : ℕ) (a : Answer) (h₁ : List ℕ) (w₁ : List Float) (n : ℕ) (old out : List ℕ) → headed h (length w) ≡ true → layoutOf h .k ≡ k
-    → record { answer = a; left = space h₁ w₁ } ≡ runOf (space h w) (rustOrder k) → Text (printSteps a (space h₁ w₁) (layoutOf h₁ .k)) n old out
-    → Text (afterBegin Accepted (space h w) k) n old out
+pub run-out : (h : List ℕ) (w : List Float) (k : ℕ) (a : Answer) (h₁ : List ℕ) (w₁ : List Float) (n : ℕ) (old out : List ℕ) → validHeading h (length w) ≡ true → layoutOf h .k ≡ k
+    → record { answer = a; left = workspace h₁ w₁ } ≡ runOf (workspace h w) (rustOrder k) → Text (printSteps a (workspace h₁ w₁) (layoutOf h₁ .k)) n old out
+    → Text (afterBegin Accepted (workspace h w) k) n old out
 run-out h w k a h₁ w₁ n old out ok is e t =
     let q : layoutOf h₁ .k ≡ k =
-    ap (λ (o : Outcome). layoutOf o.left.heading .k) e ∙ ap (λ (y : Layout). y .k) (run-kept (space h w) (rustOrder k)) ∙ is in
-    subst (λ (o : Outcome). Text (printSteps o.answer o.left k) n old out) e (subst (λ (x : ℕ). Text (printSteps a (space h₁ w₁) x) n old out) q t)
+    ap (λ (o : Outcome). layoutOf o.left.heading .k) e ∙ ap (λ (y : Layout). y .k) (run-kept (workspace h w) (rustOrder k)) ∙ is in
+    subst (λ (o : Outcome). Text (printSteps o.answer o.left k) n old out) e (subst (λ (x : ℕ). Text (printSteps a (workspace h₁ w₁) x) n old out) q t)
 
 -- ---- the theta part
 -- both tests pass, so no line was refused
@@ -92,14 +92,14 @@ module _ (s : List ℕ) (z : Starts) (h : List ℕ) (w : List Float) where
 
   -- it is in form and the last of the input
   pub theta-good : (c : Cursor) (theta : List Float) (n : ℕ) (old out : List ℕ) → c ≡ thetaLines s (z .counts .k) start .past → (eqb (c .number) 0 && eqb (c .at) (length s)) ≡ true
-      → theta ≡ thetaLines s (z .counts .k) start .items → length theta ≡ z .counts .k → Text (factorWith (space h w) (length theta) theta) n old out
-      → Text (afterLoad Accepted (space h w) (z .counts .k) s z) n old out
+      → theta ≡ thetaLines s (z .counts .k) start .items → length theta ≡ z .counts .k → Text (factorWith (workspace h w) (length theta) theta) n old out
+      → Text (afterLoad Accepted (workspace h w) (z .counts .k) s z) n old out
   theta-good c theta n old out e t q long p =
       rw (← e, t, ← q, ← long) p
 
   -- or 2, with the line
   pub theta-bad : (c : Cursor) (n : ℕ) (old out : List ℕ) → c ≡ thetaLines s (z .counts .k) start .past → (eqb (c .number) 0 && eqb (c .at) (length s)) ≡ false
-      → Text (refusedLine 2 (c .line) 0) n old out → Text (afterLoad Accepted (space h w) (z .counts .k) s z) n old out
+      → Text (refusedLine 2 (c .line) 0) n old out → Text (afterLoad Accepted (workspace h w) (z .counts .k) s z) n old out
   theta-bad c n old out e t p = rw (← e, t) p
 
 -- ---- the sheet
@@ -117,18 +117,18 @@ module _ (s : List ℕ) (z : Starts) where
       (k, omega (arith, k, zz, qq, qp, pp, t.lines, t.counts.k, t.counts.q, t.counts.p.1))
 
   pub sheet-out : (sheet : Sheet) → readSheet s ≡ accepted sheet z → (a : Answer) (h : List ℕ) (w : List Float) (n : ℕ) (old out : List ℕ)
-      → record { answer = a; left = space h w } ≡ loadSheet sheet (replicate numbersHeld 0) (replicate doublesHeld (ieee .zero))
-      → Text (afterLoad a (space h w) (z .counts .k) s z) n old out → Text (afterSheet (readSheet s) s) n old out
+      → record { answer = a; left = workspace h w } ≡ loadSheet sheet (replicate numbersHeld 0) (replicate doublesHeld (ieee .zero))
+      → Text (afterLoad a (workspace h w) (z .counts .k) s z) n old out → Text (afterSheet (readSheet s) s) n old out
   sheet-out sheet e a h w n old out q t =
       let k : z .counts .k ≡ sheet .counts .k = ap (λ (x : _). x .k) (read-whole s sheet z e .shape .same-counts) in
       subst (λ (o : Sheets.Outcome). Text (afterSheet o s) n old out) (sym e)
-      (subst (λ (o : Outcome). Text (afterLoad o.answer o.left sheet.counts.k s z) n old out) q (subst (λ (x : ℕ). Text (afterLoad a (space h w) x s z) n old out) k t))
+      (subst (λ (o : Outcome). Text (afterLoad o.answer o.left sheet.counts.k s z) n old out) q (subst (λ (x : ℕ). Text (afterLoad a (workspace h w) x s z) n old out) k t))
 
 -- ---- what the sheet's reader answered
-pub goes-on : (s : List ℕ) (z : Starts) → Answers (readSheet s) (Read z) → (sheet : Sheet) × (readSheet s ≡ accepted sheet z) × (refusalOf sheet ≡ 0)
+pub goes-on : (s : List ℕ) (z : Starts) → Answers (readSheet s) (Read z) → (sheet : Sheet) × (readSheet s ≡ accepted sheet z) × (faultNumber sheet ≡ 0)
 goes-on s z a = go (readSheet s) refl a
   where
-    go : (p : Sheets.Outcome) → readSheet s ≡ p → Answers p (Read z) → (sheet : Sheet) × (readSheet s ≡ accepted sheet z) × (refusalOf sheet ≡ 0)
+    go : (p : Sheets.Outcome) → readSheet s ≡ p → Answers p (Read z) → (sheet : Sheet) × (readSheet s ≡ accepted sheet z) × (faultNumber sheet ≡ 0)
     go (accepted sheet starts) e a = (sheet, e ∙ ap (accepted sheet) (sym a.1), a.0)
     go (refused number line) e a = absurd (let x : _≡_ {A = ℕ} 0 1 = cc in omega arith)
 

@@ -9,7 +9,7 @@ use lib.ListN.{length}
 use borrow.Author.Tests.{eqb-true}
 use Rattle.step_order.specs.Steps.{rustOrder}
 use Rattle.heading_format.specs.Heading.{every}
-use Rattle.heading_format.proofs.Lawful.{every-at}
+use Rattle.heading_format.proofs.Valid.{every-at}
 
 -- the factors of the formula are small
 pub pair-small : (k : ℕ) → k ≤ 8 → (k + 1) * (k + 2) ≤ 9 * 10

@@ -11,31 +11,31 @@ use Rattle.layout.specs.declared.Pair.the-variants.{Dense, Sparse, Refused}
 use Rattle.layout.specs.Blocks.{sorted, sum}
 use Rattle.layout.specs.Gate.{pairOf}
 use Rattle.layout.specs.Shapes.{levels}
-use Rattle.heading_format.specs.Heading.{every, within, same, sheetLevels, isDense, isSparse, pairLawful, lawful}
-use Rattle.heading_format.proofs.Lawful.{every-at}
+use Rattle.heading_format.specs.Heading.{every, within, same, sheetLevels, isDense, isSparse, validPair, validLayout}
+use Rattle.heading_format.proofs.Valid.{every-at}
 use Rattle.heading_check.specs.layout_check.Ranged.{Ranged}
 use Rattle.heading_check.proofs.order_check.Sheets.{assoc}
 
 -- ---- a pair, by the gate's answer
 module _ (y : Layout) (i j : ℕ) {p : Pair} {rows cols : ℕ} (e : p ≡ pairOf (y .k) rows cols (y .diagonal) cols) (a : rows ≡ levels y i) (b : cols ≡ levels y j) where
-  like : {x : Pair} → p ≡ x → cond (y .sparse) (isSparse x) (isDense x) ≡ pairLawful y i j
+  like : {x : Pair} → p ≡ x → cond (y .sparse) (isSparse x) (isDense x) ≡ validPair y i j
   like {x} z = rw (← a, ← b, ← e, z)
 
-  pub pair-dense : p ≡ Dense → not (y .sparse) ≡ pairLawful y i j
+  pub pair-dense : p ≡ Dense → not (y .sparse) ≡ validPair y i j
   pair-dense z = flag y.sparse ∙ like z
     where
       flag : (b : Bool) → not b ≡ cond b false true
       flag true = refl
       flag false = refl
 
-  pub pair-sparse : p ≡ Sparse → y .sparse ≡ pairLawful y i j
+  pub pair-sparse : p ≡ Sparse → y .sparse ≡ validPair y i j
   pair-sparse z = flag y.sparse ∙ like z
     where
       flag : (b : Bool) → b ≡ cond b true false
       flag true = refl
       flag false = refl
 
-  pub pair-refused : {n : ℕ} → p ≡ Refused n → false ≡ pairLawful y i j
+  pub pair-refused : {n : ℕ} → p ≡ Refused n → false ≡ validPair y i j
   pair-refused z = flag y.sparse ∙ like z
     where
       flag : (b : Bool) → false ≡ cond b false false
@@ -56,19 +56,19 @@ abbrev flags : Layout → Bool
 flags y = (not y.diagonal || eqb y.k 2) && (not y.sparse || (y.diagonal && eqb y.k 2))
 
 abbrev pairsPass : Layout → Bool
-pairsPass y = every (λ i. every (λ j. pairLawful y i j) i) y.k
+pairsPass y = every (λ i. every (λ j. validPair y i j) i) y.k
 
 chain : (a b c d e f g : Bool) → (a && b && c && d && e && f && g) ≡ (a && b && c && d && (e && f) && g)
 chain a b c d e f g = rw (assoc (a && b && c && d) e f)
 
-lawful-is : (y : Layout) → lawful y ≡ (counts y && manyLevels y && inOrder y && eqb (y .q) (sum (levels y) (y .k)) && flags y && pairsPass y)
-unfolding lawful
-lawful-is y =
+valid-is : (y : Layout) → validLayout y ≡ (counts y && manyLevels y && inOrder y && eqb (y .q) (sum (levels y) (y .k)) && flags y && pairsPass y)
+unfolding validLayout
+valid-is y =
     chain (counts y) (manyLevels y) (inOrder y) (eqb y.q (sum (levels y) y.k)) (not y.diagonal || eqb y.k 2) (not y.sparse || (y.diagonal && eqb y.k 2)) (pairsPass y)
 
 module _ (y : Layout) {a : Bool} (is-a : a ≡ counts y) where
-  pub no-counts : a ≡ false → false ≡ lawful y
-  no-counts z = rw (lawful-is y, ← is-a, z)
+  pub no-counts : a ≡ false → false ≡ validLayout y
+  no-counts z = rw (valid-is y, ← is-a, z)
 
   module _ (p : a ≡ true) where
     pub few-blocks : y .k ≤ 8
@@ -77,8 +77,8 @@ module _ (y : Layout) {a : Bool} (is-a : a ≡ counts y) where
         leb-true y.k 8 (and-eq-true-iff (leb 1 y.k) (leb y.k 8) .0 q.1 .1)
 
     module _ {b : Bool} (is-b : b ≡ manyLevels y) where
-      pub no-levels : b ≡ false → false ≡ lawful y
-      no-levels z = rw (lawful-is y, ← is-a, p, ← is-b, z)
+      pub no-levels : b ≡ false → false ≡ validLayout y
+      no-levels z = rw (valid-is y, ← is-a, p, ← is-b, z)
 
       module _ (q : b ≡ true) where
         pub ranged : Ranged y
@@ -89,12 +89,12 @@ module _ (y : Layout) {a : Bool} (is-a : a ≡ counts y) where
             }
 
         module _ {c : Bool} (is-c : c ≡ inOrder y) where
-          pub no-order : c ≡ false → false ≡ lawful y
-          no-order z = rw (lawful-is y, ← is-a, p, ← is-b, q, ← is-c, z)
+          pub no-order : c ≡ false → false ≡ validLayout y
+          no-order z = rw (valid-is y, ← is-a, p, ← is-b, q, ← is-c, z)
 
           module _ (s : c ≡ true) {t : ℕ} (is-t : t ≡ sum (levels y) (y .k)) where
-            pub no-total : (y .q ≡ t → ⊥) → false ≡ lawful y
-            no-total z = rw (lawful-is y, ← is-a, p, ← is-b, q, ← is-c, s, ← is-t, ne-eqb y.q t z)
+            pub no-total : (y .q ≡ t → ⊥) → false ≡ validLayout y
+            no-total z = rw (valid-is y, ← is-a, p, ← is-b, q, ← is-c, s, ← is-t, ne-eqb y.q t z)
 
-            pub all-tests : {w : Bool} → y .q ≡ t → w ≡ pairsPass y → (flags y && w) ≡ lawful y
-            all-tests z is-w = rw (lawful-is y, ← is-a, p, ← is-b, q, ← is-c, s, ← is-t, eq-eqb y.q t z, is-w)
+            pub all-tests : {w : Bool} → y .q ≡ t → w ≡ pairsPass y → (flags y && w) ≡ validLayout y
+            all-tests z is-w = rw (valid-is y, ← is-a, p, ← is-b, q, ← is-c, s, ← is-t, eq-eqb y.q t z, is-w)

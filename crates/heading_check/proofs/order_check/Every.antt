@@ -5,7 +5,7 @@ use mathlib.Core.Bool.{Bool, true, false, true≢false}
 use native.Mathlib.Omega.{arith}
 use native.Mathlib.Numerals.{add-one}
 use Rattle.heading_format.specs.Heading.{every}
-use Rattle.heading_format.proofs.Lawful.{both, every-at, is-false}
+use Rattle.heading_format.proofs.Valid.{both, every-at, is-false}
 
 pub record Passing (f : ℕ → Bool) (n j : ℕ) : Type 0 where
   pub within : j ≤ n

@@ -9,8 +9,8 @@ use lib.Dec.{ltb, leb}
 use lib.ListN.{length, getD}
 use Rattle.layout.specs.declared.Layout.{Layout}
 use Rattle.layout.specs.Shapes.{levels, numbersNeeded, doublesNeeded, sumAt}
-use Rattle.heading_format.specs.Heading.{every, entryRow, layoutOf, progressOf, lawful, progressLawful, headed}
-use Rattle.heading_format.proofs.Lawful.{is-lawful}
+use Rattle.heading_format.specs.Heading.{every, entryRow, layoutOf, progressOf, validLayout, validProgress, validHeading}
+use Rattle.heading_format.proofs.Valid.{is-valid}
 
 abbrev flags : List ℕ → Bool
 flags h = leb (getD h 20 0) 1 && leb (getD h 21 0) 1 && leb (getD h 22 0) 2
@@ -48,37 +48,37 @@ chain true true true true true false g h i = refl
 chain true true true true true true g h i = refl
 
 module _ (h : List ℕ) (doubles : ℕ) where
-  headed-is : headed h doubles ≡ (leb 128 (length h) && flags h && lawful (layoutOf h) && progressLawful (layoutOf h .k) (progressOf h) && room h (layoutOf h) doubles)
-  unfolding headed
-  headed-is =
-      chain (leb 128 (length h)) (leb (getD h 20 0) 1) (leb (getD h 21 0) 1) (leb (getD h 22 0) 2) (lawful (layoutOf h)) (progressLawful (layoutOf h .k) (progressOf h))
+  valid-heading-is : validHeading h doubles ≡ (leb 128 (length h) && flags h && validLayout (layoutOf h) && validProgress (layoutOf h .k) (progressOf h) && room h (layoutOf h) doubles)
+  unfolding validHeading
+  valid-heading-is =
+      chain (leb 128 (length h)) (leb (getD h 20 0) 1) (leb (getD h 21 0) 1) (leb (getD h 22 0) 2) (validLayout (layoutOf h)) (validProgress (layoutOf h .k) (progressOf h))
       (leb (numbersNeeded (layoutOf h)) (length h)) (leb (doublesNeeded (layoutOf h)) doubles) (rows h (layoutOf h))
 
-  pub too-short : length h < 128 → false ≡ headed h doubles
-  too-short n = rw (headed-is, lt-leb 128 (length h) n)
+  pub too-short : length h < 128 → false ≡ validHeading h doubles
+  too-short n = rw (valid-heading-is, lt-leb 128 (length h) n)
 
   module _ (n : 128 ≤ length h) {f : Bool} (is-f : f ≡ flags h) where
-    pub no-flags : f ≡ false → false ≡ headed h doubles
-    no-flags z = rw (headed-is, le-leb 128 (length h) n, ← is-f, z)
+    pub no-flags : f ≡ false → false ≡ validHeading h doubles
+    no-flags z = rw (valid-heading-is, le-leb 128 (length h) n, ← is-f, z)
 
-    module _ (p : f ≡ true) {y : Layout} (is-y : y ≡ layoutOf h) {l : Bool} (is-l : l ≡ lawful y) where
-      pub not-lawful : l ≡ false → false ≡ headed h doubles
-      not-lawful z = rw (headed-is, le-leb 128 (length h) n, ← is-f, p, ← is-y, ← is-l, z)
+    module _ (p : f ≡ true) {y : Layout} (is-y : y ≡ layoutOf h) {l : Bool} (is-l : l ≡ validLayout y) where
+      pub not-valid : l ≡ false → false ≡ validHeading h doubles
+      not-valid z = rw (valid-heading-is, le-leb 128 (length h) n, ← is-f, p, ← is-y, ← is-l, z)
 
-      module _ (q : l ≡ true) {g : Bool} (is-g : g ≡ progressLawful (y .k) (progressOf h)) where
-        pub not-going : g ≡ false → false ≡ headed h doubles
-        not-going z = rw (headed-is, le-leb 128 (length h) n, ← is-f, p, ← is-y, ← is-l, q, ← is-g, z)
+      module _ (q : l ≡ true) {g : Bool} (is-g : g ≡ validProgress (y .k) (progressOf h)) where
+        pub not-going : g ≡ false → false ≡ validHeading h doubles
+        not-going z = rw (valid-heading-is, le-leb 128 (length h) n, ← is-f, p, ← is-y, ← is-l, q, ← is-g, z)
 
-        pub all-asked : {r : Bool} → g ≡ true → r ≡ room h y doubles → r ≡ headed h doubles
-        all-asked z e = rw (headed-is, le-leb 128 (length h) n, ← is-f, p, ← is-y, ← is-l, q, ← is-g, z) e
+        pub all-asked : {r : Bool} → g ≡ true → r ≡ room h y doubles → r ≡ validHeading h doubles
+        all-asked z e = rw (valid-heading-is, le-leb 128 (length h) n, ← is-f, p, ← is-y, ← is-l, q, ← is-g, z) e
 
-pub few-blocks : (y : Layout) {l : Bool} → l ≡ lawful y → l ≡ true → y .k ≤ 8
-few-blocks y e q = is-lawful y (sym e ∙ q) .blocks .1
+pub few-blocks : (y : Layout) {l : Bool} → l ≡ validLayout y → l ≡ true → y .k ≤ 8
+few-blocks y e q = is-valid y (sym e ∙ q) .blocks .1
 
-pub is-true : (y : Layout) {l : Bool} → l ≡ lawful y → l ≡ true → lawful y ≡ true
+pub is-true : (y : Layout) {l : Bool} → l ≡ validLayout y → l ≡ true → validLayout y ≡ true
 is-true y e q = sym e ∙ q
 
-pub level-most : (y : Layout) → lawful y ≡ true → y .sparse ≡ true → (levels y 0 ≤ 65535) × (levels y 1 ≤ 65535)
+pub level-most : (y : Layout) → validLayout y ≡ true → y .sparse ≡ true → (levels y 0 ≤ 65535) × (levels y 1 ≤ 65535)
 level-most y ok s =
-    let k = is-lawful y ok .sparse s .1 in
-    (is-lawful y ok .level 0 (omega arith) .1, is-lawful y ok .level 1 (omega arith) .1)
+    let k = is-valid y ok .sparse s .1 in
+    (is-valid y ok .level 0 (omega arith) .1, is-valid y ok .level 1 (omega arith) .1)

@@ -8,15 +8,15 @@ use native.Mathlib.Omega.{arith}
 use native.Mathlib.Numerals.{add-one}
 use borrow.Author.Tests.{ltb-true, lt-ltb}
 use lib.Dec.{ltb}
-use Rattle.step_order.specs.Steps.{Step, S, C, T, after, each}
+use Rattle.step_order.specs.Steps.{Step, S, C, T, forerunners, each}
 use Rattle.step_order.specs.Progress.{all, done, outside}
-use Rattle.heading_format.specs.Heading.{forerun}
+use Rattle.heading_format.specs.Heading.{forerunnersDone}
 use Rattle.heading_check.proofs.order_check.Sheets.{assoc}
 use Rattle.heading_check.specs.declared.stage_check.Walk.{Walk}
 use Rattle.heading_check.specs.stage_check.Walk.{stepWith, stepped, walked}
 
 abbrev found : ℕ → Bool → Walk
-found left lawful = record { left = left; lawful = lawful }
+found left valid = record { left = left; valid = valid }
 
 and-true : (b : Bool) → b ≡ (b && true)
 and-true true = refl
@@ -121,12 +121,12 @@ going-done {g} {X} {f} {x} {end} {v} e h =
 
 -- ---- what a walk has found
 module _ (g : ℕ → ℕ → ℕ) where
-  pub walked-is : (w : Walk) (l : List Step) → walked g w l ≡ found (w .left + outside (done g) l) (w .lawful && forerun g l)
+  pub walked-is : (w : Walk) (l : List Step) → walked g w l ≡ found (w .left + outside (done g) l) (w .valid && forerunnersDone g l)
   unfolding walked stepped
-  walked-is w [] = ap₂ found (sym (add-zero w.left)) (and-true w.lawful)
+  walked-is w [] = ap₂ found (sym (add-zero w.left)) (and-true w.valid)
   walked-is w (s ∷ l) =
       walked-is (stepped g w s) l
-      ∙ ap₂ found (counted (done g s) w.left (outside (done g) l)) (assoc w.lawful (not (done g s) || all (done g) (after s)) (forerun g l))
+      ∙ ap₂ found (counted (done g s) w.left (outside (done g) l)) (assoc w.valid (not (done g s) || all (done g) (forerunners s)) (forerunnersDone g l))
     where
       counted : (d : Bool) (a b : ℕ) → a + cond d 0 1 + b ≡ a + cond d b (suc b)
       counted true a b = omega arith

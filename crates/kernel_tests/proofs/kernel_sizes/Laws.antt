@@ -46,8 +46,8 @@ clear-at {len} {off} {n} {a} {m} {n′} {m′} e f h =
 pub block-at : (off len : ℕ) {n m : ℕ} → m ≡ n → off + m ≤ len → off + n ≤ len
 block-at off len e h = omega (arith, e, h)
 
-pub turned : (rows cols : ℕ) {n : ℕ} → n ≡ sizeOf (columns rows cols) → n ≡ sizeOf (columns cols rows)
-turned rows cols e = omega (arith, e, size-columns rows cols, size-columns cols rows)
+pub transposed : (rows cols : ℕ) {n : ℕ} → n ≡ sizeOf (columns rows cols) → n ≡ sizeOf (columns cols rows)
+transposed rows cols e = omega (arith, e, size-columns rows cols, size-columns cols rows)
 
 -- ---- rows below a bound
 module _ (h : List ℕ) (first m : ℕ) where

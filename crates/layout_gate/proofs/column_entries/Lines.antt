@@ -58,8 +58,8 @@ unfolding inTurn keptFrom
 turn-done {left} v h = let e : left ≡ 0 = omega arith in rw e at v.same
 
 -- the test of both, as a number
-pub pair-told : (x y a b t : Bool) → x ≡ a → y ≡ b → (x && y) ≡ t → bit t ≡ bit (a && b)
-pair-told x y a b t p q r = cc
+pub pair-reported : (x y a b t : Bool) → x ≡ a → y ≡ b → (x && y) ≡ t → bit t ≡ bit (a && b)
+pair-reported x y a b t p q r = cc
 
 -- f is 1 where the line is of the pair
 module _ {X : Bool} {s : List ℕ} {from cols at rows p left due f : ℕ} {l : Line} (v : Turn X s from cols at rows p left due) (h : 0 < left)

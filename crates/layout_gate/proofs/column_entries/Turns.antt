@@ -11,7 +11,7 @@ use lib.Dec.{ltb, leb, eqb}
 use Rattle.sheet.specs.Run.{Entry}
 use Rattle.sheet.specs.Whole.{Each, Earlier, Rising}
 use Rattle.heading_format.specs.Heading.{bit}
-use Rattle.heading_format.proofs.Lawful.{every-of, every-at, same-bools}
+use Rattle.heading_format.proofs.Valid.{every-of, every-at, same-bools}
 use Rattle.workspace.specs.Loaded.{countOf}
 use Rattle.layout_gate.specs.column_entries.Columns.{inRun, inColumn, eachOne, inPair, inTurn}
 
@@ -88,11 +88,11 @@ module _ (from cols at rows : ℕ) where
       later (inl g) z = omega arith
       later (inr g) z = let q = g.0 in omega arith
 
-  turned : (l : List Entry) (d : ℕ) → Rising l → d ≤ cols → Counts d l → inTurn from cols at rows (from + d) l ≡ true
+  in-turn-of-counts : (l : List Entry) (d : ℕ) → Rising l → d ≤ cols → Counts d l → inTurn from cols at rows (from + d) l ≡ true
   unfolding inTurn countOf
-  turned [] d a h k =
+  in-turn-of-counts [] d a h k =
       by-cases (decLt d cols) (λ g. absurd (omega (arith, k d g, ap bit (le-leb d d (omega arith))))) (λ g. eq-eqb (from + d) (from + cols) (omega arith))
-  turned (e ∷ l) d a h k = go (λ d g k. turned l d a.1 g k) (inPair from cols at rows e) (eqb e.col (from + d)) refl refl
+  in-turn-of-counts (e ∷ l) d a h k = go (λ d g k. in-turn-of-counts l d a.1 g k) (inPair from cols at rows e) (eqb e.col (from + d)) refl refl
     where
       -- an entry in another column leaves column d empty, or makes two in one that had its own
       astray : inPair from cols at rows e ≡ true → (e .col ≡ from + d → ⊥) → ⊥
@@ -139,4 +139,4 @@ module _ (from cols at rows : ℕ) where
       let t : (c : ℕ) → Bool = λ c. eqb (countOf (inColumn from at rows c) l) 1 in
       same-bools (inTurn from cols at rows from l) (eachOne from cols at rows l)
       (λ p. every-of t cols (λ c h. eq-eqb (countOf (inColumn from at rows c) l) 1 (counted l 0 (rw z p) c h ∙ first c)))
-      (λ p. rw z at (turned l 0 a (omega arith) (λ c h. eqb-true _ _ (every-at t cols p c h) ∙ sym (first c))))
+      (λ p. rw z at (in-turn-of-counts l 0 a (omega arith) (λ c h. eqb-true _ _ (every-at t cols p c h) ∙ sym (first c))))

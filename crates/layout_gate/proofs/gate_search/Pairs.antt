@@ -23,8 +23,8 @@ use Rattle.layout.specs.declared.Pair.the-variants.{Dense, Sparse, Refused}
 use Rattle.layout.specs.Gate.{thin, pairOf}
 use Rattle.layout.specs.Shapes.{Target, target, levels, across, pairs}
 use Rattle.heading_format.specs.Heading.{isSparse}
-use Rattle.workspace.specs.Loaded.{countOf, ofPair, denied, oneEach, pairIn, firstDenied, sortedLayout, layoutOfSheet}
-use Rattle.workspace.proofs.Lawful.{one-each-count, sparse-is, diagonal-is}
+use Rattle.workspace.specs.Loaded.{countOf, ofPair, orRefused, oneEach, pairIn, firstRefusedPair, sortedLayout, layoutOfSheet}
+use Rattle.workspace.proofs.Valid.{one-each-count, sparse-is, diagonal-is}
 use Rattle.layout_gate.specs.gate_search.Search.{answerOf, numberOf, verdict, first}
 
 -- entries count only where each column has one
@@ -79,23 +79,23 @@ module _ (sheet : Sheet) where
 
   -- one pair of the search
   step : (t : Target) (k rows cols : ℕ) (one : Bool) (n : ℕ) (rest : Option Refusal) → let v = numberOf (pairOf k rows cols one n) in
-      answerOf (denied (pairOf k rows cols one n) t rest) ≡ cond (eqb v 0) (answerOf rest) (refusal v (t .row) (t .col))
+      answerOf (orRefused (pairOf k rows cols one n) t rest) ≡ cond (eqb v 0) (answerOf rest) (refusal v (t .row) (t .col))
   unfolding pairOf
   step t k rows cols one n rest = go (leb (rows * cols) 100000) (ltb 2 k) (one && thin n (rows * cols))
     where
       go : (a b c : Bool) → let p = cond a Dense (cond b (Refused 10) (cond c Sparse (Refused 11))) in
-          answerOf (denied p t rest) ≡ cond (eqb (numberOf p) 0) (answerOf rest) (refusal (numberOf p) (t .row) (t .col))
+          answerOf (orRefused p t rest) ≡ cond (eqb (numberOf p) 0) (answerOf rest) (refusal (numberOf p) (t .row) (t .col))
       go true b c = refl
       go false true c = refl
       go false false true = refl
       go false false false = refl
 
-  first-is : (l : List Target) → Each Below l → answerOf (firstDenied sheet y l) ≡ first y l
-  unfolding firstDenied first verdict by-layout
+  first-is : (l : List Target) → Each Below l → answerOf (firstRefusedPair sheet y l) ≡ first y l
+  unfolding firstRefusedPair first verdict by-layout
   first-is [] a = refl
   first-is (t ∷ l) a =
-      ap (λ (p : Pair). answerOf (denied p t (firstDenied sheet y l))) (pair-is t.row t.col a.0.0 a.0.1)
-      ∙ step t y.k (levels y t.row) (levels y t.col) y.diagonal (levels y t.col) (firstDenied sheet y l)
+      ap (λ (p : Pair). answerOf (orRefused p t (firstRefusedPair sheet y l))) (pair-is t.row t.col a.0.0 a.0.1)
+      ∙ step t y.k (levels y t.row) (levels y t.col) y.diagonal (levels y t.col) (firstRefusedPair sheet y l)
       ∙ ap (λ (r : Refusal). let v = numberOf (by-layout t.row t.col) in cond (eqb v 0) r (refusal v t.row t.col)) (first-is l a.1)
 
   -- every pair in turn is one
@@ -114,16 +114,16 @@ module _ (sheet : Sheet) where
   pairs-below (suc n) h = both-below (pairs n) (across n n) (pairs-below n (omega arith)) (across-below n n (omega arith) (omega arith))
 
   -- The first pair that the gate refuses is the first that has a verdict by the layout.
-  search-is : answerOf (firstDenied sheet y (pairs (y .k))) ≡ first y (pairs (y .k))
+  search-is : answerOf (firstRefusedPair sheet y (pairs (y .k))) ≡ first y (pairs (y .k))
   search-is = first-is (pairs y.k) (pairs-below y.k (omega arith))
 
 -- the same of a layout that a sheet has
-pub by-sheet : (y : Layout) (sheet : Sheet) → y ≡ layoutOfSheet sheet → first y (pairs (y .k)) ≡ answerOf (firstDenied sheet y (pairs (y .k)))
+pub by-sheet : (y : Layout) (sheet : Sheet) → y ≡ layoutOfSheet sheet → first y (pairs (y .k)) ≡ answerOf (firstRefusedPair sheet y (pairs (y .k)))
 by-sheet y sheet e = rw e (sym (search-is sheet))
 
 -- number 0 says that no pair is refused, and any other number is that of the refusal found
-pub none-denied : (sheet : Sheet) (y : Layout) (l : List Target) → answerOf (firstDenied sheet y l) .number ≡ 0 → firstDenied sheet y l ≡ none
-unfolding firstDenied pairIn pairOf
+pub none-denied : (sheet : Sheet) (y : Layout) (l : List Target) → answerOf (firstRefusedPair sheet y l) .number ≡ 0 → firstRefusedPair sheet y l ≡ none
+unfolding firstRefusedPair pairIn pairOf
 none-denied sheet y [] e = refl
 none-denied sheet y (t ∷ l) e =
     let i = t.row in
@@ -131,9 +131,9 @@ none-denied sheet y (t ∷ l) e =
     let cells : ℕ = levels y i * levels y j in
     go (none-denied sheet y l) (leb cells 100000) (ltb 2 y.k) (oneEach sheet y i j && thin (countOf (ofPair y i j) sheet.zz) cells) e
   where
-    go : (answerOf (firstDenied sheet y l) .number ≡ 0 → firstDenied sheet y l ≡ none) → (a b c : Bool)
+    go : (answerOf (firstRefusedPair sheet y l) .number ≡ 0 → firstRefusedPair sheet y l ≡ none) → (a b c : Bool)
         → let p = cond a Dense (cond b (Refused 10) (cond c Sparse (Refused 11))) in
-        answerOf (denied p t (firstDenied sheet y l)) .number ≡ 0 → denied p t (firstDenied sheet y l) ≡ none
+        answerOf (orRefused p t (firstRefusedPair sheet y l)) .number ≡ 0 → orRefused p t (firstRefusedPair sheet y l) ≡ none
     go f true b c e = f e
     go f false true c e = absurd (omega arith)
     go f false false true e = f e

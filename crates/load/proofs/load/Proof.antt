@@ -9,20 +9,20 @@ use Rattle.load.proofs.load.Statement.{statement}
 use Rattle.load.proofs.load.Tie as tie
 
 load-sheet-requires : tie.Need-load-sheet-requires
-load-sheet-requires c κs = let s = now c.before.before.before.before.before.before.before.before.before.args.s in
+load-sheet-requires c κs = let s = now c.before.before.before.before.before.before.before.before.before.args.bytes in
     let r = c.before.before.before.r.given in
-    to-read s _ (subst (Answers (sheetOf s)) r.1 c.before.before.before.before.before.answer.ensures)
+    to-read s _ (subst (Answers (sheetOf s)) r.1 c.before.before.before.before.before.read-and-check.ensures)
 
 returns : tie.Need-returns
 returns c =
     let a = c.before.before.before.before.before.before.before.before.before.before.before.before.before.before.args in
-    let s = now a.s in let r = c.before.before.before.before.before.before.before.before.r.given in
-    read-out s (now a.h) (now a.w) _ _ (subst (Answers (sheetOf s)) r.1 c.before.before.before.before.before.before.before.before.before.before.answer.ensures) c.before.before.before.before.load-sheet.ensures
+    let s = now a.bytes in let r = c.before.before.before.before.before.before.before.before.r.given in
+    read-out s (now a.heading) (now a.doubles) _ _ (subst (Answers (sheetOf s)) r.1 c.before.before.before.before.before.before.before.before.before.before.read-and-check.ensures) c.before.before.before.before.load-sheet.ensures
 
 returns-2 : tie.Need-returns-2
-returns-2 c = let a = c.before.before.before.before.before.before.before.args in let s = now a.s in
+returns-2 c = let a = c.before.before.before.before.before.before.before.args in let s = now a.bytes in
     let r = c.before.r2.given in
-    unread-out s (now a.h) (now a.w) _ _ (subst (Answers (sheetOf s)) r.1 c.before.before.before.answer.ensures)
+    unread-out s (now a.heading) (now a.doubles) _ _ (subst (Answers (sheetOf s)) r.1 c.before.before.before.read-and-check.ensures)
 
 pub load-spec : {M : Type 1} → statement M
 load-spec = tie.close (tie.spec (λ c κs. search needs) (λ c. search needs) load-sheet-requires (λ c. search needs)

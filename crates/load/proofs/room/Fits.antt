@@ -17,7 +17,7 @@ use Rattle.layout.proofs.Sums.{padded-at}
 use Rattle.heading.specs.writer.Small.{SmallLayout, SmallProgress}
 use Rattle.heading.proofs.writer.Idle.{idle-small}
 use Rattle.workspace.specs.Loaded.{sheetM, sortedLayout, layoutOfSheet}
-use Rattle.workspace.proofs.Headed.{length-m, length-order}
+use Rattle.workspace.proofs.ValidHeading.{length-m, length-order}
 use Rattle.layout_gate.proofs.Reading.{layout-small}
 use Rattle.load_numbers.specs.sheet_words.Ready.{Ready}
 

@@ -19,25 +19,25 @@ use Rattle.sheet.specs.declared.Reading.the-variants.{Sheet as Read, Refused as
 use Rattle.sheet.specs.declared.Starts.{Starts}
 use Rattle.sheet.specs.Sheet.{Sheet, accepted, refused, readSheet, sheetOf}
 use Rattle.sheet.specs.Sheet as Sheets
-use Rattle.sheet.specs.Fault.{refusalOf}
+use Rattle.sheet.specs.Fault.{faultNumber}
 use Rattle.sheet.specs.Answer.{Answers}
 use Rattle.sheet.proofs.Whole.{alone-read}
 use Rattle.layout.specs.declared.Layout.{Layout}
 use Rattle.heading_format.specs.declared.Progress.{Progress}
 use Rattle.layout.specs.Shapes.{pick, levels, pairs, sumAt, numbersNeeded, doublesNeeded}
-use Rattle.heading_format.specs.Heading.{lawful, written, idle}
-use Rattle.heading_format.proofs.Lawful.{is-lawful}
+use Rattle.heading_format.specs.Heading.{validLayout, written, idle}
+use Rattle.heading_format.proofs.Valid.{is-valid}
 use Rattle.heading_format.proofs.Heading.{length-written}
-use Rattle.workspace.specs.Answers.{Outcome, space, untouched}
-use Rattle.workspace.specs.Loaded.{entryRowIn, firstDenied, layoutOfSheet}
-use Rattle.workspace.specs.Load.{headingOf, doublesOf, roomy, afterGate, loadSheet, loadParsed, loadOf, Loads}
+use Rattle.workspace.specs.Answers.{Outcome, workspace, untouched}
+use Rattle.workspace.specs.Loaded.{entryRowIn, firstRefusedPair, layoutOfSheet}
+use Rattle.workspace.specs.Load.{headingOf, doublesOf, hasRoom, afterGate, loadSheet, loadParsed, loadOf, Loads}
 use Rattle.layout_gate.specs.gate_search.Search.{answerOf}
 use Rattle.layout_gate.proofs.gate_search.Pairs.{none-denied, some-denied}
 
 -- ---- lengths
 -- the first block's levels are few
-pub first-levels : (y : Layout) → lawful y ≡ true → levels y 0 ≤ 65535
-first-levels y ok = let l = is-lawful y ok in l.level 0 (omega (arith, l.blocks.0)) .1
+pub first-levels : (y : Layout) → validLayout y ≡ true → levels y 0 ≤ 65535
+first-levels y ok = let l = is-valid y ok in l.level 0 (omega (arith, l.blocks.0)) .1
 
 -- with a sparse pair one number for each column, else none
 pub numbers-sparse : (y : Layout) → y .sparse ≡ true → 128 + levels y 0 ≡ numbersNeeded y
@@ -47,13 +47,13 @@ pub numbers-dense : (y : Layout) → y .sparse ≡ false → 128 ≡ numbersNeed
 numbers-dense y e = rw e refl
 
 -- the two tests of the code, the last double being at sumAt
-pub room-is : (y : Layout) (h : List ℕ) (w : List Float) {a b : ℕ} → a ≡ numbersNeeded y → b ≡ sumAt y → leb a (length h) && ltb b (length w) ≡ roomy y h w
+pub room-is : (y : Layout) (h : List ℕ) (w : List Float) {a b : ℕ} → a ≡ numbersNeeded y → b ≡ sumAt y → leb a (length h) && ltb b (length w) ≡ hasRoom y h w
 room-is y h w e q =
     let n : suc (sumAt y) ≡ doublesNeeded y = omega arith in
     ap₂ (λ (a b : ℕ). leb a (length h) && leb b (length w)) e (ap suc q ∙ n)
 
 -- what they say
-module _ (y : Layout) (h : List ℕ) (w : List Float) (room : roomy y h w ≡ true) where
+module _ (y : Layout) (h : List ℕ) (w : List Float) (room : hasRoom y h w ≡ true) where
   pub numbers-fit : numbersNeeded y ≤ length h
   numbers-fit = leb-true _ _ (and-eq-true-iff (leb (numbersNeeded y) (length h)) (leb (doublesNeeded y) (length w)) .0 room .0)
 
@@ -77,44 +77,44 @@ heading-made sheet y g h h₁ h₂ e₀ e₁ e₂ fits =
 -- ---- past the gate: 12, or all is written
 -- an answer, and what the lists are then
 abbrev pub left : Answer → List ℕ → List Float → Outcome
-left a h w = record { answer = a; left = space h w }
+left a h w = record { answer = a; left = workspace h w }
 
 module _ (sheet : Sheet) (y : Layout) (h : List ℕ) (w : List Float) where
-  pub short-out : roomy y h w ≡ false → untouched h w 12 0 0 ≡ afterGate none sheet y h w
+  pub short-out : hasRoom y h w ≡ false → untouched h w 12 0 0 ≡ afterGate none sheet y h w
   short-out e = rw e refl
 
-  pub written-out : (h₁ : List ℕ) (w₁ : List Float) → roomy y h w ≡ true → h₁ ≡ store 0 (headingOf sheet y) h → w₁ ≡ store 0 (doublesOf sheet y) w
+  pub written-out : (h₁ : List ℕ) (w₁ : List Float) → hasRoom y h w ≡ true → h₁ ≡ store 0 (headingOf sheet y) h → w₁ ≡ store 0 (doublesOf sheet y) w
       → left Accepted h₁ w₁ ≡ afterGate none sheet y h w
   written-out h₁ w₁ e a b = rw e (ap₂ (left Accepted) a b)
 
 -- ---- the gate: its refusal, or it goes on
-module _ (sheet : Sheet) (y : Layout) (q : y ≡ layoutOfSheet sheet) (d : Refusal) (found : d ≡ answerOf (firstDenied sheet y (pairs (y .k)))) where
-  pub gate-open : d .number ≡ 0 → firstDenied sheet y (pairs (y .k)) ≡ none
+module _ (sheet : Sheet) (y : Layout) (q : y ≡ layoutOfSheet sheet) (d : Refusal) (found : d ≡ answerOf (firstRefusedPair sheet y (pairs (y .k)))) where
+  pub gate-open : d .number ≡ 0 → firstRefusedPair sheet y (pairs (y .k)) ≡ none
   gate-open e = none-denied sheet y (pairs y.k) (ap (λ (r : Refusal). r .number) (sym found) ∙ e)
 
   -- load of the sheet, by the layout at hand
-  sheet-out : (h : List ℕ) (w : List Float) → loadSheet sheet h w ≡ afterGate (firstDenied sheet y (pairs (y .k))) sheet y h w
+  sheet-out : (h : List ℕ) (w : List Float) → loadSheet sheet h w ≡ afterGate (firstRefusedPair sheet y (pairs (y .k))) sheet y h w
   unfolding loadSheet
-  sheet-out h w = ap (λ (x : Layout). afterGate (firstDenied sheet x (pairs x.k)) sheet x h w) (sym q)
+  sheet-out h w = ap (λ (x : Layout). afterGate (firstRefusedPair sheet x (pairs x.k)) sheet x h w) (sym q)
 
   pub denied-out : (h : List ℕ) (w : List Float) → (d .number ≡ 0 → ⊥) → left (Refused d) h w ≡ loadSheet sheet h w
   denied-out h w n =
-      let some-is = some-denied (firstDenied sheet y (pairs y.k)) (λ e. n (ap (λ (r : Refusal). r .number) found ∙ e)) in
+      let some-is = some-denied (firstRefusedPair sheet y (pairs y.k)) (λ e. n (ap (λ (r : Refusal). r .number) found ∙ e)) in
       sym (sheet-out h w ∙ ap (λ (o : Option Refusal). afterGate o sheet y h w) (some-is ∙ ap some (sym found)))
 
   pub open-out : (h : List ℕ) (w : List Float) (o : Outcome) → d .number ≡ 0 → o ≡ afterGate none sheet y h w → o ≡ loadSheet sheet h w
   open-out h w o n e = e ∙ sym (sheet-out h w ∙ ap (λ (o : Option Refusal). afterGate o sheet y h w) (gate-open n))
 
 -- ---- the reader's answer: a sheet that goes on, or a refusal
-goes-on : (s : List ℕ) (z : Starts) → Answers (sheetOf s) (Read z) → (sheet : Sheet) × (sheetOf s ≡ accepted sheet z) × (refusalOf sheet ≡ 0)
+goes-on : (s : List ℕ) (z : Starts) → Answers (sheetOf s) (Read z) → (sheet : Sheet) × (sheetOf s ≡ accepted sheet z) × (faultNumber sheet ≡ 0)
 goes-on s z a = go (sheetOf s) refl a
   where
-    go : (p : Sheets.Outcome) → sheetOf s ≡ p → Answers p (Read z) → (sheet : Sheet) × (sheetOf s ≡ accepted sheet z) × (refusalOf sheet ≡ 0)
+    go : (p : Sheets.Outcome) → sheetOf s ≡ p → Answers p (Read z) → (sheet : Sheet) × (sheetOf s ≡ accepted sheet z) × (faultNumber sheet ≡ 0)
     go (accepted sheet starts) e a = (sheet, e ∙ ap (accepted sheet) (sym a.1), a.0)
     go (refused number line) e a = absurd (let x : _≡_ {A = ℕ} 0 1 = cc in omega arith)
 
 -- what the functions that read the sheet again ask
-pub to-read : (s : List ℕ) (z : Starts) → Answers (sheetOf s) (Read z) → (sheet : Sheet) × (readSheet s ≡ accepted sheet z) × (refusalOf sheet ≡ 0)
+pub to-read : (s : List ℕ) (z : Starts) → Answers (sheetOf s) (Read z) → (sheet : Sheet) × (readSheet s ≡ accepted sheet z) × (faultNumber sheet ≡ 0)
 to-read s z a = let g = goes-on s z a in (g.0, alone-read s g.0 z g.1 .0, g.2)
 
 module _ (s h : List ℕ) (w : List Float) (o : Outcome) where

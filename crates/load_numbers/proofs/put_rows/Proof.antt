@@ -25,16 +25,16 @@ loop-again c =
     let a = c.before.before.before.before.before.before.before.before.before.before.before.before.before.args in
     let l = c.before.before.before.before.before.before.before.before.before.before.loop in
     let line = c.before.before.before.before.before.before.before.before.entry-at in
-    let read = pairLine zzTag (now a.s) in let made = c.before.before.put-row.ensures in (
-      ap length made ∙ length-set l.h (rowPlace a.t4 line.result.first line.result.second) _ ∙ l.inv.0,
+    let read = pairLine zzTag (now a.bytes) in let made = c.before.before.put-row.ensures in (
+      ap length made ∙ length-set l.heading (rowPlace a.t4 line.result.first line.result.second) _ ∙ l.inv.0,
       ap (λ (t : List ℕ). spread (putRow a.t4) read (l.left - 1) 0 line.result.next t) made
-          ∙ sym (spread-more (putRow a.t4) read l.left 0 l.p l.h line.result (omega arith) line.ensures ∙ any-number a.t4 read (l.left - 1) (0 + 1) line.result.next (putRow a.t4 0 line.result l.h))
+          ∙ sym (spread-more (putRow a.t4) read l.left 0 l.p l.heading line.result (omega arith) line.ensures ∙ any-number a.t4 read (l.left - 1) (0 + 1) line.result.next (putRow a.t4 0 line.result l.heading))
           ∙ l.inv.1,
     )
 
 returns : tie.Need-returns Inv-loop μ-loop
 returns c = let a = c.before.before.before.before.args in let l = c.before.loop in
-    sym (spread-none (putRow a.t4) (pairLine zzTag (now a.s)) l.left 0 l.p l.h (omega arith)) ∙ l.inv.1
+    sym (spread-none (putRow a.t4) (pairLine zzTag (now a.bytes)) l.left 0 l.p l.heading (omega arith)) ∙ l.inv.1
 
 pub put-rows-spec : {M : Type 1} → statement M
 put-rows-spec = tie.close (tie.spec Inv-loop μ-loop (λ c. search needs) (λ c κs. search needs) (λ c κs. search needs)

@@ -1,4 +1,4 @@
--- What is known of a sheet that load writes: a lawful layout, blocks that cover the rows, and in a sparse pair one entry in each column.
+-- What is known of a sheet that load writes: a valid layout, blocks that cover the rows, and in a sparse pair one entry in each column.
 use Prim.Native.Nat.{ℕ, suc, _+_, _-_, _*_, _≤_, _<_}
 use mathlib.Core.Path.{_≡_, refl, sym, ap, subst, _∙_}
 use mathlib.Core.Bool.{Bool, true, false, cond, and-eq-true-iff}
@@ -13,17 +13,17 @@ use borrow.Author.Tests.{eqb-true, eq-eqb}
 use Rattle.sheet.specs.Run.{Entry}
 use Rattle.sheet.specs.declared.Starts.{Starts}
 use Rattle.sheet.specs.Sheet.{Sheet, accepted, readSheet}
-use Rattle.sheet.specs.Fault.{refusalOf}
+use Rattle.sheet.specs.Fault.{faultNumber}
 use Rattle.sheet.specs.Whole.{Each, EntryInRange, Earlier, Rising}
 use Rattle.sheet.proofs.Whole.{read-whole}
 use Rattle.layout.specs.declared.Layout.{Layout}
 use Rattle.layout.specs.Blocks.{sum}
 use Rattle.layout.specs.Shapes.{levels, pairs}
 use Rattle.layout.proofs.Sums.{sum-same}
-use Rattle.heading_format.specs.Heading.{sheetLevels, lawful}
-use Rattle.heading_format.proofs.Lawful.{both, every-at}
-use Rattle.workspace.specs.Loaded.{rowStart, sheetRow, inBlock, countOf, rowOf, ofColumn, oneEach, firstDenied, sheetM, sortedLayout, layoutOfSheet, entryRowIn}
-use Rattle.workspace.proofs.Lawful.{no-refusal, sum-levels, allowed-pairs, sheet-levels, order-test, total, level-range, pair-lawful, sparse-is, diagonal-is, lawful-of, sparse-columns}
+use Rattle.heading_format.specs.Heading.{sheetLevels, validLayout}
+use Rattle.heading_format.proofs.Valid.{both, every-at}
+use Rattle.workspace.specs.Loaded.{rowStart, sheetRow, inBlock, countOf, rowOf, ofColumn, oneEach, firstRefusedPair, sheetM, sortedLayout, layoutOfSheet, entryRowIn}
+use Rattle.workspace.proofs.Valid.{no-refusal, sum-levels, allowed-pairs, sheet-levels, order-test, total, level-range, pair-valid, sparse-is, diagonal-is, valid-of, sparse-columns}
 use Rattle.block_places.proofs.sheet_rows.Rows.{in-block}
 use Rattle.load_numbers.proofs.sheet_words.Lands.{Sole}
 use Rattle.load_numbers.proofs.sheet_words.Positions.{each-map, true-false, none-pass}
@@ -60,7 +60,7 @@ each-swap P n (x ∷ l) h = (λ c b. h c b .0, each-swap P n l (λ c b. h c b .1
 -- ---- all that is known
 
 pub record Known (sheet : Sheet) (y : Layout) : Type 0 where
-  pub ok : lawful y ≡ true
+  pub ok : validLayout y ≡ true
   pub rows : sum (sheetLevels y (y .k)) (y .k) ≡ sheet .counts .q
   pub p-is : sheet .counts .p ≡ y .p
   pub q-is : sheet .counts .q ≡ y .q
@@ -68,20 +68,20 @@ pub record Known (sheet : Sheet) (y : Layout) : Type 0 where
   pub inner : y .sparse ≡ true → (y .k ≡ 2) × ((c : ℕ) → c < levels y 0 → entryRowIn sheet y c < levels y 1)
   pub one-each : y .sparse ≡ true → (c : ℕ) → c < levels y 0 → countOf (ofColumn y 1 0 c) (sheet .zz) ≡ 1
 
-module _ (s : List ℕ) (sheet : Sheet) (z : Starts) (read : readSheet s ≡ accepted sheet z) (fine : refusalOf sheet ≡ 0)
-    (gate : firstDenied sheet (layoutOfSheet sheet) (pairs (layoutOfSheet sheet .k)) ≡ none) where
-  lawful-read : lawful (layoutOfSheet sheet) ≡ true
+module _ (s : List ℕ) (sheet : Sheet) (z : Starts) (read : readSheet s ≡ accepted sheet z) (fine : faultNumber sheet ≡ 0)
+    (gate : firstRefusedPair sheet (layoutOfSheet sheet) (pairs (layoutOfSheet sheet .k)) ≡ none) where
+  valid-read : validLayout (layoutOfSheet sheet) ≡ true
   unfolding layoutOfSheet sortedLayout
-  lawful-read =
+  valid-read =
       let y : Layout = layoutOfSheet sheet in
       let h = read-whole s sheet z read .shape in
       let k = h.counts.k in
       let r = no-refusal sheet fine in
-      lawful-of (layoutOfSheet sheet) h.counts.n h.counts.p (r.0, k) (level-range sheet k h.blocks h.blocks-length) (order-test sheet k)
+      valid-of (layoutOfSheet sheet) h.counts.n h.counts.p (r.0, k) (level-range sheet k h.blocks h.blocks-length) (order-test sheet k)
       (r.1 ∙ sym (total sheet k h.blocks-length))
       (λ d. eqb-true y.k 2 (and-eq-true-iff (eqb y.k 2) (oneEach sheet y 1 0) .0 (sym (diagonal-is sheet) ∙ d) .0))
       (λ t. let u = sparse-columns sheet t in (diagonal-is sheet ∙ both (eqb y.k 2) (oneEach sheet y 1 0) (eq-eqb y.k 2 u.0) u.1, u.0))
-      (λ i j a b. pair-lawful sheet (layoutOfSheet sheet) (sparse-is sheet) (diagonal-is sheet) i j a b (allowed-pairs sheet (layoutOfSheet sheet) y.k gate i j a b))
+      (λ i j a b. pair-valid sheet (layoutOfSheet sheet) (sparse-is sheet) (diagonal-is sheet) i j a b (allowed-pairs sheet (layoutOfSheet sheet) y.k gate i j a b))
 
   rows-read : sum (sheetLevels (layoutOfSheet sheet) (sheet .counts .k)) (sheet .counts .k) ≡ sheet .counts .q
   rows-read =
@@ -110,13 +110,13 @@ module _ (s : List ℕ) (sheet : Sheet) (z : Starts) (read : readSheet s ≡ acc
 
   known-read : Known sheet (layoutOfSheet sheet)
   unfolding layoutOfSheet sortedLayout
-  known-read = record { ok = lawful-read; rows = rows-read; p-is = refl; q-is = refl; k-is = refl; inner = inner-read; one-each = one-each-read }
+  known-read = record { ok = valid-read; rows = rows-read; p-is = refl; q-is = refl; k-is = refl; inner = inner-read; one-each = one-each-read }
 
-pub known : (s : List ℕ) (sheet : Sheet) (z : Starts) (y : Layout) → readSheet s ≡ accepted sheet z → refusalOf sheet ≡ 0 → y ≡ layoutOfSheet sheet
-    → firstDenied sheet y (pairs (y .k)) ≡ none → Known sheet y
+pub known : (s : List ℕ) (sheet : Sheet) (z : Starts) (y : Layout) → readSheet s ≡ accepted sheet z → faultNumber sheet ≡ 0 → y ≡ layoutOfSheet sheet
+    → firstRefusedPair sheet y (pairs (y .k)) ≡ none → Known sheet y
 known s sheet z y read fine e gate =
     subst (λ (x : Layout). Known sheet x) (sym e)
-    (known-read s sheet z read fine (subst (λ (x : Layout). firstDenied sheet x (pairs x.k) ≡ none) e gate))
+    (known-read s sheet z read fine (subst (λ (x : Layout). firstRefusedPair sheet x (pairs x.k) ≡ none) e gate))
 
 -- every entry of a sparse pair is the one of its column
 pub soles : (sheet : Sheet) (y : Layout) → Known sheet y → Each (λ e. Sole y (entryRowIn sheet y) (e .col) (e .row)) (sheet .zz)

@@ -12,7 +12,7 @@ use Rattle.storage.proofs.Places.{place-below, place-one-to-one, place-columns,
 use Rattle.sheet.specs.Field.{nowhere}
 use Rattle.layout.specs.declared.Layout.{Layout}
 use Rattle.layout.specs.Shapes.{levels, shape, loadedShape, loadedSizes, loadedAt}
-use Rattle.heading_format.specs.Heading.{lawful}
+use Rattle.heading_format.specs.Heading.{validLayout}
 use Rattle.layout.proofs.Places.{size-loaded, loaded-apart}
 use Rattle.workspace.specs.Loaded.{rowStart, sheetRow, inBlock}
 use Rattle.block_places.specs.sheet_rows.Blocks.{blockOf}
@@ -97,7 +97,7 @@ module _ (y : Layout) (row : ℕ → ℕ) where
   abbrev pub Sole : ℕ → ℕ → Type 0
   Sole col at = y.sparse ≡ true → inBlock y 0 col ≡ true → inBlock y 1 at ≡ true → at - rowStart y 1 ≡ row (col - rowStart y 0)
 
-  module _ (ok : lawful y ≡ true) where
+  module _ (ok : validLayout y ≡ true) where
     -- a level's row, back from the row
     level-row : (j x : ℕ) → inBlock y j x ≡ true → (x ≡ sheetRow y j (x - rowStart y j)) × (x - rowStart y j < levels y j)
     level-row j x e = let b = in-block y j x e in let b₀ = b.0 in let b₁ = b.1 in (omega arith, omega arith)

@@ -19,7 +19,7 @@ use Rattle.sheet.specs.Whole.{Each, EntryInRange, Finite, Whole}
 use Rattle.sheet.proofs.Whole.{read-whole}
 use Rattle.layout.specs.declared.Layout.{Layout}
 use Rattle.layout.specs.Shapes.{doublesNeeded}
-use Rattle.heading_format.specs.Heading.{lawful}
+use Rattle.heading_format.specs.Heading.{validLayout}
 use Rattle.workspace.specs.Load.{doublesOf}
 use Rattle.load_numbers.specs.declared.word_address.Run.the-variants.{Zz, Zx, Zy, Xx, Xy, Yy}
 use Rattle.load_numbers.specs.word_address.Spread.{lineOf, EachLine, FiniteWord}
@@ -43,8 +43,8 @@ module _ (s : List ℕ) (z : Starts) (y : Layout) (r : Ready s z y) where
   pub knows : Known sheet y
   knows = known s sheet z y r.1 r.2 r.3 r.4
 
-  pub ready-lawful : lawful y ≡ true
-  ready-lawful = knows.ok
+  pub ready-valid : validLayout y ≡ true
+  ready-valid = knows.ok
 
   -- one sheet alone is read
   pub one-sheet : (other : Sheet) → readSheet s ≡ accepted other z → sheet ≡ other

@@ -23,7 +23,7 @@ use Rattle.layout.specs.declared.Layout.{Layout}
 use Rattle.layout.specs.Shapes.{Target, target, factors, across, pairs, targets, cellsOf, loadedShape, loadedSizes, loadedAt, loadedLength, thetaAt, sumAt, doublesNeeded}
 use Rattle.layout.proofs.Formula.{cells-append}
 use Rattle.layout.proofs.Places.{size-loaded, loaded-inside}
-use Rattle.workspace.specs.Memory.{noughts}
+use Rattle.workspace.specs.Memory.{zeros}
 use Rattle.workspace.specs.Loaded.{entryRowIn, double, loadedWord, loadedFrom, loadedNumbers}
 use Rattle.workspace.specs.Load.{doublesOf}
 use Rattle.workspace.proofs.Lengths.{length-loaded, length-doubles}
@@ -147,16 +147,16 @@ module _ (s : List ℕ) (sheet : Sheet) (z : Starts) (y : Layout) (k : Known she
     loaded-first = omega arith
 
     at-doubles : (P : ℕ) → P < n → getD (allOf cleared) P (double 0) ≡ getD (doublesOf sheet y) P (double 0)
-    unfolding doublesOf noughts
+    unfolding doublesOf zeros
     at-doubles P l =
         by-cases (decLt P (loadedLength y))
         (λ m. sym (getD-take (loadedLength y) (allOf cleared) P (double 0) m)
         ∙ ap (λ (x : List Float). getD x P (double 0)) (loaded-made cleared (omega (arith, loaded-first, cleared-length)) (λ Q b. at-cleared Q (omega (arith, loaded-first))))
-        ∙ sym (List·getD-append (loadedNumbers sheet y) (noughts y) (double 0) P (omega (arith, length-loaded sheet y))))
+        ∙ sym (List·getD-append (loadedNumbers sheet y) (zeros y) (double 0) P (omega (arith, length-loaded sheet y))))
         (λ m. behind s sheet z y k h cleared P (omega arith) (omega arith) ∙ at-cleared P l
         ∙ sym
-        (ap (λ (x : ℕ). getD (loadedNumbers sheet y ++ noughts y) x (double 0)) (let e : P ≡ length (loadedNumbers sheet y) + (P - loadedLength y) = omega (arith, length-loaded sheet y) in e)
-        ∙ getD-append-add (loadedNumbers sheet y) (noughts y) (P - loadedLength y) (double 0)
+        (ap (λ (x : ℕ). getD (loadedNumbers sheet y ++ zeros y) x (double 0)) (let e : P ≡ length (loadedNumbers sheet y) + (P - loadedLength y) = omega (arith, length-loaded sheet y) in e)
+        ∙ getD-append-add (loadedNumbers sheet y) (zeros y) (P - loadedLength y) (double 0)
         ∙ getD-replicate (suc (sumAt y) - thetaAt y) (P - loadedLength y) ieee.zero (double 0) (omega arith)))
 
     pub doubles-made : allOf cleared ≡ store 0 (doublesOf sheet y) w₀

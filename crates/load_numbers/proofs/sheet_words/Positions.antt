@@ -14,7 +14,7 @@ use Rattle.sheet.specs.Run.{Entry, entryIn, wordIn, keptFrom}
 use Rattle.sheet.specs.Whole.{Each, Earlier, Rising}
 use Rattle.workspace.specs.Loaded.{countOf}
 use Rattle.load_numbers.specs.word_address.Spread.{EachLine, spread}
-use Rattle.heading_format.proofs.Lawful.{is-false}
+use Rattle.heading_format.proofs.Valid.{is-false}
 
 pub true-false : {b : Bool} → b ≡ true → b ≡ false → ⊥
 true-false e f = let z : _≡_ {A = ℕ} 0 1 = ap (λ (t : Bool). cond t 0 1) (sym e ∙ f) in omega arith

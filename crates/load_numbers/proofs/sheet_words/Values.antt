@@ -22,7 +22,7 @@ use Rattle.sheet.specs.Sheet.{Sheet}
 use Rattle.sheet.specs.Whole.{Each, Whole}
 use Rattle.layout.specs.declared.Layout.{Layout}
 use Rattle.layout.specs.Shapes.{levels, loadedSizes, loadedAt, loadedLength}
-use Rattle.heading_format.proofs.Lawful.{is-lawful}
+use Rattle.heading_format.proofs.Valid.{is-valid}
 use Rattle.layout.proofs.Places.{size-loaded, loaded-inside}
 use Rattle.workspace.specs.Loaded.{sheetRow, wordOf, entryRowIn, double}
 use Rattle.load_numbers.proofs.word_address.Places.{loaded-low}
@@ -108,7 +108,7 @@ module _ (s : List ℕ) (sheet : Sheet) (z : Starts) (y : Layout) (k : Known she
       (fixed-lands y row k.ok x r g)
 
   some-effect : 0 < y .p
-  some-effect = is-lawful y k.ok .effects .0
+  some-effect = is-valid y k.ok .effects .0
 
   pub zx-missed : (w : List Float) (P : ℕ) → P < nowhere → ((j : ℕ) → j < y .k → In y row (y .k) j P → ⊥) → getD (zxed w) P d ≡ getD w P d
   zx-missed w P b away = run-missed Zx (length sheet.zx) 0 z.zx w P (λ t l g f q. fixed-away P b away (t / y .p) (t % y .p) (omega (arith, mod-lt t some-effect)) q)

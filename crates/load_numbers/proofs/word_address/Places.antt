@@ -13,7 +13,7 @@ use Rattle.sheet.specs.declared.Line.{Line}
 use Rattle.sheet.specs.Field.{nowhere, isFinite}
 use Rattle.layout.specs.declared.Layout.{Layout}
 use Rattle.layout.specs.Shapes.{levels, loadedAt, loadedLength, sumAt}
-use Rattle.heading_format.specs.Heading.{lawful}
+use Rattle.heading_format.specs.Heading.{validLayout}
 use Rattle.layout.proofs.Places.{loaded-inside}
 use Rattle.workspace.specs.Loaded.{rowStart, inBlock}
 use Rattle.block_places.proofs.block_sizes.Sizes.{doubles-small}
@@ -55,11 +55,11 @@ module _ (y : Layout) where
     fixed-row h = rw (← e, lt-ltb j y.k h)
 
   -- the loaded doubles are few, and every loaded block starts among them
-  pub loaded-low : lawful y ≡ true → loadedLength y < 2199023255552
+  pub loaded-low : validLayout y ≡ true → loadedLength y < 2199023255552
   unfolding sumAt
   loaded-low ok = omega (arith, doubles-small y ok)
 
-  pub start-low : lawful y ≡ true → (i j : ℕ) → j ≤ i → i ≤ y .k → loadedAt y i j < 2199023255552
+  pub start-low : validLayout y ≡ true → (i j : ℕ) → j ≤ i → i ≤ y .k → loadedAt y i j < 2199023255552
   start-low ok i j h g = omega (arith, loaded-inside y i j h g, loaded-low ok)
 
 pub pair-same : (b : Bool) (m : ℕ) {a a′ c c′ r r′ o : ℕ} → a ≡ a′ → c ≡ c′ → r ≡ r′ → o ≡ cond b c (c * m + r) → a + o ≡ a′ + cond b c′ (c′ * m + r′)

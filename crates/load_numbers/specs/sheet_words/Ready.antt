@@ -5,12 +5,12 @@ use mathlib.Core.List.{List}
 use mathlib.Core.Option.{none}
 use Rattle.sheet.specs.declared.Starts.{Starts}
 use Rattle.sheet.specs.Sheet.{Sheet, accepted, readSheet}
-use Rattle.sheet.specs.Fault.{refusalOf}
+use Rattle.sheet.specs.Fault.{faultNumber}
 use Rattle.layout.specs.declared.Layout.{Layout}
 use Rattle.layout.specs.Shapes.{pairs}
-use Rattle.workspace.specs.Loaded.{layoutOfSheet, firstDenied}
+use Rattle.workspace.specs.Loaded.{layoutOfSheet, firstRefusedPair}
 
 abbrev pub Ready : List ℕ → Starts → Layout → Type 0
 Ready s z y =
-    (sheet : Sheet) × (readSheet s ≡ accepted sheet z) × (refusalOf sheet ≡ 0) × (y ≡ layoutOfSheet sheet)
-    × (firstDenied sheet y (pairs (y .k)) ≡ none)
+    (sheet : Sheet) × (readSheet s ≡ accepted sheet z) × (faultNumber sheet ≡ 0) × (y ≡ layoutOfSheet sheet)
+    × (firstRefusedPair sheet y (pairs (y .k)) ≡ none)

@@ -71,8 +71,8 @@ module _ (a b g h l s r k : ℕ) (eh : h ≡ g * b / 2 ^ 64) (el : l ≡ g * b %
           let le : l ≤ s = ltb-false s l t in
           omega (arith, eh, el, es, er, e, c)
 
-  pub refined-is : 0 < b → h + k ≡ a / 1024 → g * 256 + r * 256 / b ≡ a * 2 ^ 62 / b
-  refined-is B e =
+  pub quotient-is : 0 < b → h + k ≡ a / 1024 → g * 256 + r * 256 / b ≡ a * 2 ^ 62 / b
+  quotient-is B e =
       let x : g * 256 * b + r * 256 ≡ a * 2 ^ 62 = omega (arith, left e) in
       sym (mul-add-div-right B (g * 256) (r * 256)) ∙ ap (λ (n : ℕ). n / b) x
 

@@ -1,13 +1,14 @@
--- The exact logarithm of some doubles, computed.
-use Prim.Native.Nat.{ℕ}
-use mathlib.Core.Bool.{false}
-use lib.Dec.{lit≤}
+-- The exact logarithm of some doubles, computed, and what is near it.
+use Prim.Native.Nat.{ℕ, _^_}
+use mathlib.Core.Bool.{true, false}
+use lib.Dec.{lit≤, le→leb}
 use lib.IntN.{pos, negsuc}
 use lib.Ieee.{Float, fin, toBits}
 use Rattle.float_bits.specs.double.Parts.{significand, exponent}
 use Rattle.logarithm.specs.exact_log.Fraction.{Fraction, over, negated, _⊴_, Same}
 use Rattle.logarithm.specs.exact_log.Artanh.{num}
 use Rattle.logarithm.specs.exact_log.Log.{exactLn}
+use Rattle.logarithm.specs.fixed_point.Near.{Near}
 
 -- with N terms the logarithm of x lies from p to q
 abbrev Lies : Float → ℕ → Fraction → Fraction → Type 0
@@ -46,3 +47,17 @@ of-ten = (lit≤ tt, lit≤ tt)
 pub of-smallest : Lies (fin false 1 (negsuc 1073)) 11 (negated (micro 744440072)) (negated (micro 744440071))
 unfolding exactLn significand exponent toBits num
 of-smallest = (lit≤ tt, lit≤ tt)
+
+-- ---- r is near ln x, by 16 terms
+abbrev IsNear : Float → Float → Type 0
+IsNear x r = Near (2 ^ 50) (2 ^ 52) r (exactLn x 16)
+
+-- 2 ^ -50 is near ln 1, and 2 ^ -49 is not
+one-near : IsNear (fin false 1 (pos 0)) (fin false 1 (negsuc 49)) × (IsNear (fin false 1 (pos 0)) (fin false 1 (negsuc 48)) → ⊥)
+unfolding exactLn significand exponent toBits num
+one-near = (record { above = lit≤ tt; below = lit≤ tt }, λ h. le→leb _ _ h.below)
+
+-- -744.4400719213812 is near ln (2 ^ -1074), 2 ^ -44.4 off, and -744.4400719213817, four units of the last place below it, is not
+smallest-near : IsNear (fin false 1 (negsuc 1073)) (fin true 6548164122079683 (negsuc 42)) × (IsNear (fin false 1 (negsuc 1073)) (fin true 6548164122079687 (negsuc 42)) → ⊥)
+unfolding exactLn significand exponent toBits num
+smallest-near = (record { above = lit≤ tt; below = lit≤ tt }, λ h. le→leb _ _ h.above)

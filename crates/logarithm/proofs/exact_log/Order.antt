@@ -93,7 +93,7 @@ proper-stretched k p = record { low-pos = p.low-pos; high-pos = p.high-pos }
 
 pub proper-signed : (b : Bool) {i : Interval} → Proper i → Proper (signed b i)
 proper-signed false p = p
-proper-signed true p = record { low-pos = p.high-pos; high-pos = p.low-pos }
+proper-signed true p = record { low-pos = omega (arith, p.low-pos, p.high-pos); high-pos = omega (arith, p.low-pos, p.high-pos) }
 
 -- ---- intervals that overlap: each one's low is at most the other's high. Their sums, multiples and negatives do too
 pub record Overlap (i j : Interval) : Type 0 where

@@ -65,8 +65,8 @@ module _ (S N D A B q p j c f acc N' D' : ℕ) (P : 0 < B) (J : 0 < j * q) where
   abbrev G : ℕ
   G = S * N' * D * B
 
-  turned : (x : ℕ) → A * x * D * D' ≡ Y * x
-  turned x = omega arith
+  regrouped : (x : ℕ) → A * x * D * D' ≡ Y * x
+  regrouped x = omega arith
 
   one-low : c * j ≤ S → f * q ≤ acc * p
       → S * (N * (j * B) + A * D) * (B * q) * D' + A * p * acc * (D * (j * B)) * D' ≤ S * N' * (D * (j * B)) * (B * q)
@@ -76,7 +76,7 @@ module _ (S N D A B q p j c f acc N' D' : ℕ) (P : 0 < B) (J : 0 < j * q) where
       let o = group-odd A p acc D j B D' in
       let g = group-all S N' D j B q in
       let x : (F * (j * q) + S * Y * q + Y * (p * acc) * j) * B ≤ G * (j * q) * B = joined _ _ _ _ _ _ (sym e) (sym o) (sym g) ih in
-      subst (λ (y : ℕ). F + y ≤ G) (sym (turned (c + f))) (down-low F G Y S c f acc p q j J hc hf (le-of-mul-le-mul-right x P))
+      subst (λ (y : ℕ). F + y ≤ G) (sym (regrouped (c + f))) (down-low F G Y S c f acc p q j J hc hf (le-of-mul-le-mul-right x P))
     where
       joined : (u v w u' v' w' : ℕ) → u' * B ≡ u → v' * B ≡ v → w' * B ≡ w → u + v ≤ w → (u' + v') * B ≤ w' * B
       joined u v w u' v' w' d e f h = omega arith
@@ -89,7 +89,7 @@ module _ (S N D A B q p j c f acc N' D' : ℕ) (P : 0 < B) (J : 0 < j * q) where
       let o = group-odd A p (acc + 3) D j B D' in
       let g = group-all S N' D j B q in
       let x : G * (j * q) * B ≤ (F * (j * q) + S * Y * q + Y * (p * (acc + 3)) * j) * B = joined _ _ _ _ _ _ (sym e) (sym o) (sym g) ih in
-      subst (λ (y : ℕ). G ≤ F + y) (sym (turned (c + f + 3))) (down-high F G Y S c f acc p q j J hc hf (le-of-mul-le-mul-right x P))
+      subst (λ (y : ℕ). G ≤ F + y) (sym (regrouped (c + f + 3))) (down-high F G Y S c f acc p q j J hc hf (le-of-mul-le-mul-right x P))
     where
       joined : (u v w u' v' w' : ℕ) → u' * B ≡ u → v' * B ≡ v → w' * B ≡ w → w ≤ u + v → w' * B ≤ (u' + v') * B
       joined u v w u' v' w' d e f h = omega arith

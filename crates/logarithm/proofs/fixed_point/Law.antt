@@ -101,8 +101,8 @@ module _ (i : Interval) (g l e U A B : ℕ) (P : 0 < U) (k : e * A ≤ U) (b : B
         let d = reach-down A B U W e R Q i.high.plus i.high.minus i.high.bot P k over-down (omega (arith, a.below, ap (λ (n : ℕ). n * i .high .bot) x)) in
         (omega (arith, mul-le-mul-right Q u), omega (arith, mul-le-mul-right Q d))
 
-    turned : g < l → (i .low ⊴ (negated (over R Q) ⊞ (over 1 A ⊞ over R (B * Q)))) × (negated (over R Q) ⊴ (i .high ⊞ (over 1 A ⊞ over R (B * Q))))
-    turned h =
+    negated-side : g < l → (i .low ⊴ (negated (over R Q) ⊞ (over 1 A ⊞ over R (B * Q)))) × (negated (over R Q) ⊴ (i .high ⊞ (over 1 A ⊞ over R (B * Q))))
+    negated-side h =
         let x : l ≡ g + W = apart-of-lt g l h in
         let d = reach-down A B U W e R Q i.low.minus i.low.plus i.low.bot P k over-down (omega (arith, a.above, ap (λ (n : ℕ). n * i .low .bot) x)) in
         let u = reach-up A B U W e R Q i.high.minus i.high.plus i.high.bot P k over-up (omega (arith, a.below, ap (λ (n : ℕ). n * i .high .bot) x)) in
@@ -112,7 +112,7 @@ module _ (i : Interval) (g l e U A B : ℕ) (P : 0 < U) (k : e * A ≤ U) (b : B
   near-of nan s t h = absurd h
   near-of (inf q) s t h = absurd h
   near-of (fin false m x) false t h = let n = plain (m * up x) (down x) h.1 (ltb-false g l t) in record { above = n.0; below = n.1 }
-  near-of (fin true m x) true t h = let n = turned (m * up x) (down x) h.1 (ltb-true g l t) in record { above = n.0; below = n.1 }
+  near-of (fin true m x) true t h = let n = negated-side (m * up x) (down x) h.1 (ltb-true g l t) in record { above = n.0; below = n.1 }
   near-of (fin false m x) true t h = absurd (true≢false (sym h.0))
   near-of (fin true m x) false t h = absurd (true≢false h.0)
 

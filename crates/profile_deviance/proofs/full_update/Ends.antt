@@ -14,11 +14,11 @@ use Rattle.refusal.specs.declared.Answer.{Answer}
 use Rattle.refusal.specs.declared.Answer.the-variants.{Accepted, Refused as Denied}
 use Rattle.layout.specs.declared.Layout.{Layout}
 use Rattle.layout.specs.Shapes.{doublesNeeded}
-use Rattle.heading_format.specs.Heading.{layoutOf, lawful, headed}
-use Rattle.heading_format.proofs.Lawful.{is-lawful}
+use Rattle.heading_format.specs.Heading.{layoutOf, validLayout, validHeading}
+use Rattle.heading_format.proofs.Valid.{is-valid}
 use Rattle.heading_format.proofs.Fits.{fits}
 use Rattle.workspace.specs.Memory.{Workspace}
-use Rattle.workspace.specs.Answers.{Outcome, space}
+use Rattle.workspace.specs.Answers.{Outcome, workspace}
 use Rattle.update.specs.Calls.{beginOf, runOf}
 use Rattle.profile.specs.declared.Deviance.{Deviance}
 use Rattle.profile.specs.declared.Deviance.the-variants.{Pivot as Unfactored, Refused as Unbegun}
@@ -29,7 +29,7 @@ use Rattle.profile_deviance.proofs.full_update.Updated as Declaration
 use Rattle.profile_deviance.specs.declared.full_update.Updated.{Updated}
 use Rattle.profile_deviance.specs.declared.full_update.Updated.the-variants.{Value, Pivot, Refused}
 use Rattle.profile_deviance.specs.full_update.Updating.{Updating, afterRun, factored, afterBegun, updateOf, withoutValue}
-use Rattle.profile_deviance.specs.ready_step.Underway.{Underway, Ran}
+use Rattle.profile_deviance.specs.ready_step.ReadyInTurn.{ReadyInTurn, Ran}
 use Rattle.profile_deviance.proofs.ready_step.Turns.{just-begun}
 use Rattle.profile_deviance.proofs.ready_step.Runs.{outcome}
 use Rattle.update.proofs.progress_laws.Calls.{begin-kept, begin-accepted, run-kept}
@@ -48,46 +48,46 @@ isValue (Refused r) = false
 -- ---- the Rust's order
 
 -- what it needs of a workspace
-pub turn-come : (h : List ℕ) (w : List Float) (y : Layout) → y ≡ layoutOf h → lawful (layoutOf h) ≡ true → Underway (space h w) (rustOrder (layoutOf h .k)) → (y .k ≤ 8) × Underway (space h w) (rustOrder (y .k))
-turn-come h w y e ok u = (is-lawful y (rw e ok) .blocks .1, rw e u)
+pub turn-come : (h : List ℕ) (w : List Float) (y : Layout) → y ≡ layoutOf h → validLayout (layoutOf h) ≡ true → ReadyInTurn (workspace h w) (rustOrder (layoutOf h .k)) → (y .k ≤ 8) × ReadyInTurn (workspace h w) (rustOrder (y .k))
+turn-come h w y e ok u = (is-valid y (rw e ok) .blocks .1, rw e u)
 
 -- and what its end needs
-pub still : (h : List ℕ) (w w′ : List Float) (y : Layout) → y ≡ layoutOf h → lawful (layoutOf h) ≡ true → doublesNeeded (layoutOf h) ≤ length w → length w′ ≡ length w → (lawful y ≡ true) × (doublesNeeded y ≤ length w′)
+pub still : (h : List ℕ) (w w′ : List Float) (y : Layout) → y ≡ layoutOf h → validLayout (layoutOf h) ≡ true → doublesNeeded (layoutOf h) ≤ length w → length w′ ≡ length w → (validLayout y ≡ true) × (doublesNeeded y ≤ length w′)
 still h w w′ y e ok room q = (rw e ok, rw (e, q) room)
 
 module _ (h : List ℕ) (w : List Float) (y : Layout) (is-y : y ≡ layoutOf h) (a : Answer) (h′ : List ℕ) (w′ : List Float)
-    (ran : Ran (space h w) (rustOrder (y .k)) (outcome a (space h′ w′))) where
-  is : outcome a (space h′ w′) ≡ runOf (space h w) (rustOrder (y .k))
+    (ran : Ran (workspace h w) (rustOrder (y .k)) (outcome a (workspace h′ w′))) where
+  is : outcome a (workspace h′ w′) ≡ runOf (workspace h w) (rustOrder (y .k))
   is = ran.same
 
-  same-run : outcome a (space h′ w′) ≡ runOf (space h w) (rustOrder (layoutOf h .k))
-  same-run = is ∙ ap (λ (z : Layout). runOf (space h w) (rustOrder z.k)) is-y
+  same-run : outcome a (workspace h′ w′) ≡ runOf (workspace h w) (rustOrder (layoutOf h .k))
+  same-run = is ∙ ap (λ (z : Layout). runOf (workspace h w) (rustOrder z.k)) is-y
 
-  pub run-refused : (r : Refusal) → a ≡ Denied r → updating (Pivot (r .first) (r .second)) (space h′ w′) ≡ factored (space h w)
+  pub run-refused : (r : Refusal) → a ≡ Denied r → updating (Pivot (r .first) (r .second)) (workspace h′ w′) ≡ factored (workspace h w)
   unfolding factored
-  run-refused r e = ap (λ (b : Answer). afterRun b (outcome b (space h′ w′))) (sym e) ∙ ap (λ (o : Outcome). afterRun o.answer o) same-run
+  run-refused r e = ap (λ (b : Answer). afterRun b (outcome b (workspace h′ w′))) (sym e) ∙ ap (λ (o : Outcome). afterRun o.answer o) same-run
 
-  pub run-done : a ≡ Accepted → (x : Float) → x ≡ logDeterminantOf y w′ → updating (Value x) (space h′ w′) ≡ factored (space h w)
+  pub run-done : a ≡ Accepted → (x : Float) → x ≡ logDeterminantOf y w′ → updating (Value x) (workspace h′ w′) ≡ factored (workspace h w)
   unfolding factored
   run-done e x q =
-      let kept : layoutOf h′ ≡ layoutOf h = ap (λ (o : Outcome). layoutOf o.left.heading) is ∙ run-kept (space h w) (rustOrder y.k) in
-      ap (λ (z : Float). updating (Value z) (space h′ w′)) (q ∙ ap (λ (z : Layout). logDeterminantOf z w′) (is-y ∙ sym kept))
-      ∙ ap (λ (b : Answer). afterRun b (outcome b (space h′ w′))) (sym e) ∙ ap (λ (o : Outcome). afterRun o.answer o) same-run
+      let kept : layoutOf h′ ≡ layoutOf h = ap (λ (o : Outcome). layoutOf o.left.heading) is ∙ run-kept (workspace h w) (rustOrder y.k) in
+      ap (λ (z : Float). updating (Value z) (workspace h′ w′)) (q ∙ ap (λ (z : Layout). logDeterminantOf z w′) (is-y ∙ sym kept))
+      ∙ ap (λ (b : Answer). afterRun b (outcome b (workspace h′ w′))) (sym e) ∙ ap (λ (o : Outcome). afterRun o.answer o) same-run
 
 -- ---- begin before it
-module _ (h : List ℕ) (w theta : List Float) (a : Answer) (h′ : List ℕ) (w′ : List Float) (is : outcome a (space h′ w′) ≡ beginOf h w theta) where
-  pub begin-refused : (r : Refusal) → a ≡ Denied r → updating (Refused r) (space h′ w′) ≡ updateOf h w theta
+module _ (h : List ℕ) (w theta : List Float) (a : Answer) (h′ : List ℕ) (w′ : List Float) (is : outcome a (workspace h′ w′) ≡ beginOf h w theta) where
+  pub begin-refused : (r : Refusal) → a ≡ Denied r → updating (Refused r) (workspace h′ w′) ≡ updateOf h w theta
   unfolding updateOf
-  begin-refused r e = ap (λ (b : Answer). afterBegun b (outcome b (space h′ w′))) (sym e) ∙ ap (λ (o : Outcome). afterBegun o.answer o) is
+  begin-refused r e = ap (λ (b : Answer). afterBegun b (outcome b (workspace h′ w′))) (sym e) ∙ ap (λ (o : Outcome). afterBegun o.answer o) is
 
   module _ (e : a ≡ Accepted) where
-    pub begin-done : (u : Updated) (h″ : List ℕ) (w″ : List Float) → updating u (space h″ w″) ≡ factored (space h′ w′) → updating u (space h″ w″) ≡ updateOf h w theta
+    pub begin-done : (u : Updated) (h″ : List ℕ) (w″ : List Float) → updating u (workspace h″ w″) ≡ factored (workspace h′ w′) → updating u (workspace h″ w″) ≡ updateOf h w theta
     unfolding updateOf
-    begin-done u h″ w″ q = q ∙ ap (λ (b : Answer). afterBegun b (outcome b (space h′ w′))) (sym e) ∙ ap (λ (o : Outcome). afterBegun o.answer o) is
+    begin-done u h″ w″ q = q ∙ ap (λ (b : Answer). afterBegun b (outcome b (workspace h′ w′))) (sym e) ∙ ap (λ (o : Outcome). afterBegun o.answer o) is
 
     -- what is begun is a workspace
     pub begun-ready : length h′ ≡ length h → length w′ ≡ length w
-        → (128 ≤ length h′) × (lawful (layoutOf h′) ≡ true) × (doublesNeeded (layoutOf h′) ≤ length w′) × Underway (space h′ w′) (rustOrder (layoutOf h′ .k))
+        → (128 ≤ length h′) × (validLayout (layoutOf h′) ≡ true) × (doublesNeeded (layoutOf h′) ≤ length w′) × ReadyInTurn (workspace h′ w′) (rustOrder (layoutOf h′ .k))
     begun-ready p q =
         let done : beginOf h w theta .answer ≡ Accepted = ap (λ (o : Outcome). o .answer) (sym is) ∙ e in
         let k = fits h (length w) (begin-accepted h w theta done .0) in
@@ -95,7 +95,7 @@ module _ (h : List ℕ) (w theta : List Float) (a : Answer) (h′ : List ℕ) (w
           rw p k.long,
           rw kept k.layout,
           rw (kept, q) k.room,
-          just-begun h (space h′ w′) (rw q (begin-accepted h w theta done .0)) (ap (λ (o : Outcome). o .left .heading) is ∙ begin-accepted h w theta done .2),
+          just-begun h (workspace h′ w′) (rw q (begin-accepted h w theta done .0)) (ap (λ (o : Outcome). o .left .heading) is ∙ begin-accepted h w theta done .2),
         )
 
 -- ---- the deviance behind it
@@ -123,19 +123,19 @@ module _ (h : List ℕ) (w theta : List Float) where
 
   -- an update with a value: it was begun in a workspace, whose layout it keeps, and the value is the log determinant
   pub value-facts : (x : Float) → updateOf h w theta .answer ≡ Value x
-      → (headed h (length w) ≡ true) × (layoutOf (updateOf h w theta .left .heading) ≡ layoutOf h) × (x ≡ logDeterminant (updateOf h w theta .left .heading) (updateOf h w theta .left .doubles))
+      → (validHeading h (length w) ≡ true) × (layoutOf (updateOf h w theta .left .heading) ≡ layoutOf h) × (x ≡ logDeterminant (updateOf h w theta .left .heading) (updateOf h w theta .left .doubles))
   unfolding updateOf factored
   value-facts x = begin-by (beginOf h w theta .answer) refl
     where
       Facts : Updating → Type 0
-      Facts o = (headed h (length w) ≡ true) × (layoutOf o.left.heading ≡ layoutOf h) × (x ≡ logDeterminant o.left.heading o.left.doubles)
+      Facts o = (validHeading h (length w) ≡ true) × (layoutOf o.left.heading ≡ layoutOf h) × (x ≡ logDeterminant o.left.heading o.left.doubles)
 
       value-of : Updated → Float
       value-of (Value z) = z
       value-of (Pivot j r) = x
       value-of (Refused r) = x
 
-      run-by : (a : Answer) (o : Outcome) → headed h (length w) ≡ true → layoutOf (o .left .heading) ≡ layoutOf h → afterRun a o .answer ≡ Value x → Facts (afterRun a o)
+      run-by : (a : Answer) (o : Outcome) → validHeading h (length w) ≡ true → layoutOf (o .left .heading) ≡ layoutOf h → afterRun a o .answer ≡ Value x → Facts (afterRun a o)
       run-by Accepted o ok kept e = (ok, kept, ap value-of (sym e))
       run-by (Denied r) o ok kept e = absurd (true≢false (ap isValue (sym e)))
 
@@ -146,30 +146,30 @@ module _ (h : List ℕ) (w theta : List Float) where
           (run-kept v (rustOrder (layoutOf v.heading .k)) ∙ begin-kept h w theta) e
       begin-by (Denied r) q e = absurd (true≢false (ap isValue (sym e)))
 
-  module _ (reml : Bool) (u : Updated) (h′ : List ℕ) (w′ : List Float) (is : updating u (space h′ w′) ≡ updateOf h w theta) where
+  module _ (reml : Bool) (u : Updated) (h′ : List ℕ) (w′ : List Float) (is : updating u (workspace h′ w′) ≡ updateOf h w theta) where
     -- a refused pivot, or a refusal of begin
-    pub no-value : (tagOf Declaration.the-type u ≡ 1) ⊎ (tagOf Declaration.the-type u ≡ 2) → (d : Deviance) → d ≡ withoutValue u → profiled d (space h′ w′) ≡ profileOf h w theta reml
-    no-value t d q = ap (λ (z : Deviance). profiled z (space h′ w′)) q ∙ by u t ∙ ap (λ (o : Updating). onUpdate o.answer o reml) is ∙ from-update reml
+    pub no-value : (tagOf Declaration.the-type u ≡ 1) ⊎ (tagOf Declaration.the-type u ≡ 2) → (d : Deviance) → d ≡ withoutValue u → profiled d (workspace h′ w′) ≡ profileOf h w theta reml
+    no-value t d q = ap (λ (z : Deviance). profiled z (workspace h′ w′)) q ∙ by u t ∙ ap (λ (o : Updating). onUpdate o.answer o reml) is ∙ from-update reml
       where
-        by : (u : Updated) → (tagOf Declaration.the-type u ≡ 1) ⊎ (tagOf Declaration.the-type u ≡ 2) → profiled (withoutValue u) (space h′ w′) ≡ onUpdate u (updating u (space h′ w′)) reml
+        by : (u : Updated) → (tagOf Declaration.the-type u ≡ 1) ⊎ (tagOf Declaration.the-type u ≡ 2) → profiled (withoutValue u) (workspace h′ w′) ≡ onUpdate u (updating u (workspace h′ w′)) reml
         by (Value x) (inl t) = absurd (omega arith)
         by (Value x) (inr t) = absurd (omega arith)
         by (Pivot j r) t = refl
         by (Refused r) t = refl
 
     module _ (x : Float) (e : u ≡ Value x) where
-      facts : (headed h (length w) ≡ true) × (layoutOf h′ ≡ layoutOf h) × (x ≡ logDeterminant h′ w′)
+      facts : (validHeading h (length w) ≡ true) × (layoutOf h′ ≡ layoutOf h) × (x ≡ logDeterminant h′ w′)
       facts =
-          subst (λ (o : Updating). (headed h (length w) ≡ true) × (layoutOf o.left.heading ≡ layoutOf h) × (x ≡ logDeterminant o.left.heading o.left.doubles)) (sym is)
+          subst (λ (o : Updating). (validHeading h (length w) ≡ true) × (layoutOf o.left.heading ≡ layoutOf h) × (x ≡ logDeterminant o.left.heading o.left.doubles)) (sym is)
           (value-facts x (ap (λ (o : Updating). o .answer) (sym is) ∙ e))
 
       -- what is left is a workspace
-      pub value-ready : length h′ ≡ length h → length w′ ≡ length w → (y : Layout) → y ≡ layoutOf h′ → (128 ≤ length h′) × (lawful y ≡ true) × (doublesNeeded y ≤ length w′)
+      pub value-ready : length h′ ≡ length h → length w′ ≡ length w → (y : Layout) → y ≡ layoutOf h′ → (128 ≤ length h′) × (validLayout y ≡ true) × (doublesNeeded y ≤ length w′)
       value-ready p q y is-y = let k = fits h (length w) facts.0 in (rw p k.long, rw (is-y, facts.1) k.layout, rw (is-y, facts.1, q) k.room)
 
       -- the value goes on to the tail
-      pub value-done : (y : Layout) → y ≡ layoutOf h′ → (d : Deviance) → d ≡ devianceWith y w′ x reml → profiled d (space h′ w′) ≡ profileOf h w theta reml
+      pub value-done : (y : Layout) → y ≡ layoutOf h′ → (d : Deviance) → d ≡ devianceWith y w′ x reml → profiled d (workspace h′ w′) ≡ profileOf h w theta reml
       value-done y is-y d q =
-          ap (λ (z : Deviance). profiled z (space h′ w′))
+          ap (λ (z : Deviance). profiled z (workspace h′ w′))
           (q ∙ ap (λ (z : Layout). devianceWith z w′ x reml) is-y ∙ ap (λ (z : Float). devianceWith (layoutOf h′) w′ z reml) facts.2 ∙ tail-value h′ w′ reml)
-          ∙ ap (λ (b : Updated). onUpdate b (updating b (space h′ w′)) reml) (sym e) ∙ ap (λ (o : Updating). onUpdate o.answer o reml) is ∙ from-update reml
+          ∙ ap (λ (b : Updated). onUpdate b (updating b (workspace h′ w′)) reml) (sym e) ∙ ap (λ (o : Updating). onUpdate o.answer o reml) is ∙ from-update reml

@@ -6,16 +6,16 @@ use Rattle.profile_deviance.proofs.profile_deviance.Statement.{statemen
 use Rattle.profile_deviance.proofs.profile_deviance.Tie as tie
 
 returns : tie.Need-returns
-returns c = let a = c.before.before.before.before.before.before.before.before.before.before.before.before.args in no-value a.h.now a.w.now a.theta.now a.reml _ _ _ c.before.before.before.before.before.before.update.ensures c.before.match.keys2 _ c.without-value.ensures
+returns c = let a = c.before.before.before.before.before.before.before.before.before.before.before.before.args in no-value a.heading.now a.doubles.now a.theta.now a.reml _ _ _ c.before.before.before.before.before.before.update.ensures c.before.match.keys2 _ c.without-value.ensures
 
 layout-requires : tie.Need-layout-requires
-layout-requires c κs = let a = c.before.before.before.before.before.before.before.before.before.before.before.before.before.before.args in value-ready a.h.now a.w.now a.theta.now a.reml _ _ _ c.before.before.before.before.before.before.before.before.update.ensures _ c.before.before.u.given.1 (search needs) (search needs) _ refl .0
+layout-requires c κs = let a = c.before.before.before.before.before.before.before.before.before.before.before.before.before.before.args in value-ready a.heading.now a.doubles.now a.theta.now a.reml _ _ _ c.before.before.before.before.before.before.before.before.update.ensures _ c.before.before.u.given.1 (search needs) (search needs) _ refl .0
 
 tail-requires : tie.Need-tail-requires
-tail-requires c κs = let a = c.before.before.before.before.before.before.before.before.before.before.before.before.before.before.before.before.args in let k = value-ready a.h.now a.w.now a.theta.now a.reml _ _ _ c.before.before.before.before.before.before.before.before.before.before.update.ensures _ c.before.before.before.before.u.given.1 (search needs) (search needs) _ c.before.layout.ensures in (k.1, k.2)
+tail-requires c κs = let a = c.before.before.before.before.before.before.before.before.before.before.before.before.before.before.before.before.args in let k = value-ready a.heading.now a.doubles.now a.theta.now a.reml _ _ _ c.before.before.before.before.before.before.before.before.before.before.update.ensures _ c.before.before.before.before.u.given.1 (search needs) (search needs) _ c.before.layout.ensures in (k.1, k.2)
 
 returns-2 : tie.Need-returns-2
-returns-2 c = let a = c.before.before.before.before.before.before.before.before.before.before.before.before.before.before.before.before.before.args in value-done a.h.now a.w.now a.theta.now a.reml _ _ _ c.before.before.before.before.before.before.before.before.before.before.before.update.ensures _ c.before.before.before.before.before.u.given.1 _ c.before.before.layout.ensures _ c.tail.ensures
+returns-2 c = let a = c.before.before.before.before.before.before.before.before.before.before.before.before.before.before.before.before.before.args in value-done a.heading.now a.doubles.now a.theta.now a.reml _ _ _ c.before.before.before.before.before.before.before.before.before.before.before.update.ensures _ c.before.before.before.before.before.u.given.1 _ c.before.before.layout.ensures _ c.tail.ensures
 
 pub profile-deviance-spec : {M : Type 1} → statement M
 profile-deviance-spec = tie.close (tie.spec (λ c κs. search needs) (λ c. search needs) (λ c κs. search needs)

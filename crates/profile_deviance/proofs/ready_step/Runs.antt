@@ -12,7 +12,7 @@ use Rattle.refusal.specs.declared.Answer.the-variants.{Accepted, Refused}
 use Rattle.workspace.specs.Memory.{Workspace}
 use Rattle.workspace.specs.Answers.{Outcome}
 use Rattle.update.specs.Calls.{refusedBy, onPivot, stepOf, goOn, runOf}
-use Rattle.profile_deviance.specs.ready_step.Underway.{isRefused, Underway, Ran}
+use Rattle.profile_deviance.specs.ready_step.ReadyInTurn.{isRefused, ReadyInTurn, Ran}
 use Rattle.profile_deviance.proofs.ready_step.Turns.{step-is, step-next, prefix}
 
 abbrev pub outcome : Answer → Workspace → Outcome
@@ -58,7 +58,7 @@ ran-none : (v : Workspace) → Ran v [] (outcome Accepted v)
 unfolding runOf
 ran-none v = record { same = refl; next = λ rest u t. u }
 
-pub ran-one : (v : Workspace) (s : Step) → Underway v (s ∷ []) → (o : Outcome) → o ≡ onPivot (v .heading) (v .doubles) (refusedBy (v .heading) (v .doubles) s) s
+pub ran-one : (v : Workspace) (s : Step) → ReadyInTurn v (s ∷ []) → (o : Outcome) → o ≡ onPivot (v .heading) (v .doubles) (refusedBy (v .heading) (v .doubles) s) s
     → length (o .left .doubles) ≡ length (v .doubles) → Ran v (s ∷ []) o
 ran-one v s u o e q =
     record { same = e ∙ sym (step-is v s [] u) ∙ run-one v s; next = λ rest z t. step-next v s rest z o e q t }
@@ -80,20 +80,20 @@ module _ {v : Workspace} {a : List Step} (b : List Step) {o : Outcome} (r : Ran 
           same =
               q .same
               ∙ sym (run-append v a b ∙ ap (λ (z : Outcome). goOn z.answer z (λ u. runOf u b)) (sym r.same) ∙ on-accepted o (λ u. runOf u b) (accepted o.answer t));
-          next = λ rest u f. q .next rest (r.next (b ++ rest) (subst (Underway v) (append-assoc a b rest) u) t) f;
+          next = λ rest u f. q .next rest (r.next (b ++ rest) (subst (ReadyInTurn v) (append-assoc a b rest) u) t) f;
         }
 
     -- the second list's turn
-    pub turn : Underway v (a ++ b) → Underway (o .left) b
+    pub turn : ReadyInTurn v (a ++ b) → ReadyInTurn (o .left) b
     turn u = r.next b u t
 
 -- ---- a loop over f x, .., f (end - 1) from v on: their turn has come, and what they come to, the whole list L comes to from v₀ on
 pub record Going (v₀ : Workspace) (L : List Step) (f : ℕ → List Step) (x end : ℕ) (v : Workspace) : Type 0 where
   pub within : x ≤ end
   pub ends : (p : Outcome) → Ran v (each f x (end - x)) p → Ran v₀ L p
-  pub turn : Underway v (each f x (end - x))
+  pub turn : ReadyInTurn v (each f x (end - x))
 
-pub going-start : (v : Workspace) (f : ℕ → List Step) (a n : ℕ) → Underway v (each f a n) → {x end : ℕ} → x ≡ a → end ≡ a + n → Going v (each f a n) f x end v
+pub going-start : (v : Workspace) (f : ℕ → List Step) (a n : ℕ) → ReadyInTurn v (each f a n) → {x end : ℕ} → x ≡ a → end ≡ a + n → Going v (each f a n) f x end v
 going-start v f a n u {x} {end} e q =
     let z : end - x ≡ n = omega arith in
     record { within = omega arith; ends = rw (z, e) (λ p r. r); turn = rw (z, e) u }
@@ -112,8 +112,8 @@ module _ {v₀ : Workspace} {L : List Step} {f : ℕ → List Step} {x end : ℕ
     whole = ap (each f x) count
 
     -- what the turn of f x asks
-    pub going-turn : Underway v (f x)
-    going-turn = prefix v (f x) (each f (suc x) (end - (x + 1))) (subst (Underway v) whole g.turn)
+    pub going-turn : ReadyInTurn v (f x)
+    going-turn = prefix v (f x) (each f (suc x) (end - (x + 1))) (subst (ReadyInTurn v) whole g.turn)
 
     module _ (o : Outcome) (r : Ran v (f x) o) where
       pub going-refused : isRefused (o .answer) ≡ true → Ran v₀ L o
@@ -129,5 +129,5 @@ module _ {v₀ : Workspace} {L : List Step} {f : ℕ → List Step} {x end : ℕ
                 g .ends p
                 (subst (λ (l : List Step). Ran v l p) (sym whole)
                 (ran-more (each f (suc x) (end - (x + 1))) r t (subst (λ (l : List Step). Ran o.left l p) same q)));
-            turn = subst (Underway o.left) (sym same) (turn (each f (suc x) (end - (x + 1))) r t (subst (Underway v) whole g.turn));
+            turn = subst (ReadyInTurn o.left) (sym same) (turn (each f (suc x) (end - (x + 1))) r t (subst (ReadyInTurn v) whole g.turn));
           }

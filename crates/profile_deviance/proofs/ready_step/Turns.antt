@@ -11,7 +11,7 @@ use lib.ListN.{length}
 use lib.Ieee.{Float}
 use Rattle.storage.specs.Runs.{start, triangle}
 use Rattle.storage.proofs.Parts.{length-part}
-use Rattle.step_order.specs.Steps.{Step, Named, rustOrder}
+use Rattle.step_order.specs.Steps.{Step, IsStep, rustOrder}
 use Rattle.step_order.specs.Progress.{join, stepsLeft, Order, done, advance, Represents, Ready}
 use Rattle.step_order.proofs.Sets.{named-iff, ready-after, represents-begun, represents-moved, represents-same}
 use Rattle.step_order.proofs.Left.{left-moved}
@@ -20,29 +20,29 @@ use Rattle.layout.specs.declared.Layout.{Layout}
 use Rattle.heading_format.specs.declared.Progress.{Progress}
 use Rattle.heading_format.specs.declared.State.{State}
 use Rattle.heading_format.specs.declared.State.the-variants.{Idle, UnderWay, Finished}
-use Rattle.heading_format.specs.Heading.{layoutOf, progressOf, stageOf, every, forerun, stateLawful, progressLawful, underWay, headed}
-use Rattle.heading_format.proofs.Lawful.{is-lawful}
-use Rattle.heading_format.proofs.Heading.{under-way-lawful}
+use Rattle.heading_format.specs.Heading.{layoutOf, progressOf, stageOf, every, forerunnersDone, validState, validProgress, underWay, validHeading}
+use Rattle.heading_format.proofs.Valid.{is-valid}
+use Rattle.heading_format.proofs.Heading.{under-way-valid}
 use Rattle.heading_format.specs.Fits.{Fits}
 use Rattle.heading_format.proofs.Fits.{fits}
 use Rattle.workspace.specs.Memory.{Workspace, headingWith}
 use Rattle.workspace.specs.Answers.{Outcome}
 use Rattle.update.specs.Calls.{advanced, refusedBy, stepped, onPivot, stepOf}
-use Rattle.update.proofs.progress_laws.Kept.{layout-kept, progress-read, headed-with}
-use Rattle.update.proofs.progress_laws.Moves.{lawfully, length-advanced, stage-advanced, lawful-advanced}
-use Rattle.profile_deviance.specs.ready_step.Underway.{isRefused, Underway}
+use Rattle.update.proofs.progress_laws.Kept.{layout-kept, progress-read, valid-heading-with}
+use Rattle.update.proofs.progress_laws.Moves.{stays-valid, length-advanced, stage-advanced, valid-advanced}
+use Rattle.profile_deviance.specs.ready_step.ReadyInTurn.{isRefused, ReadyInTurn}
 use Rattle.storage.proofs.Cells.{default-at}
 
--- the state of a lawful progress goes with the steps left
-state-law : (k : ℕ) (g : Progress) → progressLawful k g ≡ true → stateLawful (g .state) (g .left) (length (rustOrder k)) ≡ true
-unfolding progressLawful
+-- the state of a valid progress goes with the steps left
+state-law : (k : ℕ) (g : Progress) → validProgress k g ≡ true → validState (g .state) (g .left) (length (rustOrder k)) ≡ true
+unfolding validProgress
 state-law k g e =
     and-eq-true-iff
-    (every (λ i. every (λ j. leb (stageOf g i j) (suc j)) (suc i)) (suc k) && eqb g.left (stepsLeft k (done (stageOf g))) && forerun (stageOf g) (rustOrder k))
-    (stateLawful g.state g.left (length (rustOrder k))) .0 e .1
+    (every (λ i. every (λ j. leb (stageOf g i j) (suc j)) (suc i)) (suc k) && eqb g.left (stepsLeft k (done (stageOf g))) && forerunnersDone (stageOf g) (rustOrder k))
+    (validState g.state g.left (length (rustOrder k))) .0 e .1
 
 -- with a step left and an update begun, it is under way
-under-way : (s : State) (left every-step : ℕ) → (s ≡ Idle → ⊥) → stateLawful s left every-step ≡ true → 1 ≤ left → s ≡ UnderWay
+under-way : (s : State) (left every-step : ℕ) → (s ≡ Idle → ⊥) → validState s left every-step ≡ true → 1 ≤ left → s ≡ UnderWay
 under-way Idle left every-step b e h = absurd (b refl)
 under-way UnderWay left every-step b e h = refl
 under-way Finished left every-step b e h = let z : left ≡ 0 = eqb-true left 0 e in absurd (omega arith)
@@ -63,10 +63,10 @@ stages-many h long = length-part 24 45 h (omega arith)
 
 -- a workspace whose layout and progress are known
 known : (v : Workspace) (l : List Step) (y : Layout) (g : Progress) → layoutOf (v .heading) ≡ y → progressOf (v .heading) ≡ g
-    → headed (v .heading) (length (v .doubles)) ≡ true → (g .state ≡ Idle → ⊥) → (d : Step → Bool) → Represents (y .k) (stageOf g) d → Order (y .k) d l → Underway v l
-known v l y g is-y is-g ok b d r o = record { lawful = ok; begun = rw is-g b; set = d; stands = rw (is-y, is-g) r; order = rw is-y o }
+    → validHeading (v .heading) (length (v .doubles)) ≡ true → (g .state ≡ Idle → ⊥) → (d : Step → Bool) → Represents (y .k) (stageOf g) d → Order (y .k) d l → ReadyInTurn v l
+known v l y g is-y is-g ok b d r o = record { valid = ok; begun = rw is-g b; set = d; stands = rw (is-y, is-g) r; order = rw is-y o }
 
-module _ (v : Workspace) (s : Step) (l : List Step) (u : Underway v (s ∷ l)) where
+module _ (v : Workspace) (s : Step) (l : List Step) (u : ReadyInTurn v (s ∷ l)) where
   abbrev h : List ℕ
   h = v.heading
 
@@ -80,49 +80,49 @@ module _ (v : Workspace) (s : Step) (l : List Step) (u : Underway v (s ∷ l)) w
   g = progressOf h
 
   fit : Fits h (length w)
-  fit = fits h (length w) u.lawful
+  fit = fits h (length w) u.valid
 
   few : k ≤ 8
-  few = is-lawful (layoutOf h) fit.layout .blocks .1
+  few = is-valid (layoutOf h) fit.layout .blocks .1
 
   ready : Ready (stageOf g) s
-  ready = ready-after k (stageOf g) (lawfully k g fit.progress .most) u.set u.stands s u.order.0 .1 (u.order.1, u.order.2)
+  ready = ready-after k (stageOf g) (stays-valid k g fit.progress .most) u.set u.stands s u.order.0 .1 (u.order.1, u.order.2)
 
   some-left : 1 ≤ g .left
-  some-left = omega (arith, lawfully k g fit.progress .left, left-moved k (stageOf g) (lawfully k g fit.progress .most) s u.order.0 ready)
+  some-left = omega (arith, stays-valid k g fit.progress .left, left-moved k (stageOf g) (stays-valid k g fit.progress .most) s u.order.0 ready)
 
   going : g .state ≡ UnderWay
   going = under-way g.state g.left (length (rustOrder k)) u.begun (state-law k g fit.progress) some-left
 
   -- what taking it asks
-  pub is-ready : Fits h (length w) × Named k s × (1 ≤ g .left)
+  pub is-ready : Fits h (length w) × IsStep k s × (1 ≤ g .left)
   is-ready = (fit, u.order.0, some-left)
 
   -- it is not refused for its name, nor as done, nor for a forerunner
   pub step-is : stepOf h w s ≡ onPivot h w (refusedBy h w s) s
   unfolding stepOf
   step-is =
-      let n = ready-after k (stageOf g) (lawfully k g fit.progress .most) (done (stageOf g)) (λ t m. refl) s u.order.0 .0 ready in
-      rw (u.lawful, going, named-iff k s .1 u.order.0, n.0, n.1) refl
+      let n = ready-after k (stageOf g) (stays-valid k g fit.progress .most) (done (stageOf g)) (λ t m. refl) s u.order.0 .0 ready in
+      rw (u.valid, going, named-iff k s .1 u.order.0, n.0, n.1) refl
 
   -- where it is accepted, the next one's turn comes
-  moved : (v′ : Workspace) → v′ .heading ≡ headingWith h (advanced g s) → length (v′ .doubles) ≡ length w → Underway v′ l
+  moved : (v′ : Workspace) → v′ .heading ≡ headingWith h (advanced g s) → length (v′ .doubles) ≡ length w → ReadyInTurn v′ l
   moved v′ e q =
-      let n : Named k s = u.order.0 in
+      let n : IsStep k s = u.order.0 in
       let many : length g.stages ≡ 45 = stages-many h fit.long in
       let more : length (advanced g s .stages) ≡ 45 = length-advanced k few g many s n in
       known v′ l (layoutOf h) (advanced g s) (ap layoutOf e ∙ layout-kept h fit.long (advanced g s)) (ap progressOf e ∙ progress-read h fit.long (advanced g s) more)
-      (rw (e, q) (headed-with h (length w) u.lawful (advanced g s) more (lawful-advanced k few g many s n fit.progress going ready)))
+      (rw (e, q) (valid-heading-with h (length w) u.valid (advanced g s) more (valid-advanced k few g many s n fit.progress going ready)))
       (never-idle (eqb g.left 1)) (join u.set s)
       (represents-same k (advance (stageOf g) s) (stageOf (advanced g s)) (join u.set s) (λ i j a b. sym (stage-advanced k few g many s n i j a b))
-      (represents-moved k (stageOf g) (lawfully k g fit.progress .most) u.set u.stands s n ready))
+      (represents-moved k (stageOf g) (stays-valid k g fit.progress .most) u.set u.stands s n ready))
       u.order.3
 
-  pub step-next : (o : Outcome) → o ≡ onPivot h w (refusedBy h w s) s → length (o .left .doubles) ≡ length w → isRefused (o .answer) ≡ false → Underway (o .left) l
+  pub step-next : (o : Outcome) → o ≡ onPivot h w (refusedBy h w s) s → length (o .left .doubles) ≡ length w → isRefused (o .answer) ≡ false → ReadyInTurn (o .left) l
   unfolding stepped
   step-next o e q t = by (refusedBy h w s) e
     where
-      by : (p : Option ℕ) → o ≡ onPivot h w p s → Underway (o .left) l
+      by : (p : Option ℕ) → o ≡ onPivot h w p s → ReadyInTurn (o .left) l
       by none e = moved o.left (ap (λ (z : Outcome). z .left .heading) e) q
       by (some r) e = absurd (true≢false (ap (λ (z : Outcome). isRefused z.answer) (sym e) ∙ t))
 
@@ -131,18 +131,18 @@ order-prefix : (k : ℕ) (d : Step → Bool) (a b : List Step) → Order k d (a 
 order-prefix k d [] b o = tt
 order-prefix k d (s ∷ a) b o = (o.0, o.1, o.2, order-prefix k (join d s) a b o.3)
 
-pub prefix : (v : Workspace) (a b : List Step) → Underway v (a ++ b) → Underway v a
-prefix v a b u = record { lawful = u.lawful; begun = u.begun; set = u.set; stands = u.stands; order = order-prefix (layoutOf v.heading .k) u.set a b u.order }
+pub prefix : (v : Workspace) (a b : List Step) → ReadyInTurn v (a ++ b) → ReadyInTurn v a
+prefix v a b u = record { valid = u.valid; begun = u.begun; set = u.set; stands = u.stands; order = order-prefix (layoutOf v.heading .k) u.set a b u.order }
 
 -- ---- the first
 -- an update just begun
-pub just-begun : (x : List ℕ) (v : Workspace) → headed x (length (v .doubles)) ≡ true → v .heading ≡ headingWith x (underWay (layoutOf x .k)) → Underway v (rustOrder (layoutOf (v .heading) .k))
+pub just-begun : (x : List ℕ) (v : Workspace) → validHeading x (length (v .doubles)) ≡ true → v .heading ≡ headingWith x (underWay (layoutOf x .k)) → ReadyInTurn v (rustOrder (layoutOf (v .heading) .k))
 just-begun x v ok e =
     let f = fits x (length v.doubles) ok in
     let n : ℕ = layoutOf x .k in
     let is-y : layoutOf v.heading ≡ layoutOf x = ap layoutOf e ∙ layout-kept x f.long (underWay n) in
     known v (rustOrder (layoutOf v.heading .k)) (layoutOf x) (underWay n) is-y (ap progressOf e ∙ progress-read x f.long (underWay n) refl)
-    (rw e (headed-with x (length v.doubles) ok (underWay n) refl (under-way-lawful n (is-lawful (layoutOf x) f.layout .blocks .1))))
+    (rw e (valid-heading-with x (length v.doubles) ok (underWay n) refl (under-way-valid n (is-valid (layoutOf x) f.layout .blocks .1))))
     (λ z. true≢false (ap isIdle (sym z))) (λ s. false)
     (represents-same n (λ i j. 0) (stageOf (underWay n)) (λ s. false) (λ i j a b. sym (default-at {A = ℕ} 0 45 (start triangle i + j))) (represents-begun n))
     (rw is-y (rust-order n))

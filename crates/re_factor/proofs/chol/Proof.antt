@@ -13,9 +13,9 @@ use Rattle.re_factor.proofs.chol.Tie as tie
 
 returns : tie.Need-returns
 returns c = let a = c.before.before.before.before.before.before.args in let p = c.before.before.chol in
-    lent-factor a.w.now a.off _ (sizeOf (packed a.n)) c.before.before.before.before.row-start.ensures (omega arith) p.last.0
+    lent-factor a.doubles.now a.off _ (sizeOf (packed a.n)) c.before.before.before.before.row-start.ensures (omega arith) p.last.0
     (λ x. pivots ieee (radicand ieee (cell ieee.zero (packed a.n) x)) a.n) (λ x. leftOfTriangle (cell ieee.zero (packed a.n) x) a.n) p.result
-    (triangle-room (block a.off (packed a.n) a.w.now) a.n p.result) p.ensures.answer p.ensures.left
+    (triangle-room (block a.off (packed a.n) a.doubles.now) a.n p.result) p.ensures.answer p.ensures.left
 
 pub chol-spec : {M : Type 1} → statement M
 chol-spec = tie.close (tie.spec (λ c κs. search needs) (λ c. search needs) (λ c. search needs) (λ c. search needs)

@@ -15,9 +15,9 @@ use Rattle.re_factor.proofs.chol_diagonal.Tie as tie
 
 returns : tie.Need-returns
 returns c = let a = c.before.before.before.before.before.args in let p = c.before.before.chol-diagonal in
-    let k = start-single a.n in lent-factor a.w.now a.off _ (sizeOf (diagonal a.n)) (sym k) (omega arith) p.last.0
+    let k = start-single a.n in lent-factor a.doubles.now a.off _ (sizeOf (diagonal a.n)) (sym k) (omega arith) p.last.0
     (λ x. pivots ieee (λ r. cell ieee.zero (diagonal a.n) x r r) a.n) (λ x. leftOfDiagonal (λ r. cell ieee.zero (diagonal a.n) x r r) a.n) p.result
-    (λ e. omega (arith, diagonal-room (pivotAt a.off (diagonal a.n) a.w.now) a.n p.result e)) p.ensures.answer p.ensures.left
+    (λ e. omega (arith, diagonal-room (pivotAt a.off (diagonal a.n) a.doubles.now) a.n p.result e)) p.ensures.answer p.ensures.left
 
 pub chol-diagonal-spec : {M : Type 1} → statement M
 chol-diagonal-spec = tie.close (tie.spec (λ c. search needs) (λ c. search needs) (λ c. search needs) (λ c. search needs)

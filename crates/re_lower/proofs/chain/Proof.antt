@@ -3,7 +3,7 @@ use mathlib.Core.Path.{_≡_, refl}
 use Prim.Native.Nat.{_≤_, _-_}
 use native.Mathlib.Omega.{arith}
 use native.Mathlib.Numerals.{add-one}
-use Rattle.rules.specs.Sums.{lessFrom}
+use Rattle.rules.specs.Sums.{subtractFrom}
 use Rattle.re_lower.specs.Lower.{chained}
 use Rattle.re_lower.proofs.Turns.{chain-turn}
 use Rattle.re_lower.proofs.chain.Statement.{statement}
@@ -16,7 +16,7 @@ abbrev μ-loop : tie.MeasureT-loop
 μ-loop t a b n s v₀ y₀ v y = n - y
 
 loop-holds : tie.Need-loop-holds Inv-loop μ-loop
-unfolding lessFrom
+unfolding subtractFrom
 loop-holds c = (omega arith, refl)
 
 loop-again : tie.Need-loop-again Inv-loop μ-loop

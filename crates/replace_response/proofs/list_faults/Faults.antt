@@ -11,7 +11,7 @@ use borrow.Author.Tests.{eqb-true, lt-ltb, le-ltb}
 use Rattle.refusal.specs.declared.Refusal.{Refusal}
 use Rattle.refusal.specs.declared.Answer.the-variants.{Refused}
 use Rattle.layout.specs.Shapes.{pick}
-use Rattle.workspace.specs.Answers.{Outcome, space, untouched, unlessAt}
+use Rattle.workspace.specs.Answers.{Outcome, workspace, untouched, unlessAt}
 use Rattle.replace_response.specs.finite.Found.{foundAt}
 use Rattle.replace_response.specs.list_faults.Faults.{lengthFault, wordFault, firstOf}
 
@@ -25,7 +25,7 @@ not-found {o} {i} {n} e h = rw (le-ltb i n h) at e
 module _ (h : List ℕ) (w : List Float) where
   -- go on where the number is 0
   abbrev pub unlessRefused : Refusal → Outcome → Outcome
-  unlessRefused f rest = pick (eqb f.number 0) rest (record { answer = Refused f; left = space h w })
+  unlessRefused f rest = pick (eqb f.number 0) rest (record { answer = Refused f; left = workspace h w })
 
   pub lengths : (a b c : Bool) (rest : Outcome)
       → pick a (pick b (pick c rest (untouched h w 13 2 0)) (untouched h w 13 1 0)) (untouched h w 13 0 0) ≡ unlessRefused (lengthFault a b c) rest
@@ -47,7 +47,7 @@ module _ (h : List ℕ) (w : List Float) where
   both f g rest = go (eqb f.number 0) refl
     where
       go : (b : Bool) → eqb (f .number) 0 ≡ b
-          → pick b (unlessRefused g rest) (record { answer = Refused f; left = space h w }) ≡ unlessRefused (pick b g f) rest
+          → pick b (unlessRefused g rest) (record { answer = Refused f; left = workspace h w }) ≡ unlessRefused (pick b g f) rest
       go true e = refl
       go false e = rw e refl
 

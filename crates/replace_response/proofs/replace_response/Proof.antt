@@ -1,17 +1,17 @@
 -- `replace_response::replace_response`: 20, or a workspace.
 use mathlib.Core.Path.{sym, _∙_}
-use Rattle.replace_response.proofs.Replaced.{not-headed}
+use Rattle.replace_response.proofs.Replaced.{not-valid-heading}
 use borrow.Author.Needs.{needs}
 use Rattle.replace_response.proofs.replace_response.Statement.{statement}
 use Rattle.replace_response.proofs.replace_response.Tie as tie
 
-replace-headed-requires : tie.Need-replace-headed-requires
-replace-headed-requires c κs = sym c.before.before.before.is-headed.ensures ∙ c.before.before.if1.taken
+replace-valid-requires : tie.Need-replace-valid-requires
+replace-valid-requires c κs = sym c.before.before.before.is-valid-heading.ensures ∙ c.before.before.if1.taken
 
 returns-2 : tie.Need-returns-2
 returns-2 c = let a = c.before.before.before.before.before.before.before.before.before.args in
-    not-headed a.h.now a.w.now a.zty.now a.xty.now a.yty.now (sym c.before.before.is-headed.ensures ∙ c.before.if1.left) _ c.refused.ensures
+    not-valid-heading a.heading.now a.doubles.now a.zty.now a.xty.now a.yty.now (sym c.before.before.is-valid-heading.ensures ∙ c.before.if1.left) _ c.refused.ensures
 
 pub replace-response-spec : {M : Type 1} → statement M
-replace-response-spec = tie.close (tie.spec (λ c κs. search needs) replace-headed-requires (λ c. search needs)
+replace-response-spec = tie.close (tie.spec (λ c κs. search needs) replace-valid-requires (λ c. search needs)
     (λ c. search needs) (λ c. search needs) (λ c κs. search needs) (λ c. search needs) returns-2)

@@ -12,8 +12,8 @@ use Rattle.storage.specs.Runs.{start, triangle}
 use Rattle.storage.proofs.Starts.{start-triangle}
 use Rattle.layout.specs.declared.Layout.{Layout}
 use Rattle.layout.specs.Shapes.{levels, loadedAt, loadedLength, loadedSizes}
-use Rattle.heading_format.specs.Heading.{lawful}
-use Rattle.heading_format.proofs.Lawful.{is-lawful}
+use Rattle.heading_format.specs.Heading.{validLayout}
+use Rattle.heading_format.proofs.Valid.{is-valid}
 use Rattle.layout.proofs.Places.{loaded-inside}
 use Rattle.layout.proofs.Formula.{fixed-size, last-size, loaded-other, loaded-last}
 use Rattle.workspace.specs.Loaded.{rowStart}
@@ -38,19 +38,19 @@ module _ (y : Layout) where
   pub last-within : (c : ℕ) → c ≤ y .p → loadedAt y (y .k) (y .k) + start triangle (y .p) + c < loadedLength y
   last-within c l = omega (arith, loaded-inside y y.k y.k (omega arith) (omega arith), last-cells)
 
-  pub few-blocks : lawful y ≡ true → y .k ≤ 8
-  few-blocks ok = is-lawful y ok .blocks .1
+  pub few-blocks : validLayout y ≡ true → y .k ≤ 8
+  few-blocks ok = is-valid y ok .blocks .1
 
-  pub few-effects : lawful y ≡ true → y .p ≤ 316
-  few-effects ok = omega (arith, is-lawful y ok .effects .1)
+  pub few-effects : validLayout y ≡ true → y .p ≤ 316
+  few-effects ok = omega (arith, is-valid y ok .effects .1)
 
   -- the first cell of factor j's fixed rows
-  pub first-within : lawful y ≡ true → (j : ℕ) → j < y .k → loadedAt y (y .k) j + y .p < loadedLength y
-  first-within ok j h = let l : 0 < levels y j = is-lawful y ok .level j h .0 in omega (arith, fixed-within j 0 h l)
+  pub first-within : validLayout y ≡ true → (j : ℕ) → j < y .k → loadedAt y (y .k) j + y .p < loadedLength y
+  first-within ok j h = let l : 0 < levels y j = is-valid y ok .level j h .0 in omega (arith, fixed-within j 0 h l)
 
 -- ---- the calls, each callee's answer being a number of its own
 
-module _ (y : Layout) (ok : lawful y ≡ true) (at len : ℕ) (room : loadedLength y ≤ len) where
+module _ (y : Layout) (ok : validLayout y ≡ true) (at len : ℕ) (room : loadedLength y ≤ len) where
   module _ (j n first rows : ℕ) (h : j < y .k) (a : at ≡ loadedAt y (y .k) j) (b : n ≡ levels y j) (f : first ≡ rowStart y j) where
     pub block-fits : rows ≡ y .q → (first + n ≤ rows) × ((c : ℕ) → c < n → at + y .p + c * (y .p + 1) < len)
     block-fits q = (omega (arith, rows-within y ok j h), λ c l. omega (arith, fixed-within y j c h (omega arith)))

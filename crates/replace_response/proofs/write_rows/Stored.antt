@@ -22,7 +22,7 @@ use Rattle.storage.proofs.Blocks.{length-fill, is-fill, cell-part}
 use Rattle.rules.specs.Arithmetic.{ieee}
 use Rattle.layout.specs.declared.Layout.{Layout}
 use Rattle.layout.specs.Shapes.{Target, target, levels, across, shape, loadedShape, loadedSizes, loadedLength, loadedAt}
-use Rattle.heading_format.specs.Heading.{layoutOf, entryRow, lawful}
+use Rattle.heading_format.specs.Heading.{layoutOf, entryRow, validLayout}
 use Rattle.layout.proofs.Places.{size-loaded, loaded-inside, loaded-apart}
 use Rattle.workspace.specs.Memory.{cellOf, loadedBlock}
 use Rattle.workspace.specs.Loaded.{rowStart, sheetRow}
@@ -204,7 +204,7 @@ module _ (h : List ℕ) (w zy xy yl : List Float) where
         outside (inl q) = inr (omega (arith, length-responded n))
         outside (inr q) = inl (omega arith)
 
-    module _ (ok : lawful y ≡ true) (rows : length zy ≡ y .q) where
+    module _ (ok : validLayout y ≡ true) (rows : length zy ≡ y .q) where
       -- the fixed rows of the first n factors
       fixed-stored : (n : ℕ) → n ≤ y .k → fixedRows y zy n w ≡ stored (across (y .k) n) w
       unfolding fixedRows fixedRow storeResponse across
@@ -227,7 +227,7 @@ module _ (h : List ℕ) (w zy xy yl : List Float) where
 
   -- ---- the whole response
 
-  pub rows-stored : lawful y ≡ true → loadedLength y ≤ length w → length zy ≡ y .q → length xy ≡ y .p → length yl ≡ 1
+  pub rows-stored : validLayout y ≡ true → loadedLength y ≤ length w → length zy ≡ y .q → length xy ≡ y .p → length yl ≡ 1
       → responseRows y zy xy yl w ≡ stored (across (y .k) (y .k) ++ (target (y .k) (y .k) ∷ [])) w
   unfolding responseRows lastAt
   rows-stored ok room rows effects one =

@@ -20,7 +20,7 @@ use Rattle.block_runs.proofs.blocks.Laws.{read-block, has-dense}
 use Rattle.block_runs.proofs.blocks.Runs.{Writing, writing-own, writing-more}
 use Rattle.block_runs.specs.axpy.Axpy.{at, run, products}
 use Rattle.block_runs.proofs.axpy.Sums.{sum-along, along-swap, summed}
-use Rattle.schur.specs.few_rows.Few.{rowSums, lessSum, lessSums}
+use Rattle.schur.specs.few_rows.Few.{rowSums, subtractSum, subtractSums}
 
 -- the sums of the products of one row of block a, made beside t and put there
 pub row-put : (w t t′ acc acc₁ acc₂ : List Float) (from k n a rows b r inner : ℕ) → n ≤ length acc → acc₁ ≡ run 0 n (λ i. ieee .zero) acc
@@ -41,10 +41,10 @@ two-rows {end} {cols} {n} {b} {t₀} {r} {from} {t} {from′} {t′} e more next
     (λ i l. refl) then)
 
 -- one column more
-pub column-less : {end rows cols : ℕ} {t₀ : List Float} {c to : ℕ} {t t′ : List Float} {to′ : ℕ} (sums : List Float)
-    → Writing 0 end (dense rows) cols (lessSums rows cols sums t₀) t₀ c to t → c < cols → to′ ≡ to + rows → t′ ≡ run to rows (lessSum to cols sums c t) t
-    → Writing 0 end (dense rows) cols (lessSums rows cols sums t₀) t₀ (c + 1) to′ t′
-column-less {end} {rows} {cols} {t₀} {c} {to} {t} sums e more next then =
+pub column-subtracted : {end rows cols : ℕ} {t₀ : List Float} {c to : ℕ} {t t′ : List Float} {to′ : ℕ} (sums : List Float)
+    → Writing 0 end (dense rows) cols (subtractSums rows cols sums t₀) t₀ c to t → c < cols → to′ ≡ to + rows → t′ ≡ run to rows (subtractSum to cols sums c t) t
+    → Writing 0 end (dense rows) cols (subtractSums rows cols sums t₀) t₀ (c + 1) to′ t′
+column-subtracted {end} {rows} {cols} {t₀} {c} {to} {t} sums e more next then =
     writing-more e more to rows _ (omega arith) refl next
     (λ i l.
     ap (λ (s : Float). ieee .minus s (at sums (start (dense cols) i + c)))
@@ -63,19 +63,19 @@ sum-read rows cols rule sums t room made r c h l =
     ∙ getD-cells (dense cols) rows rule r c nan h l
 
 -- the block at off, lent, less the sums
-pub few-less : (w y sums t : List Float) (off end rows cols a b inner : ℕ) → end ≡ off + sizeOf (columns rows cols) → end ≤ length w
+pub few-subtracted : (w y sums t : List Float) (off end rows cols a b inner : ℕ) → end ≡ off + sizeOf (columns rows cols) → end ≤ length w
     → sizeOf (columns cols rows) ≤ length t → sums ≡ store 0 (cells (dense cols) rows (rowSums a rows b cols inner w)) t
-    → y ≡ store 0 (cells (dense rows) cols (lessSums rows cols sums (take (end - off) (drop off w)))) (take (end - off) (drop off w))
+    → y ≡ store 0 (cells (dense rows) cols (subtractSums rows cols sums (take (end - off) (drop off w)))) (take (end - off) (drop off w))
     → putMid off (end - off) w y
     ≡ store off
     (fill (columns rows cols)
     (subtractDense ieee (block off (columns rows cols) w) (block a (columns rows inner) w) (block b (columns cols inner) w) inner))
     w
 unfolding fill
-few-less w y sums t off end rows cols a b inner e top room made so =
+few-subtracted w y sums t off end rows cols a b inner e top room made so =
     let P : List Float = take (end - off) (drop off w) in
-    let L : List Float = cells (dense rows) cols (lessSums rows cols sums P) in
-    let q : length L ≡ start (dense rows) cols = length-cells (dense rows) cols (lessSums rows cols sums P) in
+    let L : List Float = cells (dense rows) cols (subtractSums rows cols sums P) in
+    let q : length L ≡ start (dense rows) cols = length-cells (dense rows) cols (subtractSums rows cols sums P) in
     let k : off + 0 ≡ off = omega arith in
     ap (putMid off (end - off) w) so ∙ store-lent w off (end - off) 0 L (omega arith) (omega arith)
     ∙ ap₂ (λ (x : ℕ) (l : List Float). store x l w) k

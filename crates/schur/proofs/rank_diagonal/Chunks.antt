@@ -1,4 +1,4 @@
--- The rows of a diagonal, lessened some at a time: those before are done, those behind are as they were.
+-- The rows of a diagonal, subtracted from some at a time: those before are done, those behind are as they were.
 use Prim.Native.Nat.{ℕ, zero, suc, _+_, _≤_, _<_}
 use mathlib.Core.Path.{_≡_, sym, ap, ap₂, subst, _∙_}
 use mathlib.Core.Bool.{_&&_, not}
@@ -20,7 +20,7 @@ use Rattle.rules.specs.Sums.{sumFrom}
 use Rattle.block_runs.specs.blocks.Blocks.{block}
 use Rattle.block_runs.proofs.blocks.Laws.{read-block, has-diagonal}
 use Rattle.schur.specs.rank_diagonal.Diagonal.{subtractedDiagonal}
-use Rattle.schur.specs.rank_diagonal.Rows.{Summed, lessEach, lessRows, pivot, doneRows}
+use Rattle.schur.specs.rank_diagonal.Rows.{Summed, subtractEach, subtractRows, pivot, doneRows}
 
 -- n cells and m more
 tab-add : (n m : ℕ) (f : ℕ → Float) → tab n f ++ tab m (λ i. f (n + i)) ≡ tab (n + m) f
@@ -32,7 +32,7 @@ tab-add n (suc m) f =
 
 -- the rows less their sums, once the sums are over all columns
 pub each-row : (off : ℕ) (s : Shape) (a inner src from m : ℕ) (w t : List Float) → Summed s a src w from m inner t
-    → lessEach (off + from) m t w ≡ lessRows off s a inner src from m w
+    → subtractEach (off + from) m t w ≡ subtractRows off s a inner src from m w
 each-row off s a inner src from m w t so =
     ap (λ (l : List Float). store (off + from) l w)
     (tab-ext m _ _ (λ i h. ap (ieee.minus (getD w (off + from + i) nan)) (so i h)))
@@ -65,7 +65,7 @@ module _ (off n : ℕ) (s : Shape) (a inner src : ℕ) (w₀ : List Float) (fits
         (ap (part b (sizeOf s)) so
         ∙ part-else off (tab from new) w₀ (omega (arith, long, size)) b (sizeOf s) (⊎-elim (λ k. inr (omega (arith, long, size))) (λ k. inl k) h))
 
-    -- a pivot that is not lessened yet is read as it was
+    -- a pivot that is not done yet is read as it was
     own : (i : ℕ) → i < m → getD w (off + from + i) nan ≡ block off (diagonal n) w₀ (from + i) (from + i)
     own i h =
         ap (λ (l : List Float). getD l (off + from + i) nan) so
@@ -73,7 +73,7 @@ module _ (off n : ℕ) (s : Shape) (a inner src : ℕ) (w₀ : List Float) (fits
         ∙ read-block (diagonal n) off w₀ (from + i) (from + i) (off + from + i) (has-diagonal n (from + i) (omega arith)) fits
         (omega (arith, start-single (from + i)))
 
-    pub rows-more : (w′ : List Float) → w′ ≡ lessRows off s a inner src from m w → w′ ≡ doneRows off n s a inner src (from + m) w₀
+    pub rows-more : (w′ : List Float) → w′ ≡ subtractRows off s a inner src from m w → w′ ≡ doneRows off n s a inner src (from + m) w₀
     rows-more w′ e =
         e
         ∙ ap (λ (l : List Float). store (off + from) l w)
@@ -86,9 +86,9 @@ module _ (off n : ℕ) (s : Shape) (a inner src : ℕ) (w₀ : List Float) (fits
         ∙ ap (λ (l : List Float). store off l w₀) (tab-add from m new)
 
   -- all rows at once
-  pub rows-once : (t : List Float) → Summed s a src w₀ 0 n inner t → (w : List Float) → w ≡ lessEach off n t w₀ → w ≡ subtractedDiagonal off n s a inner src w₀
+  pub rows-once : (t : List Float) → Summed s a src w₀ 0 n inner t → (w : List Float) → w ≡ subtractEach off n t w₀ → w ≡ subtractedDiagonal off n s a inner src w₀
   rows-once t so w e =
       rows-all off n s a inner src w₀ w
       (subst (λ (k : ℕ). w ≡ doneRows off n s a inner src k w₀) (zero-add n)
       (rows-more 0 n (omega arith) w₀ (rows-none off n s a inner src w₀) w
-      (e ∙ ap (λ (k : ℕ). lessEach k n t w₀) (sym (add-zero off)) ∙ each-row off s a inner src 0 n w₀ t so)))
+      (e ∙ ap (λ (k : ℕ). subtractEach k n t w₀) (sym (add-zero off)) ∙ each-row off s a inner src 0 n w₀ t so)))

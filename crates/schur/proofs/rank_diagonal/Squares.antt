@@ -29,8 +29,8 @@ use Rattle.schur.specs.rank_diagonal.Rows.{plusSquare, Zeros, Summed, wi
 pub square-skipped : (cell v y : Float) → ieee .null cell ≡ true → y ≡ plusSquare true cell v y
 square-skipped cell v y h = ap (λ (b : Bool). cond (not b) (ieee.plus y (ieee.times v v)) y) (sym h)
 
-pub square-taken : (cell v y : Float) → ieee .null cell ≡ false → ieee .plus y (ieee .times v v) ≡ plusSquare true cell v y
-square-taken cell v y h = ap (λ (b : Bool). cond (not b) (ieee.plus y (ieee.times v v)) y) (sym h)
+pub square-added : (cell v y : Float) → ieee .null cell ≡ false → ieee .plus y (ieee .times v v) ≡ plusSquare true cell v y
+square-added cell v y h = ap (λ (b : Bool). cond (not b) (ieee.plus y (ieee.times v v)) y) (sym h)
 
 -- ---- one column
 

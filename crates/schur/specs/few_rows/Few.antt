@@ -13,9 +13,9 @@ abbrev pub rowSums : (a rows b cols inner : ℕ) → List Float → ℕ → ℕ 
 rowSums a rows b cols inner w r c = along (ieee .plus) (ieee .zero) (block b (columns cols inner) w c) (block a (columns rows inner) w r) inner
 
 -- cell i of column c, which starts at `to`: less sum c of row i
-abbrev pub lessSum : (to cols : ℕ) → List Float → (c : ℕ) → List Float → ℕ → Float
-lessSum to cols sums c t i = ieee .minus (at t (to + i)) (at sums (start (dense cols) i + c))
+abbrev pub subtractSum : (to cols : ℕ) → List Float → (c : ℕ) → List Float → ℕ → Float
+subtractSum to cols sums c t i = ieee .minus (at t (to + i)) (at sums (start (dense cols) i + c))
 
 -- cell i of column c of a block that lies from the list's start on
-abbrev pub lessSums : (rows cols : ℕ) → List Float → List Float → ℕ → ℕ → Float
-lessSums rows cols sums t c = lessSum (start (dense rows) c) cols sums c t
+abbrev pub subtractSums : (rows cols : ℕ) → List Float → List Float → ℕ → ℕ → Float
+subtractSums rows cols sums t c = subtractSum (start (dense rows) c) cols sums c t

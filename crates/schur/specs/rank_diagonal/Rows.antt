@@ -44,15 +44,15 @@ abbrev pub AddedEntry : (from m row : ℕ) (cell v : Float) (t t′ : List Float
 AddedEntry from m row cell v t t′ = (i : ℕ) → i < m → getD t′ i nan ≡ plusSquare (eqb (from + i) row) cell v (getD t i nan)
 
 -- the m doubles at `at` less those of t
-abbrev pub lessEach : (at m : ℕ) (t : List Float) → List Float → List Float
-lessEach at m t w = store at (tab m (λ i. ieee .minus (getD w (at + i) nan) (getD t i nan))) w
+abbrev pub subtractEach : (at m : ℕ) (t : List Float) → List Float → List Float
+subtractEach at m t w = store at (tab m (λ i. ieee .minus (getD w (at + i) nan) (getD t i nan))) w
 
 -- m pivots of the diagonal at off, row `from` first, less their sums over all columns
-abbrev pub lessRows : (off : ℕ) (s : Shape) (a inner src : ℕ) (from m : ℕ) → List Float → List Float
-lessRows off s a inner src from m w =
+abbrev pub subtractRows : (off : ℕ) (s : Shape) (a inner src : ℕ) (from m : ℕ) → List Float → List Float
+subtractRows off s a inner src from m w =
     store (off + from) (tab m (λ i. ieee .minus (getD w (off + from + i) nan) (sumOf s a src w (from + i) inner))) w
 
--- pivot r of the diagonal of n at off, once it is lessened
+-- pivot r of the diagonal of n at off, once its sum is subtracted
 abbrev pub pivot : (off n : ℕ) (s : Shape) (a inner src : ℕ) → List Float → ℕ → Float
 pivot off n s a inner src w r = subtractDiagonal ieee (loaded s src w) (block off (diagonal n) w) (block a s w) inner r r
 

@@ -79,7 +79,7 @@ padded-rest zero (x ∷ l) h = absurd (omega arith)
 padded-rest (suc n) [] h = ap (λ (z : List ℕ). 0 ∷ z) (padded-rest n [] (omega arith))
 padded-rest (suc n) (x ∷ l) h = ap (λ (z : List ℕ). x ∷ z) (padded-rest n l (omega arith))
 
--- stored into n noughts, a list of at most n numbers is that list, padded
+-- stored into n zeros, a list of at most n numbers is that list, padded
 pub stored : (n : ℕ) (l : List ℕ) → length l ≤ n → sets (replicate n 0) 0 l ≡ padded n l
 stored n l h =
     let r : length {A = ℕ} (replicate n 0) ≡ n = length-replicate n 0 in

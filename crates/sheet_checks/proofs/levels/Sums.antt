@@ -45,7 +45,7 @@ levels-sum (suc n) [] h =
 levels-sum (suc n) (b ∷ l) h =
     sum-front (λ i. getD (padded (suc n) (levelList (b ∷ l))) i 0) n ∙ ap (λ (x : ℕ). b .m + x) (levels-sum n l (omega arith))
 
--- Levels in range are at most 65535 each, and so are the noughts behind them.
+-- Levels in range are at most 65535 each, and so are the zeros behind them.
 pub levels-small : (n : ℕ) (l : List Block) → Each BlockInRange l → (i : ℕ) → getD (padded n (levelList l)) i 0 ≤ 65535
 unfolding padded levelList
 levels-small zero l a i = omega arith

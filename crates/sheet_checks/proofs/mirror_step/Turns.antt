@@ -24,7 +24,7 @@ use Rattle.layout.specs.Blocks.{padded}
 use Rattle.sheet_checks.specs.levels.Held.{levelList}
 use Rattle.sheet_checks.specs.mirror_cursor.Held.{held, entryOf, placeOf, Given, Levelled}
 use Rattle.sheet_checks.specs.mirror_cursor.Columns.{Below, Above, Column}
-use Rattle.sheet_checks.specs.mirror_cursor.Turns.{inGroup, InGroup, isUnfit, mirrors, isPassed, Blamed, Grouped, Pass, Turned}
+use Rattle.sheet_checks.specs.mirror_cursor.Turns.{inGroup, InGroup, isUnfit, mirrors, isPassed, FaultyOfPair, Grouped, Pass, Turned}
 use Rattle.sheet_checks.proofs.mirror_step.Columns.{last-or-before, one-index, Unmirrored, column-on, column-other, column-new, column-met, passed-unmirrored, entry-unmirrored}
 use Rattle.sheet_checks.proofs.mirror_step.Entries.{place-next, place-first, whole, counts-same, entry-line, rises, in-range, faulty-at, unmirrored-fault, unfit-fault}
 
@@ -90,19 +90,19 @@ module _ {base width : ℕ} {l : Line} {v : Bool} (told : Grouped base width l v
   above-fits h k = record { fits = omega (arith, high h) }
 
 -- what `is_unfit` says of a line, for every sheet with those levels
-abbrev pub Told : List ℕ → Line → Bool → Type 0
-Told m l u =
+abbrev pub Reported : List ℕ → Line → Bool → Type 0
+Reported m l u =
     (sheet : Sheet) (line : ℕ) → m ≡ padded 8 (levelList sheet.blocks) → length sheet.blocks ≤ 8
     → l .first < levelsOf sheet.blocks → l .second < levelsOf sheet.blocks → u ≡ isUnfit sheet (entryIn line l)
 
--- ---- the line to blame
+-- ---- the faulty line
 module _ {s : List ℕ} {z : Starts} {n i : ℕ} {l o : Line} {v : Bool} {r : ℕ} where
-  pub blame-passed : v ≡ isPassed l o → v ≡ true
-      → ((t : ℕ) → t < n → entryOf (held s) t .col ≡ o .first → entryOf (held s) t .row ≡ o .second → r ≡ entryOf (held s) t .line) → Blamed s z n i l o r
-  blame-passed e k number = record { passed = λ f. number; missing = λ f. absurd (false≢true (sym f ∙ sym e ∙ k)) }
+  pub faulty-passed : v ≡ isPassed l o → v ≡ true
+      → ((t : ℕ) → t < n → entryOf (held s) t .col ≡ o .first → entryOf (held s) t .row ≡ o .second → r ≡ entryOf (held s) t .line) → FaultyOfPair s z n i l o r
+  faulty-passed e k number = record { passed = λ f. number; missing = λ f. absurd (false≢true (sym f ∙ sym e ∙ k)) }
 
-  pub blame-missing : v ≡ isPassed l o → v ≡ false → r ≡ z .counts .k + 2 + i → Blamed s z n i l o r
-  blame-missing e k number = record { passed = λ f. absurd (false≢true (sym k ∙ e ∙ f)); missing = λ f. number }
+  pub faulty-missing : v ≡ isPassed l o → v ≡ false → r ≡ z .counts .k + 2 + i → FaultyOfPair s z n i l o r
+  faulty-missing e k number = record { passed = λ f. absurd (false≢true (sym k ∙ e ∙ f)); missing = λ f. number }
 
 -- ---- the number of an entry's line
 -- what `number_of` knows: no entry before i is the one that is sought
@@ -222,7 +222,7 @@ module _ {s : List ℕ} {z : Starts} {n : ℕ} (g : Given s z n) where
         outside x y w = false≢true (sym f ∙ is-group base (length cur) l.first l.second x y w)
 
     -- what `is_unfit` says of this entry
-    unfit-here : {m : List ℕ} {u : Bool} → Levelled s m → Told m l u → isUnfit (held s) (entryOf (held s) i) ≡ u
+    unfit-here : {m : List ℕ} {u : Bool} → Levelled s m → Reported m l u → isUnfit (held s) (entryOf (held s) i) ≡ u
     unfit-here k e =
         let r = in-range g i h in
         let c : held s .counts .q ≡ levelsOf (held s .blocks) = eqb-true (held s .counts .q) (levelsOf (held s .blocks)) k.covers in
@@ -230,13 +230,13 @@ module _ {s : List ℕ} {z : Starts} {n : ℕ} (g : Given s z n) where
         ∙ sym (e (held s) (z.counts.k + 2 + i) k.levels (omega (arith, whole g .shape .blocks-length, whole g .shape .counts .k))
         (omega (arith, r.col, c, col-here)) (omega (arith, r.row, c, row-here)))
 
-    pub turn-unfit : {m : List ℕ} {u : Bool} → Levelled s m → Told m l u → u ≡ true
+    pub turn-unfit : {m : List ℕ} {u : Bool} → Levelled s m → Reported m l u → u ≡ true
         → Turned s z base cur cur i (record { due = due; next = l .next; fault = z .counts .k + 2 + i })
     turn-unfit k e t =
         stopped cur (z.counts.k + 2 + i) (faulty-here i _ h refl (unfit-fault (held s) (entryOf (held s) i) (unfit-here k e ∙ t))) (omega arith)
 
     -- below the diagonal: the first of its column, or a later one
-    module _ {m : List ℕ} {u : Bool} (known : Levelled s m) (e : Told m l u) (fit : u ≡ false) {v : Bool} (told : Grouped base (length cur) l v) (taken : v ≡ true) where
+    module _ {m : List ℕ} {u : Bool} (known : Levelled s m) (e : Reported m l u) (fit : u ≡ false) {v : Bool} (told : Grouped base (length cur) l v) (taken : v ≡ true) where
       w : inGroup base (length cur) (l .first) (l .second) ≡ true
       w = sym told.same ∙ taken
 
@@ -331,9 +331,9 @@ module _ {s : List ℕ} {z : Starts} {n : ℕ} (g : Given s z n) where
                 (λ a. x (omega (arith, a, row-here))) (λ d a. omega (arith, a, col-here, row-here)))
 
         -- it does not meet its mirror: one of the two has none
-        pub turn-unmet : {t : Bool} {r : ℕ} → Blamed s z n i l o r → t ≡ mirrors l o → t ≡ false
+        pub turn-unmet : {t : Bool} {r : ℕ} → FaultyOfPair s z n i l o r → t ≡ mirrors l o → t ≡ false
             → Turned s z base cur cur i (record { due = due; next = l .next; fault = r })
-        turn-unmet {t} {r} blame x v = go (isPassed l o) refl
+        turn-unmet {t} {r} faulty x v = go (isPassed l o) refl
           where
             col : entryOf (held s) (own .x) .col ≡ o .first
             col = ap (λ (k : Entry). k .col) at-cursor
@@ -358,6 +358,6 @@ module _ {s : List ℕ} {z : Starts} {n : ℕ} (g : Given s z n) where
             go : (k : Bool) → isPassed l o ≡ k → Turned s z base cur cur i (record { due = due; next = l .next; fault = r })
             go true k =
                 let d : own .x < n = omega (arith, own.within, g.count) in
-                let e = blame.passed k own.x d col row ∙ ap (λ (q : Entry). q .line) at-cursor in
+                let e = faulty.passed k own.x d col row ∙ ap (λ (q : Entry). q .line) at-cursor in
                 stopped cur r (faulty-here own.x r d e (unmirrored-fault (held s) own.x (passed k))) (omega arith)
-            go false k = let e = blame.missing k in stopped cur r (faulty-here i r h e (unmirrored-fault (held s) i (missing k))) (omega arith)
+            go false k = let e = faulty.missing k in stopped cur r (faulty-here i r h e (unmirrored-fault (held s) i (missing k))) (omega arith)

@@ -38,8 +38,8 @@ mirrors l o = eqb (o .first) (l .second) && (eqb (o .second) (l .first) && eqb (
 abbrev pub isPassed : Line → Line → Bool
 isPassed l o = eqb (o .first) (l .second) && (ltb (l .second) (o .second) && ltb (o .second) (l .first))
 
--- the line to blame where entry i, in the line l, does not meet its mirror in the line o
-pub record Blamed (s : List ℕ) (z : Starts) (n i : ℕ) (l o : Line) (r : ℕ) : Type 0 where
+-- the faulty line where entry i, in the line l, does not meet its mirror in the line o
+pub record FaultyOfPair (s : List ℕ) (z : Starts) (n i : ℕ) (l o : Line) (r : ℕ) : Type 0 where
   pub passed : isPassed l o ≡ true → (t : ℕ) → t < n → entryOf (held s) t .col ≡ o .first → entryOf (held s) t .row ≡ o .second → r ≡ entryOf (held s) t .line
   pub missing : isPassed l o ≡ false → r ≡ z .counts .k + 2 + i
 

@@ -12,7 +12,7 @@ use Rattle.sheet.specs.declared.Field.{Field}
 use Rattle.sheet.specs.declared.Line.{Line}
 use Rattle.sheet.specs.Field.{nowhere, unfound, found, onDigit, cap, digitOf, digitsFrom, numberAt, isFinite}
 use Rattle.sheet.specs.Line.{zzTag, tab, tagTo, numberTo, inForm, pairLine, singleLine, bareLine, verdictOf}
-use Rattle.sheet.specs.Run.{isBetween, reaches, blockVerdict, givenVerdict, passOf, linesOf, rowFrom, rowsFrom, entryVerdict, entriesFrom}
+use Rattle.sheet.specs.Run.{isBetween, notBefore, blockVerdict, prescribedVerdict, passOf, linesOf, rowFrom, rowsFrom, entryVerdict, entriesFrom}
 use Rattle.sheet.proofs.Lines.{lines-stay, lines-append, row-length}
 use Rattle.sheet.proofs.Enough.{refused-ends}
 use Rattle.sheet_reader.specs.line_verdict.Words.{lineOf}
@@ -43,13 +43,13 @@ module _ (l : Line) (c r : Cursor) (number : ℕ) (e : r ≡ passOf c number (l 
       → number ≡ verdictOf (inForm (l .next)) true (levels && effects) → r ≡ passOf c (blockVerdict (0, 0) l) (l .next)
   block-passed levels effects p q v = cc
 
-  pub entry-passed : (q col row : ℕ) (rises finite : Bool) → rises ≡ reaches col row (l .first) (l .second) → finite ≡ isFinite (l .word)
+  pub entry-passed : (q col row : ℕ) (rises finite : Bool) → rises ≡ notBefore col row (l .first) (l .second) → finite ≡ isFinite (l .word)
       → number ≡ verdictOf (inForm (l .next) && rises) finite (ltb (l .first) q && ltb (l .second) q) → r ≡ passOf c (entryVerdict q col row l) (l .next)
   entry-passed q col row rises finite p f v = cc
 
-  pub given-passed : (row col : ℕ) (finite : Bool) → finite ≡ isFinite (l .word)
-      → number ≡ verdictOf (inForm (l .next) && eqb (l .first) row && eqb (l .second) col) finite true → r ≡ passOf c (givenVerdict (row, col) l) (l .next)
-  given-passed row col finite f v = cc
+  pub prescribed-passed : (row col : ℕ) (finite : Bool) → finite ≡ isFinite (l .word)
+      → number ≡ verdictOf (inForm (l .next) && eqb (l .first) row && eqb (l .second) col) finite true → r ≡ passOf c (prescribedVerdict (row, col) l) (l .next)
+  prescribed-passed row col finite f v = cc
 
 -- ---- a line by how many numbers it has
 module _ (t s : List ℕ) (numbers at : ℕ) (l : Line) where

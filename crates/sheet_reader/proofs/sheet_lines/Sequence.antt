@@ -17,8 +17,8 @@ use Rattle.sheet.specs.declared.Size.{Size}
 use Rattle.sheet.specs.declared.Starts.{Starts}
 use Rattle.sheet.specs.Field.{nowhere}
 use Rattle.sheet.specs.Line.{blockLine, zzTag, zxTag, zyTag, xxTag, xyTag, yyTag, tagTo, inForm, sizeLine, pairLine}
-use Rattle.sheet.specs.Run.{ended, before, entryIn, givenVerdict, wordIn, passOf, rowFrom, rowsFrom, entryVerdict, blockVerdict, blockIn, isBetween, blocksOf, entriesFrom, wordsOf}
-use Rattle.sheet.specs.Sheet.{Sheet, Outcome, accepted, refused, countsWithin, settled, readLines, readSheet, alone, sheetOf}
+use Rattle.sheet.specs.Run.{ended, before, entryIn, prescribedVerdict, wordIn, passOf, rowFrom, rowsFrom, entryVerdict, blockVerdict, blockIn, isBetween, blocksOf, entriesFrom, wordsOf}
+use Rattle.sheet.specs.Sheet.{Sheet, Outcome, accepted, refused, countsWithin, outcomeAt, readLines, readSheet, alone, sheetOf}
 use Rattle.sheet.specs.Answer.{readingOf}
 use Rattle.sheet.proofs.Lines.{both, row-length, grid-length}
 use Rattle.sheet_reader.specs.line_verdict.Words.{lineOf}
@@ -80,7 +80,7 @@ module _ (first step n : ℕ) (c : Cursor) (few : n * (first + step * n) ≤ 167
 
   words-line : (read : ℕ → Line) {d : Cursor} → d ≡ wordsOf read (λ i. first + step * i) n c .past → d .line ≤ c .line + 16776960
   words-line read e =
-      omega (arith, rows-most first step 0 n, lines-line read givenVerdict wordIn (rowsFrom (λ i. first + step * i) 0 n) c, ap (λ (x : Cursor). x .line) e)
+      omega (arith, rows-most first step 0 n, lines-line read prescribedVerdict wordIn (rowsFrom (λ i. first + step * i) 0 n) c, ap (λ (x : Cursor). x .line) e)
 
 -- each run is read from the cursor past the one before
 module _ (s : List ℕ) (z : Counts) (c zz : Cursor) (short : length s ≤ 16777216) (start : c .line ≡ 2) (small : Small z) (e₁ : zz ≡ blocksOf s (z .k) c .past) where
@@ -132,7 +132,7 @@ module _ (s : List ℕ) (z : Counts) (c zz : Cursor) (short : length s ≤ 16777
             yy-room = words-room 1 0 1 yy (omega arith) (omega (arith, zx-line, zy-line, xx-line, xy-line, yy-line))
 
 -- ---- the outcome at the end
-read-off : (c : Cursor) (sheet : Sheet) (starts : Starts) → readingOf (settled c sheet starts) ≡ readingAt c starts
+read-off : (c : Cursor) (sheet : Sheet) (starts : Starts) → readingOf (outcomeAt c sheet starts) ≡ readingAt c starts
 read-off c sheet starts = go (eqb c.number 0)
   where
     go : (t : Bool) → readingOf (cond t (accepted sheet starts) (refused (c .number) (c .line))) ≡ cond t (Read starts) (Refused (c .number) (c .line))

@@ -12,7 +12,7 @@ use Rattle.sheet.specs.declared.Cursor.{Cursor}
 use Rattle.sheet.specs.declared.Line.{Line}
 use Rattle.sheet.specs.Field.{cap, nowhere, digitOf, numberAt, wordAt, tagAt}
 use Rattle.sheet.specs.Line.{tab, lf, blockTag, tagTo, numberTo, wordTo, inForm, blockLine, pairLine, singleLine, bareLine}
-use Rattle.sheet.specs.Run.{Block, Run, passOf, linesOf, givenVerdict, wordIn}
+use Rattle.sheet.specs.Run.{Block, Run, passOf, linesOf, prescribedVerdict, wordIn}
 use Rattle.sheet.specs.Whole.{Finite}
 use Rattle.factor_output.specs.Print.{number, hexadecimal}
 use Rattle.text_output.proofs.Numbers.{hexadecimal-length}
@@ -147,16 +147,16 @@ module _ {A : Type 0} (s : List ℕ) (read : ℕ → Line) (verdict : ℕ × ℕ
       })
 
 -- ---- words whose indexes are prescribed
-given-passes : (s : List ℕ) (l : Line) (i : ℕ × ℕ) (w : ℕ) {rest : List ℕ} → length s ≤ 16777216 → Finite w → Reads s l (i .0) (i .1) w rest → givenVerdict i l ≡ 0
-given-passes s l i w short fin r =
+prescribed-passes : (s : List ℕ) (l : Line) (i : ℕ × ℕ) (w : ℕ) {rest : List ℕ} → length s ≤ 16777216 → Finite w → Reads s l (i .0) (i .1) w rest → prescribedVerdict i l ≡ 0
+prescribed-passes s l i w short fin r =
     rw (in-form short r.past, r.first, r.second, r.word, eq-eqb i.0 i.0 refl, eq-eqb i.1 i.1 refl, fin)
 
 module _ (s : List ℕ) (short : length s ≤ 16777216) (read : ℕ → Line) (line : ℕ × ℕ → ℕ → List ℕ → List ℕ) (Q : ℕ × ℕ → Type 0)
     (one : (at : ℕ) (i : ℕ × ℕ) (w : ℕ) (rest : List ℕ) → Q i → w < 2 ^ 64 → From s at (line i w rest) → Reads s (read at) (i .0) (i .1) w rest) where
   pub words-back : (is : List (ℕ × ℕ)) (ws : List ℕ) (c : Cursor) (rest : List ℕ) → Both (λ i w. Q i × Word w) is ws → c .number ≡ 0
-      → From s (c .at) (linesText line is ws rest) → ReadBack s (linesOf read givenVerdict wordIn is c) ws (c .line) rest
+      → From s (c .at) (linesText line is ws rest) → ReadBack s (linesOf read prescribedVerdict wordIn is c) ws (c .line) rest
   words-back =
-      lines-back s read givenVerdict wordIn line (λ i w. Q i × Word w)
+      lines-back s read prescribedVerdict wordIn line (λ i w. Q i × Word w)
       (λ n at i w rest q f.
       let r = one at i w rest q.0 q.1.0 f in
-      (given-passes s (read at) i w short q.1.1 r, r.word, r.past))
+      (prescribed-passes s (read at) i w short q.1.1 r, r.word, r.past))

@@ -170,13 +170,13 @@ word-digits-only end (suc n) v at (b ∷ l) h = go (ltb (digitOf b) 16) refl (wo
         let m = more h in
         let p : 16 ^ suc n ≡ 16 ^ n * 16 = pow-suc 16 n in
         let most : d ≤ 15 = omega arith in
-        let turned : 16 ^ suc n ≡ 16 * 16 ^ n = omega arith in
+        let regrouped : 16 ^ suc n ≡ 16 * 16 ^ n = omega arith in
         record {
           x = d * 16 ^ n + m .x;
           rest = m.rest;
           below = omega (arith, m.below, mul-le-mul-right (16 ^ n) most);
           so = ap₂ (λ (c : ℕ) (y : List ℕ). c ∷ y) (digit-byte b low) m.so ∙ ap (λ (y : List ℕ). y ++ (end ∷ m .rest)) (sym (hex-front n d m.x low m.below));
-          value = omega (arith, m.value, add-mul (v * 16) d (16 ^ n), mul-assoc v 16 (16 ^ n), ap (λ (y : ℕ). v * y) turned);
+          value = omega (arith, m.value, add-mul (v * 16) d (16 ^ n), mul-assoc v 16 (16 ^ n), ap (λ (y : ℕ). v * y) regrouped);
           next = omega (arith, m.next);
         }
     go false e more h = absurd (h refl)

@@ -13,7 +13,7 @@ use Rattle.sheet.specs.declared.Line.{Line}
 use Rattle.sheet.specs.declared.Starts.{Starts}
 use Rattle.sheet.specs.Field.{cap, isFinite}
 use Rattle.sheet.specs.Line.{zzTag, zxTag, zyTag, xxTag, xyTag, yyTag, tagTo, inForm, sizeLine, blockLine, pairLine, singleLine, bareLine, verdictOf}
-use Rattle.sheet.specs.Run.{Block, Entry, Run, ended, before, passOf, linesOf, entryIn, reaches, entryVerdict, entriesFrom, blockIn, blockVerdict, isBetween, wordIn, givenVerdict, blocksOf, wordsOf, rowFrom, rowsFrom}
+use Rattle.sheet.specs.Run.{Block, Entry, Run, ended, before, passOf, linesOf, entryIn, notBefore, entryVerdict, entriesFrom, blockIn, blockVerdict, isBetween, wordIn, prescribedVerdict, blocksOf, wordsOf, rowFrom, rowsFrom}
 use Rattle.sheet.specs.Sheet.{Sheet, accepted, refused, countsWithin, readLines, afterSize, readSheet, sheetOf}
 use Rattle.sheet.specs.Whole.{Each, InRange, Finite, Whole}
 use Rattle.sheet.proofs.Lines.{both, in-order, passed, ran, grid-length}
@@ -59,8 +59,8 @@ module _ {A : Type 0} (s : List ℕ) (read : ℕ → Line) (verdict : ℕ × ℕ
       }
 
 -- ---- words whose indexes are prescribed
-given-says : (i : ℕ × ℕ) (l : Line) → givenVerdict i l ≡ 0 → (inForm (l .next) ≡ true) × (l .first ≡ i .0) × (l .second ≡ i .1) × Finite (l .word)
-given-says i l v =
+prescribed-says : (i : ℕ × ℕ) (l : Line) → prescribedVerdict i l ≡ 0 → (inForm (l .next) ≡ true) × (l .first ≡ i .0) × (l .second ≡ i .1) × Finite (l .word)
+prescribed-says i l v =
     let o = in-order (inForm l.next && eqb l.first i.0 && eqb l.second i.1) (isFinite l.word) true v in
     let x = both _ (eqb l.second i.1) o.0 in
     let y = both (inForm l.next) (eqb l.first i.0) x.0 in
@@ -71,10 +71,10 @@ module _ (s : List ℕ) (short : length s ≤ 16777216) where
       → wordsOf (pairLine t s) width n c .past .number ≡ 0
       → Stands s (linesText (pairText t) (rowsFrom width 0 n)) Word (c .at) (wordsOf (pairLine t s) width n c .past .at) (wordsOf (pairLine t s) width n c .items)
   pairs-only t width n c long few thin =
-      lines-only s (pairLine t s) givenVerdict wordIn (pairText t) (Within width n) Word
+      lines-only s (pairLine t s) prescribedVerdict wordIn (pairText t) (Within width n) Word
       (λ k at i p v.
       let l = pairLine t s at in
-      let g = given-says i l v in
+      let g = prescribed-says i l v in
       let o = pair-at s short t at long g.0 (omega (arith, g.1, p.0)) (omega (arith, g.2, p.1, thin i.0 p.0)) in
       (rw (sym g.1, sym g.2) o.0, o.1, (o.2, g.3)))
       (rowsFrom width 0 n) c (rows-within width n 0 n (omega arith))
@@ -82,10 +82,10 @@ module _ (s : List ℕ) (short : length s ≤ 16777216) where
   singles-only : (t : List ℕ) (n : ℕ) (c : Cursor) → 0 < length t → n ≤ cap → c .at ≤ length s → wordsOf (singleLine t s) (λ r. 1) n c .past .number ≡ 0
       → Stands s (linesText (singleText t) (rowsFrom (λ r. 1) 0 n)) Word (c .at) (wordsOf (singleLine t s) (λ r. 1) n c .past .at) (wordsOf (singleLine t s) (λ r. 1) n c .items)
   singles-only t n c long few =
-      lines-only s (singleLine t s) givenVerdict wordIn (singleText t) (Within (λ r. 1) n) Word
+      lines-only s (singleLine t s) prescribedVerdict wordIn (singleText t) (Within (λ r. 1) n) Word
       (λ k at i p v.
       let l = singleLine t s at in
-      let g = given-says i l v in
+      let g = prescribed-says i l v in
       let o = single-at s short t at long g.0 (omega (arith, g.1, p.0)) in
       (rw (sym g.1) o.0, o.1, (o.2, g.3)))
       (rowsFrom (λ r. 1) 0 n) c (rows-within (λ r. 1) n 0 n (omega arith))
@@ -93,9 +93,9 @@ module _ (s : List ℕ) (short : length s ≤ 16777216) where
   bare-only : (t : List ℕ) (c : Cursor) → 0 < length t → c .at ≤ length s → wordsOf (bareLine t s) (λ r. 1) 1 c .past .number ≡ 0
       → Stands s (linesText (bareText t) (rowsFrom (λ r. 1) 0 1)) Word (c .at) (wordsOf (bareLine t s) (λ r. 1) 1 c .past .at) (wordsOf (bareLine t s) (λ r. 1) 1 c .items)
   bare-only t c long =
-      lines-only s (bareLine t s) givenVerdict wordIn (bareText t) (Within (λ r. 1) 1) Word
+      lines-only s (bareLine t s) prescribedVerdict wordIn (bareText t) (Within (λ r. 1) 1) Word
       (λ k at i p v.
-      let g = given-says i (bareLine t s at) v in
+      let g = prescribed-says i (bareLine t s at) v in
       let o = bare-at s short t at long g.0 in
       (o.0, o.1, (o.2, g.3)))
       (rowsFrom (λ r. 1) 0 1) c (rows-within (λ r. 1) 1 0 1 (omega arith))
@@ -138,11 +138,11 @@ module _ (s : List ℕ) (short : length s ≤ 16777216) where
           let v = entryVerdict q col row l in
           let d = passOf c v l.next in
           let p = passed c v l.next (listed s q left l.first (l.second + 1) d g .open-before) in
-          let o = in-order (inForm l.next && reaches col row l.first l.second) (isFinite l.word) (ltb l.first q && ltb l.second q) p.verdict in
+          let o = in-order (inForm l.next && notBefore col row l.first l.second) (isFinite l.word) (ltb l.first q && ltb l.second q) p.verdict in
           let w = both (ltb l.first q) (ltb l.second q) o.2 in
           let a = ltb-true l.first q w.0 in
           let b = ltb-true l.second q w.1 in
-          let x = pair-at s short zzTag c.at (omega arith) (both (inForm l.next) (reaches col row l.first l.second) o.0 .0) (omega arith) (omega arith) in
+          let x = pair-at s short zzTag c.at (omega arith) (both (inForm l.next) (notBefore col row l.first l.second) o.0 .0) (omega arith) (omega arith) in
           let next : d .at ≡ l .next = ap (λ (y : Cursor). y .at) p.after in
           let m = rest (omega (arith, x.1)) g in
           record {

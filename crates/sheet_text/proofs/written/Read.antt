@@ -13,7 +13,7 @@ use Rattle.sheet.specs.declared.Starts.{Starts}
 use Rattle.sheet.specs.Field.{cap, tagAt}
 use Rattle.sheet.specs.Line.{tab, lf, sizeTag, zzTag, zxTag, zyTag, xxTag, xyTag, yyTag, inForm, sizeLine, blockLine, pairLine, singleLine, bareLine}
 use Rattle.sheet.specs.Run.{Block, Entry, blockIn, blockVerdict, blocksOf, wordsOf, rowFrom, rowsFrom, entriesFrom}
-use Rattle.sheet.specs.Sheet.{Sheet, accepted, countsWithin, settled, readLines, readSheet, sheetOf}
+use Rattle.sheet.specs.Sheet.{Sheet, accepted, countsWithin, outcomeAt, readLines, readSheet, sheetOf}
 use Rattle.sheet.specs.Whole.{Each, InRange, BlockInRange}
 use Rattle.factor_output.specs.Print.{number, hexadecimal}
 use Rattle.sheet.proofs.Lines.{grid-length, triangle-length}
@@ -75,8 +75,8 @@ entries-short (e ∷ es) rest =
     let r = entriesText es rest in
     omega (arith, entries-short es rest, tail-short (hexadecimal 16 e.word) (lf ∷ r), tail-short (number e.row) (tab ∷ wordText e.word r), tail-short (number e.col) (tab ∷ numberText e.row tab (wordText e.word r)))
 
-settled-at : (c : Cursor) (a sheet : Sheet) (b : Starts) → c .number ≡ 0 → a ≡ sheet → settled c a b ≡ accepted sheet b
-settled-at c a sheet b e h = rw (eq-eqb c.number 0 e, h)
+outcome-at : (c : Cursor) (a sheet : Sheet) (b : Starts) → c .number ≡ 0 → a ≡ sheet → outcomeAt c a b ≡ accepted sheet b
+outcome-at c a sheet b e h = rw (eq-eqb c.number 0 e, h)
 
 -- ---- the runs of a sheet, wherever they stand in the bytes
 module _ (s : List ℕ) (short : length s ≤ 16777216) where
@@ -146,7 +146,7 @@ module _ (s : List ℕ) (short : length s ≤ 16777216) where
       let x4 = singles-back xyTag z.p sheet.xy xx.past _ (omega arith) h.xy-length h.xy x3.number x3.past in
       let x5 = bare-back yyTag sheet.yy xy.past rest h.yy x4.number x4.past in
       let same : getD yy.items 0 0 ≡ sheet .yy = ap (λ (l : List ℕ). getD l 0 0) x5.items in
-      (_, settled-at yy.past _ sheet _ x5.number (rw (b.items, e.items, x1.items, x2.items, x3.items, x4.items, same)), x5.past)
+      (_, outcome-at yy.past _ sheet _ x5.number (rw (b.items, e.items, x1.items, x2.items, x3.items, x4.items, same)), x5.past)
 
   read-at : (sheet : Sheet) (rest : List ℕ) → InForm sheet → From s 0 (sheetText sheet rest)
       → (starts : Starts) × (readSheet s ≡ accepted sheet starts) × From s (starts .end) rest

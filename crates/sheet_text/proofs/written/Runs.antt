@@ -11,7 +11,7 @@ use borrow.Author.Tests.{lt-ltb, le-ltb, le-leb, eq-eqb}
 use Rattle.sheet.specs.declared.Cursor.{Cursor}
 use Rattle.sheet.specs.declared.Line.{Line}
 use Rattle.sheet.specs.Line.{zzTag, tagTo, inForm, pairLine}
-use Rattle.sheet.specs.Run.{Entry, rowFrom, rowsFrom, reaches, entryVerdict, entriesFrom}
+use Rattle.sheet.specs.Run.{Entry, rowFrom, rowsFrom, notBefore, entryVerdict, entriesFrom}
 use Rattle.sheet.specs.Whole.{Each, EntryInRange, Earlier, Rising}
 use Rattle.sheet_text.specs.written.Written.{entriesText, Word, Numbered}
 use Rattle.sheet_text.proofs.written.Lines.{From, in-form, tag-from, Reads, pair-from, Both, pass-on, ReadBack}
@@ -53,14 +53,14 @@ rows-both width n Q W f xs e b = both-each (Within width n) Q W (λ i h. f i h.0
 -- the first entry comes no earlier than (col, row)
 abbrev Reached : ℕ → ℕ → List Entry → Type 0
 Reached col row [] = Unit {0}
-Reached col row (e ∷ es) = reaches col row e.col e.row ≡ true
+Reached col row (e ∷ es) = notBefore col row e.col e.row ≡ true
 
 first-reached : (es : List Entry) → Reached 0 0 es
 first-reached [] = tt
 first-reached (e ∷ es) =
     by-cases (decLt 0 e.col) (λ l. rw (lt-ltb 0 e.col l)) (λ l. rw (le-ltb 0 e.col (omega arith), eq-eqb 0 e.col (omega arith), le-leb 0 e.row (omega arith)))
 
-later : (a b : Entry) → Earlier a b → reaches (a .col) (a .row + 1) (b .col) (b .row) ≡ true
+later : (a b : Entry) → Earlier a b → notBefore (a .col) (a .row + 1) (b .col) (b .row) ≡ true
 later a b (inl h) = rw (lt-ltb a.col b.col h)
 later a b (inr h) = rw (le-ltb a.col b.col (omega arith), eq-eqb a.col b.col h.0, le-leb (a.row + 1) b.row (omega arith))
 
@@ -72,7 +72,7 @@ entry-same : (e : Entry) (n : ℕ) → e .line ≡ n → record { line = n; col 
 entry-same e n h = rw (sym h)
 
 module _ (s : List ℕ) (short : length s ≤ 16777216) (q : ℕ) (few : q ≤ 524280) where
-  entry-passes : (e : Entry) (l : Line) (col row : ℕ) {rest : List ℕ} → EntryInRange q e → Word (e .word) → reaches col row (e .col) (e .row) ≡ true
+  entry-passes : (e : Entry) (l : Line) (col row : ℕ) {rest : List ℕ} → EntryInRange q e → Word (e .word) → notBefore col row (e .col) (e .row) ≡ true
       → Reads s l (e .col) (e .row) (e .word) rest → entryVerdict q col row l ≡ 0
   entry-passes e l col row h w g r =
       rw (in-form short r.past, r.first, r.second, r.word, g, w.1, lt-ltb e.col q h.col, lt-ltb e.row q h.row)

@@ -21,7 +21,7 @@ use Rattle.refusal.specs.declared.Answer.the-variants.{Accepted}
 use Rattle.rules.specs.Arithmetic.{ieee}
 use Rattle.sheet.specs.declared.Reading.{Reading}
 use Rattle.sheet.specs.declared.Reading.the-variants.{Sheet as Read, Refused as Unread}
-use Rattle.sheet.specs.Fault.{refusalOf}
+use Rattle.sheet.specs.Fault.{faultNumber}
 use Rattle.sheet.specs.Answer.{Answers}
 use Rattle.workspace.specs.Memory.{Workspace}
 use Rattle.workspace.specs.Loaded.{double}
@@ -120,7 +120,7 @@ load-printed : (s : List ℕ) (sheet : Sheet) (ws : List ℕ) → Input s sheet 
 load-printed s sheet ws i starts f a v e = rw e (theta-printed s sheet ws i starts f v)
 
 -- An input in form whose sheet is without a fault, and fits: begin with its theta, the steps and the pivots are what is printed.
-pub input-printed : (s : List ℕ) (sheet : Sheet) (ws : List ℕ) → Input s sheet ws → refusalOf sheet ≡ 0
+pub input-printed : (s : List ℕ) (sheet : Sheet) (ws : List ℕ) → Input s sheet ws → faultNumber sheet ≡ 0
     → let o = loadSheet sheet (replicate numbersHeld 0) (replicate doublesHeld (ieee .zero)) in
     o .answer ≡ Accepted → (out : List ℕ) → Prints s out → out ≡ factorWith (o .left) (sheet .counts .k) (map double ws)
 unfolding printOf

@@ -1,4 +1,4 @@
--- A sheet as the text that document 01's Record 1 describes, and when a sheet is in form. Nothing here reads: proofs/Read.antt shows that the reader
+-- A sheet as the text that document 01's Record 1 describes, and when a sheet is in form. Nothing here reads: proofs/written/Read.antt shows that the reader
 -- of sheets accepts each such text, and reads the sheet out of it again.
 use Prim.Native.Nat.{ℕ, _+_, _*_, _/_, _^_, _<_}
 use mathlib.Core.Path.{_≡_}

@@ -19,7 +19,7 @@ use Rattle.rules.specs.Sums.{dot}
 use Rattle.rules.specs.Cholesky.{at as entryOf}
 use Rattle.block_runs.specs.axpy.Axpy.{at, run}
 use Rattle.block_runs.proofs.axpy.Sums.{read-run}
-use Rattle.cross_matvec.specs.Products.{lessProductT, columnSum}
+use Rattle.cross_matvec.specs.Products.{subtractedProductT, columnSum}
 use Rattle.cross_matvec.proofs.Vectors.{run-else}
 use Rattle.layout.specs.declared.Layout.{Layout}
 use Rattle.layout.specs.Shapes.{loadedShape, loadedAt}
@@ -29,7 +29,7 @@ use Rattle.heading_format.specs.Fits.{Fits}
 use Rattle.block_places.proofs.block_kinds.Workspace.{fits-room}
 use Rattle.replace_response.proofs.write_rows.Cells.{last-cells}
 use Rattle.profile.specs.Finish.{vOf, wOf, crossProduct, fixedTriangle, fixedRhs}
-use Rattle.solution_vectors.specs.result_places.Places.{factorAt, responseAt, solvedAt, wholeLength, Solved, Products}
+use Rattle.solution_vectors.specs.result_places.Places.{lxAt, responseAt, wAt, resultLengthOf, Solved, Products}
 use Rattle.solution_vectors.proofs.result_places.Parts.{column-at, solved-behind, solved-inside}
 use Rattle.cross_matvec.proofs.own_products.Cells.{dot-swap, sum-lists, product-long, product-else, product-part, product-cell}
 use Rattle.solution_finish.specs.fixed_rows.Fixing.{Fixing}
@@ -63,13 +63,13 @@ module _ (h : List ℕ) (w : List Float) (y : Layout) (e : y ≡ layoutOf h) (fi
   kept : (n off : ℕ) (l v v′ : List Float) → n ≤ y .p + 1 → Solved h w y n v → v′ ≡ store off l v → off + length l ≤ length v → off + length l ≤ responseAt y
       → Solved h w y n v′
   kept n off l v v′ few s so fits before r m =
-      ap (part (solvedAt y r) y.q) so
-      ∙ part-else off l v fits (solvedAt y r) y.q (inr (omega (arith, solved-behind y r (omega arith))))
+      ap (part (wAt y r) y.q) so
+      ∙ part-else off l v fits (wAt y r) y.q (inr (omega (arith, solved-behind y r (omega arith))))
       ∙ s r m
 
   -- ---- all loaded
-  module _ (v : List Float) (from n f : ℕ) (long : length v ≡ wholeLength y) (s : Solved h w y (y .p + 1) v)
-      (a : from ≡ loadedAt y (y .k) (y .k)) (b : n ≡ start triangle (y .p)) (d : f ≡ factorAt y) where
+  module _ (v : List Float) (from n f : ℕ) (long : length v ≡ resultLengthOf y) (s : Solved h w y (y .p + 1) v)
+      (a : from ≡ loadedAt y (y .k) (y .k)) (b : n ≡ start triangle (y .p)) (d : f ≡ lxAt y) where
     pub copies-room : (f + n ≤ length v) × (from + n ≤ length w) × (0 + y .p ≤ length v) × (from + n + y .p ≤ length w)
     copies-room = (omega arith, omega (arith, last-room), omega arith, omega (arith, last-room))
 
@@ -88,10 +88,10 @@ module _ (h : List ℕ) (w : List Float) (y : Layout) (e : y ≡ layoutOf h) (fi
           loaded = λ i j l m u.
               let place : ℕ = start triangle i + j in
               let below : place < n = omega (arith, start-below triangle i y.p m) in
-              ap (λ (x : List Float). at x (factorAt y + place)) then
-              ∙ run-else 0 y.p g′ v₁ (omega arith) (factorAt y + place) (inr (omega arith))
-              ∙ ap (λ (x : List Float). at x (factorAt y + place)) so
-              ∙ read-run f n g v (omega arith) place (factorAt y + place) below (omega arith)
+              ap (λ (x : List Float). at x (lxAt y + place)) then
+              ∙ run-else 0 y.p g′ v₁ (omega arith) (lxAt y + place) (inr (omega arith))
+              ∙ ap (λ (x : List Float). at x (lxAt y + place)) so
+              ∙ read-run f n g v (omega arith) place (lxAt y + place) below (omega arith)
               ∙ cross-read i j (from + place) (omega arith) u (omega arith);
           right = λ j l. absurd (omega arith);
           other = λ j l m.
@@ -101,14 +101,14 @@ module _ (h : List ℕ) (w : List Float) (y : Layout) (e : y ≡ layoutOf h) (fi
 
   -- ---- one row more: u is v of row i, where b will be
   module _ (i : ℕ) (v v₁ : List Float) (st : Fixing h w y i v) (more : i < y .p) (u : List Float) (size : length u ≡ y .q) (so : v₁ ≡ store (y .p) u v)
-      (f t a z : ℕ) (is-f : f ≡ factorAt y) (is-t : t ≡ start triangle i) (is-a : a ≡ solvedAt y 0) (is-z : z ≡ solvedAt y (y .p)) where
+      (f t a z : ℕ) (is-f : f ≡ lxAt y) (is-t : t ≡ start triangle i) (is-a : a ≡ wAt y 0) (is-z : z ≡ wAt y (y .p)) where
     scratch-fits : y .p + y .q ≤ length v
     scratch-fits = omega (arith, st.long)
 
     long₁ : length v₁ ≡ length v
     long₁ = ap length so ∙ length-store y.p u v (omega (arith, scratch-fits))
 
-    first : (k : ℕ) → (k < y .p) ⊎ (factorAt y ≤ k) → at v₁ k ≡ at v k
+    first : (k : ℕ) → (k < y .p) ⊎ (lxAt y ≤ k) → at v₁ k ≡ at v k
     first k (inl l) = ap (λ (x : List Float). at x k) so ∙ store-else y.p u v (omega (arith, scratch-fits)) nan k (inl l)
     first k (inr l) = ap (λ (x : List Float). at x k) so ∙ store-else y.p u v (omega (arith, scratch-fits)) nan k (inr (omega arith))
 
@@ -126,7 +126,7 @@ module _ (h : List ℕ) (w : List Float) (y : Layout) (e : y ≡ layoutOf h) (fi
 
     column : (c : ℕ) → c < i + 1 → part (a + c * y .q) (y .q) v₁ ≡ wOf h w c
     column c l =
-        let d : a + c * y .q ≡ solvedAt y c = omega (arith, first-column, column-at y c (omega arith)) in
+        let d : a + c * y .q ≡ wAt y c = omega (arith, first-column, column-at y c (omega arith)) in
         ap (λ (k : ℕ). part k y.q v₁) d ∙ solved₁ c (omega arith)
 
     -- what the product with the columns asks
@@ -141,7 +141,7 @@ module _ (h : List ℕ) (w : List Float) (y : Layout) (e : y ≡ layoutOf h) (fi
       (inr (omega arith), inl (omega (arith, row-before, first-column))),
     )
 
-    module _ (v₂ : List Float) (row-made : v₂ ≡ lessProductT (f + t) (i + 1) (y .p) (y .q) a v₁ v₁) where
+    module _ (v₂ : List Float) (row-made : v₂ ≡ subtractedProductT (f + t) (i + 1) (y .p) (y .q) a v₁ v₁) where
       fits : f + t + (i + 1) ≤ length v₁
       fits = row-asks.0.0
 
@@ -153,7 +153,7 @@ module _ (h : List ℕ) (w : List Float) (y : Layout) (e : y ≡ layoutOf h) (fi
 
       solved₂ : Solved h w y (y .p + 1) v₂
       solved₂ r l =
-          product-part (f + t) (i + 1) y.p y.q a v₁ v₂ fits row-made (solvedAt y r) y.q (inr (omega (arith, row-before, solved-behind y r (omega arith))))
+          product-part (f + t) (i + 1) y.p y.q a v₁ v₂ fits row-made (wAt y r) y.q (inr (omega (arith, row-before, solved-behind y r (omega arith))))
           ∙ solved₁ r l
 
       vector₂ : part (y .p) (y .q) v₂ ≡ u
@@ -171,23 +171,23 @@ module _ (h : List ℕ) (w : List Float) (y : Layout) (e : y ≡ layoutOf h) (fi
         (inl (omega (arith, solved-behind y y.p (omega arith))), inl (omega arith)),
       )
 
-      module _ (v₃ : List Float) (right-made : v₃ ≡ lessProductT i 1 z (y .q) (y .p) v₂ v₂) (is-u : u ≡ vOf h w i) where
+      module _ (v₃ : List Float) (right-made : v₃ ≡ subtractedProductT i 1 z (y .q) (y .p) v₂ v₂) (is-u : u ≡ vOf h w i) where
         third : (k : ℕ) → (k < i) ⊎ (i + 1 ≤ k) → at v₃ k ≡ at v₂ k
         third = product-else i 1 z y.q y.p v₂ v₃ right-asks.0.0 right-made
 
         -- a double of another row
-        elsewhere : (x c : ℕ) → (x ≡ i → ⊥) → c ≤ x → at v₃ (factorAt y + (start triangle x + c)) ≡ at v (factorAt y + (start triangle x + c))
+        elsewhere : (x c : ℕ) → (x ≡ i → ⊥) → c ≤ x → at v₃ (lxAt y + (start triangle x + c)) ≡ at v (lxAt y + (start triangle x + c))
         elsewhere x c apart l =
-            let k : ℕ = factorAt y + (start triangle x + c) in
+            let k : ℕ = lxAt y + (start triangle x + c) in
             third k (inr (omega arith)) ∙ second k (by-cases (decLt x i) (λ m. inl (omega (arith, start-below triangle x i m)))
             (λ m. inr (omega (arith, start-below triangle i x (omega arith)))))
             ∙ first k (inr (omega arith))
 
         -- a cell of row i
-        here : (c : ℕ) → c ≤ i → at v₃ (factorAt y + (start triangle i + c)) ≡ fixedTriangle h w i c
+        here : (c : ℕ) → c ≤ i → at v₃ (lxAt y + (start triangle i + c)) ≡ fixedTriangle h w i c
         unfolding fixedTriangle
         here c l =
-            let k : ℕ = factorAt y + (start triangle i + c) in
+            let k : ℕ = lxAt y + (start triangle i + c) in
             let d : k ≡ f + t + c = omega arith in
             third k (inr (omega arith)) ∙ ap (at v₂) d
             ∙ product-cell (f + t) (i + 1) y.p y.q a v₁ v₂ fits row-made c (omega arith) (wOf h w c) u (column c (omega arith)) vector₁
@@ -195,8 +195,8 @@ module _ (h : List ℕ) (w : List Float) (y : Layout) (e : y ≡ layoutOf h) (fi
             (dot-swap (of (wOf h w c)) (of u) y.q
             ∙ ap₂ (λ (x : List Float) (n : ℕ). dot ieee (of x) (of (wOf h w c)) n) is-u (ap (λ (x : Layout). x .q) e))
 
-        beside : (j : ℕ) → (j ≡ i → ⊥) → j < y .p → at v₃ j ≡ at v j
-        beside j apart l =
+        left-cell : (j : ℕ) → (j ≡ i → ⊥) → j < y .p → at v₃ j ≡ at v j
+        left-cell j apart l =
             third j (by-cases (decLt j i) (λ m. inl m) (λ m. inr (omega arith))) ∙ second j (inl (omega arith)) ∙ first j (inl l)
 
         entry : at v₃ i ≡ fixedRhs h w i
@@ -217,20 +217,20 @@ module _ (h : List ℕ) (w : List Float) (y : Layout) (e : y ≡ layoutOf h) (fi
               within = omega arith;
               long = product-long i 1 z y.q y.p v₂ v₃ right-asks.0.0 right-made ∙ long₂ ∙ long₁ ∙ st.long;
               solved = λ r l.
-                  product-part i 1 z y.q y.p v₂ v₃ right-asks.0.0 right-made (solvedAt y r) y.q (inr (omega (arith, solved-behind y r (omega arith))))
+                  product-part i 1 z y.q y.p v₂ v₃ right-asks.0.0 right-made (wAt y r) y.q (inr (omega (arith, solved-behind y r (omega arith))))
                   ∙ solved₂ r l;
               made = λ x c l m.
                   by-cases (decLt x i) (λ n. elsewhere x c (λ q. omega arith) m ∙ st.made x c n m)
                   (λ n. let q : x ≡ i = omega arith in rw q (here c (rw q at m)));
               loaded = λ x c l m n. elsewhere x c (λ q. omega arith) n ∙ st.loaded x c (omega arith) m n;
               right = λ j l.
-                  by-cases (decLt j i) (λ m. beside j (λ q. omega arith) (omega arith) ∙ st.right j m) (λ m. let q : j ≡ i = omega arith in rw q entry);
-              other = λ j l m. beside j (λ q. omega arith) m ∙ st.other j (omega arith) m;
+                  by-cases (decLt j i) (λ m. left-cell j (λ q. omega arith) (omega arith) ∙ st.right j m) (λ m. let q : j ≡ i = omega arith in rw q entry);
+              other = λ j l m. left-cell j (λ q. omega arith) m ∙ st.other j (omega arith) m;
             }
 
   -- ---- all rows made, and v of the response where b will be
   module _ (v v₁ : List Float) (st : Fixing h w y (y .p) v) (u : List Float) (size : length u ≡ y .q) (so : v₁ ≡ store (y .p) u v) where
-    pub all-made : u ≡ vOf h w (y .p) → (k z : ℕ) → k ≡ loadedAt y (y .k) (y .k) + (start triangle (y .p) + y .p) → z ≡ solvedAt y (y .p)
+    pub all-made : u ≡ vOf h w (y .p) → (k z : ℕ) → k ≡ loadedAt y (y .k) (y .k) + (start triangle (y .p) + y .p) → z ≡ wAt y (y .p)
         → (r : Float) → r ≡ ieee .minus (at w k) (columnSum v₁ (y .p) v₁ z (y .q)) → Products h w y v₁ r
     all-made is-u k z d is-z r answer =
         let room : y .p + length u ≤ length v = omega (arith, st.long) in
@@ -239,10 +239,10 @@ module _ (h : List ℕ) (w : List Float) (y : Layout) (e : y ≡ layoutOf h) (fi
         record {
           solved = solved;
           triangle =
-              ap (part (factorAt y) (start triangle y.p)) so
-              ∙ part-else y.p u v room (factorAt y) (start triangle y.p) (inr (omega arith))
-              ∙ is-cells nan triangle y.p (fixedTriangle h w) (part (factorAt y) (start triangle y.p) v) (length-part (factorAt y) (start triangle y.p) v (omega (arith, st.long)))
-              (λ i j l m. getD-part (factorAt y) (start triangle y.p) v (start triangle i + j) nan (omega (arith, start-below triangle i y.p l)) ∙ st.made i j l (omega arith))
+              ap (part (lxAt y) (start triangle y.p)) so
+              ∙ part-else y.p u v room (lxAt y) (start triangle y.p) (inr (omega arith))
+              ∙ is-cells nan triangle y.p (fixedTriangle h w) (part (lxAt y) (start triangle y.p) v) (length-part (lxAt y) (start triangle y.p) v (omega (arith, st.long)))
+              (λ i j l m. getD-part (lxAt y) (start triangle y.p) v (start triangle i + j) nan (omega (arith, start-below triangle i y.p l)) ∙ st.made i j l (omega arith))
               ∙ sym (fill-packed y.p (fixedTriangle h w));
           right =
               ap (part 0 y.p) so ∙ part-else y.p u v room 0 y.p (inl (omega arith)) ∙ take-tab nan y.p (fixedRhs h w) v (omega (arith, st.long)) st.right;

@@ -25,18 +25,18 @@ use Rattle.storage.proofs.Starts.{start-below, start-le}
 use Rattle.storage.proofs.Parts.{part-in, part-left}
 use Rattle.storage.proofs.Blocks.{length-fill, cell-fill}
 use Rattle.rules.specs.Arithmetic.{ieee}
-use Rattle.rules.specs.Cholesky.{besidePivot, factor, radicand, next, firstBad, pivots, finishPivots}
+use Rattle.rules.specs.Cholesky.{leftOfPivot, factor, radicand, next, firstBad, pivots, finishPivots}
 use Rattle.rules.proofs.Rows.{pivot-root, accepted-at, length-forward}
 use Rattle.re_lower.specs.Lower.{answerOf}
 use Rattle.re_lower.specs.declared.Pivots.{Pivots}
 use Rattle.re_lower.specs.declared.Pivots.the-variants.{Accepted, Refused}
 use Rattle.re_lower.proofs.Blocks.{accepted-none, refused-some, row-below}
-use Rattle.re_lower.proofs.Pivotal.{chain-fits, not-refused, positive-above, root-of-accepted, never-null, nought, nought-is}
+use Rattle.re_lower.proofs.Pivotal.{chain-fits, not-refused, positive-above, root-of-accepted, never-null, zeroFloat, zero-float-is}
 use Rattle.block_runs.specs.blocks.Blocks.{block}
 use Rattle.block_runs.proofs.blocks.Laws.{has-packed, read-block}
 use Rattle.re_factor.specs.Factor.{pivotAt, TriangleFactored}
 use Rattle.re_factor.proofs.Pivotal.{Doubles}
-use Rattle.solution_finish.specs.l_x.Factor.{notAbove, standing, orRow, FixedFactored}
+use Rattle.solution_finish.specs.l_x.Factor.{notAbove, firstNotAbove, orRow, FixedFactored}
 
 -- ---- the first bad one of a list of numbers
 
@@ -107,7 +107,7 @@ none-before g n r e = go (pivots ieee g r) refl
 -- ---- a radicand and its root
 
 -- what is at most 0 is not above it
-at-most-not-above : (x : Float) → Ieee.le x nought ≡ true → Ieee.lt nought x ≡ false
+at-most-not-above : (x : Float) → Ieee.le x zeroFloat ≡ true → Ieee.lt zeroFloat x ≡ false
 unfolding Ieee.le Ieee.lt
 at-most-not-above nan e = refl
 at-most-not-above (inf false) e = absurd (let z : _≡_ {A = ℕ} 0 1 = cc in omega arith)
@@ -123,30 +123,30 @@ at-most-not-above (fin false m d) e = go (m * up d * 1) (0 * 1 * down d) (omega 
 
 refused-not-above : (x : Float) → ieee .refused x ≡ true → notAbove x ≡ true
 refused-not-above x e =
-    let t : Ieee.le x nought ≡ true = rw nought-is at e in
-    let u : ieee .above x ≡ false = rw nought-is (at-most-not-above x t) in
+    let t : Ieee.le x zeroFloat ≡ true = rw zero-float-is at e in
+    let u : ieee .above x ≡ false = rw zero-float-is (at-most-not-above x t) in
     ap not u
 
 -- the root of a radicand that is not refused is above 0 where that is
-root-same : (x : Float) → T (fits binary64 x) → Ieee.le x nought ≡ false → Ieee.lt nought (sqrtOf x) ≡ Ieee.lt nought x
+root-same : (x : Float) → T (fits binary64 x) → Ieee.le x zeroFloat ≡ false → Ieee.lt zeroFloat (sqrtOf x) ≡ Ieee.lt zeroFloat x
 unfolding sqrtOf Ieee.lt
 root-same x f e = go (not-refused x e)
   where
-    go : T (positive x) ⊎ ((x ≡ inf false) ⊎ (x ≡ nan)) → Ieee.lt nought (sqrtOf x) ≡ Ieee.lt nought x
+    go : T (positive x) ⊎ ((x ≡ inf false) ⊎ (x ≡ nan)) → Ieee.lt zeroFloat (sqrtOf x) ≡ Ieee.lt zeroFloat x
     go (inl p) = positive-above (sqrtOf x) (sqrt-positive x f p) ∙ sym (positive-above x p)
     go (inr (inl p)) =
-        let a : Ieee.lt nought (sqrtOf x) ≡ true = ap (λ (y : Float). Ieee.lt nought (sqrtOf y)) p in
-        let b : Ieee.lt nought x ≡ true = ap (Ieee.lt nought) p in
+        let a : Ieee.lt zeroFloat (sqrtOf x) ≡ true = ap (λ (y : Float). Ieee.lt zeroFloat (sqrtOf y)) p in
+        let b : Ieee.lt zeroFloat x ≡ true = ap (Ieee.lt zeroFloat) p in
         a ∙ sym b
     go (inr (inr p)) =
-        let a : Ieee.lt nought (sqrtOf x) ≡ false = ap (λ (y : Float). Ieee.lt nought (sqrtOf y)) p in
-        let b : Ieee.lt nought x ≡ false = ap (Ieee.lt nought) p in
+        let a : Ieee.lt zeroFloat (sqrtOf x) ≡ false = ap (λ (y : Float). Ieee.lt zeroFloat (sqrtOf y)) p in
+        let b : Ieee.lt zeroFloat x ≡ false = ap (Ieee.lt zeroFloat) p in
         a ∙ sym b
 
 bad-same : (x : Float) → T (fits binary64 x) → ieee .refused x ≡ false → notAbove (ieee .root x) ≡ notAbove x
 bad-same x f e =
-    let t : Ieee.le x nought ≡ false = rw nought-is at e in
-    let u : ieee .above (ieee.root x) ≡ ieee .above x = rw nought-is (root-same x f t) in
+    let t : Ieee.le x zeroFloat ≡ false = rw zero-float-is at e in
+    let u : ieee .above (ieee.root x) ≡ ieee .above x = rw zero-float-is (root-same x f t) in
     ap not u
 
 -- what is not refused by the finish is not refused by C
@@ -178,9 +178,9 @@ module _ (off n : ℕ) (v v′ : List Float) (room : off + sizeOf (packed n) ≤
   radicand-fits r h = chain-fits (b r r) _ _ r (doubles r h)
 
   -- the first m rows of the factor stand at off, whatever follows them: their pivots are bad where their radicands are
-  standing-rows : (m : ℕ) → m ≤ n → (rest : List Float) → length rest ≤ start triangle n - start triangle m → v′ ≡ store off (fill (packed m) (factor ieee b m) ++ rest) v
-      → ((r : ℕ) → r < m → ieee .refused (g r) ≡ false) → standing off m v′ ≡ answerOf (firstBad ieee notAbove g m)
-  standing-rows m h rest short e good =
+  first-not-above-rows : (m : ℕ) → m ≤ n → (rest : List Float) → length rest ≤ start triangle n - start triangle m → v′ ≡ store off (fill (packed m) (factor ieee b m) ++ rest) v
+      → ((r : ℕ) → r < m → ieee .refused (g r) ≡ false) → firstNotAbove off m v′ ≡ answerOf (firstBad ieee notAbove g m)
+  first-not-above-rows m h rest short e good =
       let l : List Float = fill (packed m) (factor ieee b m) in
       let k : length l ≡ start triangle m = length-fill (packed m) (factor ieee b m) in
       let le : start triangle m ≤ start triangle n = start-le triangle m n h in
@@ -196,26 +196,26 @@ module _ (off n : ℕ) (v v′ : List Float) (room : off + sizeOf (packed n) ≤
       ∙ bad-same (g r) (radicand-fits r (omega arith)) (good r q)))
 
   -- C accepts
-  pub accepted : (x : Pivots) → TriangleFactored off n v v′ x → x ≡ Accepted → (p : Pivots) → p ≡ standing off n v′ → FixedFactored off n v v′ p
+  pub accepted : (x : Pivots) → TriangleFactored off n v v′ x → x ≡ Accepted → (p : Pivots) → p ≡ firstNotAbove off n v′ → FixedFactored off n v v′ p
   accepted x done is-x p e =
       let c : TriangleFactored off n v v′ Accepted = subst (TriangleFactored off n v v′) is-x done in
       record {
-        answer = e ∙ standing-rows n (omega arith) [] (omega arith) (c.exit ∙ ap (λ (l : List Float). store off l v) (sym (append-nil (fill (packed n) (factor ieee b n)))))
+        answer = e ∙ first-not-above-rows n (omega arith) [] (omega arith) (c.exit ∙ ap (λ (l : List Float). store off l v) (sym (append-nil (fill (packed n) (factor ieee b n)))))
             (λ r h. accepted-at ieee g r n h (accepted-none (pivots ieee g n) c.answer));
         exit = λ q. c .exit;
       }
 
   -- C refuses row r
-  pub refused : (x : Pivots) (r : ℕ) → TriangleFactored off n v v′ x → x ≡ Refused r → (p q : Pivots) → p ≡ standing off r v′ → q ≡ orRow p r → FixedFactored off n v v′ q
+  pub refused : (x : Pivots) (r : ℕ) → TriangleFactored off n v v′ x → x ≡ Refused r → (p q : Pivots) → p ≡ firstNotAbove off r v′ → q ≡ orRow p r → FixedFactored off n v v′ q
   refused x r done is-x p q e f =
       let c : TriangleFactored off n v v′ (Refused r) = subst (TriangleFactored off n v v′) is-x done in
       let is : pivots ieee g n ≡ some r = refused-some (pivots ieee g n) r c.answer in
       let h : r < n = row-below ieee g n r is in
       let none-yet : pivots ieee g r ≡ none = none-before g n r is in
-      let rest : List Float = besidePivot ieee b (factor ieee b r) r in
+      let rest : List Float = leftOfPivot ieee b (factor ieee b r) r in
       let m : length rest ≡ r = length-forward ieee (b r) (factor ieee b r) r in
-      let now : standing off r v′ ≡ answerOf (firstBad ieee notAbove g r) =
-      standing-rows r (omega arith) rest (omega (arith, start-below triangle r n h)) c.exit (λ x l. accepted-at ieee g x r l none-yet) in
+      let now : firstNotAbove off r v′ ≡ answerOf (firstBad ieee notAbove g r) =
+      first-not-above-rows r (omega arith) rest (omega (arith, start-below triangle r n h)) c.exit (λ x l. accepted-at ieee g x r l none-yet) in
       record {
         answer = f ∙ ap (λ (x : Pivots). orRow x r) (e ∙ now) ∙ sym (first-or notAbove g r n h (refused-not-above (g r) (found-bad ieee.refused g n r is)));
         exit = λ a. absurd (never-accepted (answerOf (firstBad ieee notAbove g r)) r (sym a ∙ f ∙ ap (λ (x : Pivots). orRow x r) (e ∙ now)));
@@ -240,7 +240,7 @@ unfolding firstBad start
 scanning-none off n v h = record { within = omega arith; fits = h; place = omega arith; none = refl }
 
 module _ {off n : ℕ} {v : List Float} {r at : ℕ} (s : Scanning off n v r at) where
-  pub scanning-all : n ≤ r → Accepted ≡ standing off n v
+  pub scanning-all : n ≤ r → Accepted ≡ firstNotAbove off n v
   scanning-all h = let e : n ≡ r = omega arith in sym (ap answerOf (ap (firstBad ieee notAbove (pivotAt off (packed n) v)) e ∙ s.none))
 
   module _ (more : r < n) where
@@ -254,7 +254,7 @@ module _ {off n : ℕ} {v : List Float} {r at : ℕ} (s : Scanning off n v r at)
       is-bad : notAbove (pivotAt off (packed n) v r) ≡ b
       is-bad = ap notAbove (sym scanning-cell) ∙ sym test
 
-      pub scanning-found : b ≡ true → Refused r ≡ standing off n v
+      pub scanning-found : b ≡ true → Refused r ≡ firstNotAbove off n v
       scanning-found e =
           sym (ap answerOf (first-stays notAbove (pivotAt off (packed n) v) (suc r) n r more (first-here notAbove (pivotAt off (packed n) v) r s.none (is-bad ∙ e))))
 

@@ -16,16 +16,16 @@ use Rattle.rules.specs.Arithmetic.{ieee}
 use Rattle.rules.specs.Cholesky.{at}
 use Rattle.layout.specs.declared.Layout.{Layout}
 use Rattle.layout.specs.Shapes.{levels}
-use Rattle.heading_format.specs.Heading.{lawful, layoutOf}
+use Rattle.heading_format.specs.Heading.{validLayout, layoutOf}
 use Rattle.workspace.specs.Memory.{thetaOf}
 use Rattle.workspace.specs.Loaded.{rowStart}
 use Rattle.block_places.proofs.sheet_rows.AllRows.{rows-within}
 use Rattle.profile.specs.Solves.{blockIn}
-use Rattle.profile.specs.Finish.{inSheetOrder, thetaRows, offsets, effects}
+use Rattle.profile.specs.Finish.{inSheetOrder, thetaRows, uVector, bVector}
 use Rattle.solution_vectors.specs.Vectors.{blockAt, withVector, Sized}
 use Rattle.solution_vectors.proofs.Order.{order-length, order-block}
 use Rattle.solution_vectors.proofs.Vectors.{sized-tab, same-blocks, length-vector, vector-rows, vector-else}
-use Rattle.solution_vectors.specs.result_places.Places.{effectsAt, offsetsAt, wholeLength}
+use Rattle.solution_vectors.specs.result_places.Places.{bAt, uAt, resultLengthOf}
 use Rattle.solution_finish.specs.b_vector.Effects.{effectBlock, effectBlocks}
 
 -- a part of the list of f 0, f 1, ..
@@ -44,13 +44,13 @@ module _ (h : List ℕ) (w : List Float) (y : Layout) where
   thetas-by e = ap (λ (z : Layout). inSheetOrder z (tab z.k (λ j. replicate (levels z j) (thetaOf h w j))) z.k) e
 
   abbrev effectBy : ℕ → Float
-  effectBy i = ieee.times (at ieee (thetaRows h w) i) (at ieee (offsets h w) i)
+  effectBy i = ieee.times (at ieee (thetaRows h w) i) (at ieee (uVector h w) i)
 
-  effects-by : y ≡ layoutOf h → tab (y .q) effectBy ≡ effects h w
-  unfolding effects
-  effects-by e = ap (λ (z : Layout). tab z.q effectBy) e
+  b-by : y ≡ layoutOf h → tab (y .q) effectBy ≡ bVector h w
+  unfolding bVector
+  b-by e = ap (λ (z : Layout). tab z.q effectBy) e
 
-  module _ (ok : lawful y ≡ true) where
+  module _ (ok : validLayout y ≡ true) where
     -- each row of block j has theta of block j
     theta-at : y ≡ layoutOf h → (j : ℕ) → j < y .k → (c : ℕ) → c < levels y j → at ieee (thetaRows h w) (rowStart y j + c) ≡ thetaOf h w j
     theta-at e j l c m =
@@ -68,23 +68,23 @@ module _ (h : List ℕ) (w : List Float) (y : Layout) where
 
       -- ---- what the store leaves alone
 
-      module _ (v′ : List Float) (long : length v ≡ wholeLength y) (then : v′ ≡ withVector y (effectsAt y) (effectBlocks h w y v) v) where
-        pub effects-length : length v′ ≡ length v
-        effects-length = ap length then ∙ length-vector y ok (effectsAt y) (effectBlocks h w y v) made-sized v (omega arith)
+      module _ (v′ : List Float) (long : length v ≡ resultLengthOf y) (then : v′ ≡ withVector y (bAt y) (effectBlocks h w y v) v) where
+        pub b-length : length v′ ≡ length v
+        b-length = ap length then ∙ length-vector y ok (bAt y) (effectBlocks h w y v) made-sized v (omega arith)
 
         -- what lies apart from b is as it was
-        pub effects-else : (off n : ℕ) → (off + n ≤ effectsAt y) ⊎ (offsetsAt y ≤ off) → part off n v′ ≡ part off n v
-        effects-else off n apart = ap (part off n) then ∙ vector-else y ok (effectsAt y) (effectBlocks h w y v) made-sized v (omega arith) off n apart
+        pub b-else : (off n : ℕ) → (off + n ≤ bAt y) ⊎ (uAt y ≤ off) → part off n v′ ≡ part off n v
+        b-else off n apart = ap (part off n) then ∙ vector-else y ok (bAt y) (effectBlocks h w y v) made-sized v (omega arith) off n apart
 
       -- ---- b
 
-      module _ (e : y ≡ layoutOf h) (u : part (offsetsAt y) (y .q) v ≡ offsets h w) where
+      module _ (e : y ≡ layoutOf h) (u : part (uAt y) (y .q) v ≡ uVector h w) where
         -- double c of block j of u
-        offset-at : (j : ℕ) → j < y .k → (c : ℕ) → c < levels y j → at ieee (blockAt y (offsetsAt y) v j) c ≡ at ieee (offsets h w) (rowStart y j + c)
+        offset-at : (j : ℕ) → j < y .k → (c : ℕ) → c < levels y j → at ieee (blockAt y (uAt y) v j) c ≡ at ieee (uVector h w) (rowStart y j + c)
         offset-at j l c m =
-            let same : offsetsAt y + rowStart y j + c ≡ offsetsAt y + (rowStart y j + c) = omega arith in
-            getD-part (offsetsAt y + rowStart y j) (levels y j) v c ieee.zero m ∙ ap (at ieee v) same
-            ∙ sym (getD-part (offsetsAt y) y.q v (rowStart y j + c) ieee.zero (omega (arith, rows-within y ok j l)))
+            let same : uAt y + rowStart y j + c ≡ uAt y + (rowStart y j + c) = omega arith in
+            getD-part (uAt y + rowStart y j) (levels y j) v c ieee.zero m ∙ ap (at ieee v) same
+            ∙ sym (getD-part (uAt y) y.q v (rowStart y j + c) ieee.zero (omega (arith, rows-within y ok j l)))
             ∙ ap (λ (z : List Float). at ieee z (rowStart y j + c)) u
 
         block-is : (j : ℕ) → j < y .k → blockIn (effectBlocks h w y v) j ≡ part (rowStart y j) (levels y j) (tab (y .q) effectBy)
@@ -94,16 +94,16 @@ module _ (h : List ℕ) (w : List Float) (y : Layout) where
             ∙ tab-ext (levels y j) _ (λ c. effectBy (rowStart y j + c)) (λ c m. ap₂ ieee.times (sym (theta-at e j l c m)) (offset-at j l c m))
             ∙ sym (part-tab (rowStart y j) (levels y j) y.q effectBy (rows-within y ok j l))
 
-        rows-are : inSheetOrder y (effectBlocks h w y v) (y .k) ≡ effects h w
+        rows-are : inSheetOrder y (effectBlocks h w y v) (y .k) ≡ bVector h w
         rows-are =
             let l : List (List Float) = effectBlocks h w y v in
             same-blocks y ok (inSheetOrder y l y.k) (tab y.q effectBy) (order-length y ok l made-sized) (length-tab y.q effectBy)
             (λ j g. order-block y ok l made-sized j g ∙ block-is j g)
-            ∙ effects-by e
+            ∙ b-by e
 
-module _ (h : List ℕ) (w : List Float) (y : Layout) (e : y ≡ layoutOf h) (ok : lawful y ≡ true) where
-  pub effects-are : (v v′ : List Float) → length v ≡ wholeLength y → part (offsetsAt y) (y .q) v ≡ offsets h w
-      → v′ ≡ withVector y (effectsAt y) (effectBlocks h w y v) v → part (effectsAt y) (y .q) v′ ≡ effects h w
-  effects-are v v′ long u then =
-      ap (part (effectsAt y) y.q) then ∙ vector-rows y ok (effectsAt y) (effectBlocks h w y v) (made-sized h w y ok v) v (omega arith)
+module _ (h : List ℕ) (w : List Float) (y : Layout) (e : y ≡ layoutOf h) (ok : validLayout y ≡ true) where
+  pub b-are : (v v′ : List Float) → length v ≡ resultLengthOf y → part (uAt y) (y .q) v ≡ uVector h w
+      → v′ ≡ withVector y (bAt y) (effectBlocks h w y v) v → part (bAt y) (y .q) v′ ≡ bVector h w
+  b-are v v′ long u then =
+      ap (part (bAt y) y.q) then ∙ vector-rows y ok (bAt y) (effectBlocks h w y v) (made-sized h w y ok v) v (omega arith)
       ∙ rows-are h w y ok v e u

@@ -17,8 +17,8 @@ use Rattle.block_runs.specs.axpy.Axpy.{at as doubleAt}
 use Rattle.block_runs.proofs.axpy.Sums.{sum-along, along-ext}
 use Rattle.layout.specs.declared.Layout.{Layout}
 use Rattle.heading_format.specs.Heading.{layoutOf}
-use Rattle.profile.specs.Finish.{wOf, beta, offsets}
-use Rattle.solution_vectors.specs.result_places.Places.{offsetsAt, factorAt, responseAt, solvedAt, wholeLength, Solved}
+use Rattle.profile.specs.Finish.{wOf, beta, uVector}
+use Rattle.solution_vectors.specs.result_places.Places.{uAt, lxAt, responseAt, wAt, resultLengthOf, Solved}
 use Rattle.solution_vectors.proofs.result_places.Parts.{response-at, column-at, solved-inside}
 use Rattle.solution_finish.specs.u_vector.Offsets.{offsetsLeft}
 use Rattle.solution_finish.proofs.u_vector.Sums.{offset}
@@ -35,22 +35,22 @@ module _ (y : Layout) (v : List Float) where
   abbrev made : ℕ → Float
   made = offset (responseAt y) (responseAt y + y .q) y.q y.p v
 
-  module _ (v′ : List Float) (long : length v ≡ wholeLength y)
-      (then : v′ ≡ offsetsLeft (offsetsAt y) (responseAt y) (responseAt y + y .q) (y .q) (y .p) v) where
-    room : offsetsAt y + length (tab (y .q) made) ≤ length v
+  module _ (v′ : List Float) (long : length v ≡ resultLengthOf y)
+      (then : v′ ≡ offsetsLeft (uAt y) (responseAt y) (responseAt y + y .q) (y .q) (y .p) v) where
+    room : uAt y + length (tab (y .q) made) ≤ length v
     room = omega (arith, length-tab y.q made)
 
-    pub offsets-length : length v′ ≡ length v
-    offsets-length = ap length then ∙ length-store (offsetsAt y) (tab y.q made) v room
+    pub u-length : length v′ ≡ length v
+    u-length = ap length then ∙ length-store (uAt y) (tab y.q made) v room
 
     -- what lies apart from u is as it was
-    pub offsets-else : (off n : ℕ) → (off + n ≤ offsetsAt y) ⊎ (factorAt y ≤ off) → part off n v′ ≡ part off n v
-    offsets-else off n apart =
+    pub u-else : (off n : ℕ) → (off + n ≤ uAt y) ⊎ (lxAt y ≤ off) → part off n v′ ≡ part off n v
+    u-else off n apart =
         ap (part off n) then
-        ∙ part-else (offsetsAt y) (tab y.q made) v room off n (⊎-elim (λ l. inl l) (λ l. inr (omega (arith, length-tab y.q made))) apart)
+        ∙ part-else (uAt y) (tab y.q made) v room off n (⊎-elim (λ l. inl l) (λ l. inr (omega (arith, length-tab y.q made))) apart)
 
-    made-part : part (offsetsAt y) (y .q) v′ ≡ tab (y .q) made
-    made-part = ap (part (offsetsAt y) y.q) then ∙ part-same (offsetsAt y) (tab y.q made) v room y.q (length-tab y.q made)
+    made-part : part (uAt y) (y .q) v′ ≡ tab (y .q) made
+    made-part = ap (part (uAt y) y.q) then ∙ part-same (uAt y) (tab y.q made) v room y.q (length-tab y.q made)
 
 -- ---- u
 
@@ -59,15 +59,15 @@ module _ (h : List ℕ) (w : List Float) (y : Layout) where
   abbrev offsetBy : ℕ → Float
   offsetBy = offsetOf ieee (at ieee (wOf h w y.p)) (λ j x. at ieee (wOf h w j) x) (at ieee (beta h w)) y.p
 
-  offsets-by : y ≡ layoutOf h → tab (y .q) offsetBy ≡ offsets h w
-  unfolding offsets
-  offsets-by e =
+  u-by : y ≡ layoutOf h → tab (y .q) offsetBy ≡ uVector h w
+  unfolding uVector
+  u-by e =
       ap (λ (z : Layout). tab z.q (offsetOf ieee (at ieee (wOf h w z.p)) (λ j x. at ieee (wOf h w j) x) (at ieee (beta h w)) z.p)) e
 
-  module _ (v : List Float) (long : length v ≡ wholeLength y) (s : Solved h w y (y .p + 1) v) (b : part 0 (y .p) v ≡ beta h w) where
+  module _ (v : List Float) (long : length v ≡ resultLengthOf y) (s : Solved h w y (y .p + 1) v) (b : part 0 (y .p) v ≡ beta h w) where
     -- double i of w of row r
-    row-at : (r : ℕ) → r ≤ y .p → (i k : ℕ) → i < y .q → k ≡ solvedAt y r + i → doubleAt v k ≡ at ieee (wOf h w r) i
-    row-at r l = read (solvedAt y r) y.q v (wOf h w r) (omega (arith, solved-inside y r l)) (s r (omega arith))
+    row-at : (r : ℕ) → r ≤ y .p → (i k : ℕ) → i < y .q → k ≡ wAt y r + i → doubleAt v k ≡ at ieee (wOf h w r) i
+    row-at r l = read (wAt y r) y.q v (wOf h w r) (omega (arith, solved-inside y r l)) (s r (omega arith))
 
     offset-is : (i : ℕ) → i < y .q → made y v i ≡ offsetBy i
     offset-is i l =
@@ -79,7 +79,7 @@ module _ (h : List ℕ) (w : List Float) (y : Layout) where
         ∙ sum-along ieee.zero (λ j. at ieee (wOf h w j) i) (at ieee (beta h w)) y.p)
 
 module _ (h : List ℕ) (w : List Float) (y : Layout) (e : y ≡ layoutOf h) where
-  pub offsets-are : (v v′ : List Float) → length v ≡ wholeLength y → Solved h w y (y .p + 1) v → part 0 (y .p) v ≡ beta h w
-      → v′ ≡ offsetsLeft (offsetsAt y) (responseAt y) (responseAt y + y .q) (y .q) (y .p) v → part (offsetsAt y) (y .q) v′ ≡ offsets h w
-  offsets-are v v′ long s b then =
-      made-part y v v′ long then ∙ tab-ext y.q (made y v) (offsetBy h w y) (offset-is h w y v long s b) ∙ offsets-by h w y e
+  pub u-are : (v v′ : List Float) → length v ≡ resultLengthOf y → Solved h w y (y .p + 1) v → part 0 (y .p) v ≡ beta h w
+      → v′ ≡ offsetsLeft (uAt y) (responseAt y) (responseAt y + y .q) (y .q) (y .p) v → part (uAt y) (y .q) v′ ≡ uVector h w
+  u-are v v′ long s b then =
+      made-part y v v′ long then ∙ tab-ext y.q (made y v) (offsetBy h w y) (offset-is h w y v long s b) ∙ u-by h w y e

@@ -7,7 +7,7 @@ use lib.Ieee.{Float}
 use Rattle.layout.specs.declared.Layout.{Layout}
 use Rattle.heading_format.specs.Heading.{layoutOf}
 use Rattle.heading_format.specs.Fits.{Fits}
-use Rattle.block_places.proofs.block_kinds.Workspace.{fits-lawful}
+use Rattle.block_places.proofs.block_kinds.Workspace.{fits-valid}
 use Rattle.profile.specs.Solves.{scaledRow}
 use Rattle.profile.specs.Finish.{inSheetOrder, vOf}
 use Rattle.solution_vectors.proofs.Order.{order-length}
@@ -18,7 +18,7 @@ vector h w y r = inSheetOrder y (scaledRow h w r) y.k
 
 module _ (h : List ℕ) (w : List Float) (y : Layout) (e : y ≡ layoutOf h) (fit : Fits h (length w)) (r : ℕ) where
   pub vector-length : length (vector h w y r) ≡ y .q
-  vector-length = order-length y (fits-lawful h w y e fit) (scaledRow h w r) (row-sized h w y e fit r)
+  vector-length = order-length y (fits-valid h w y e fit) (scaledRow h w r) (row-sized h w y e fit r)
 
   pub vector-is : vector h w y r ≡ vOf h w r
   unfolding vOf

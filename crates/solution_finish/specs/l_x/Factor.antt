@@ -19,8 +19,8 @@ abbrev pub notAbove : Float → Bool
 notAbove x = not (ieee .above x)
 
 -- the answer for the n pivots of the packed triangle at off, as they stand
-abbrev pub standing : (off n : ℕ) → List Float → Pivots
-standing off n v = answerOf (firstBad ieee notAbove (pivotAt off (packed n) v) n)
+abbrev pub firstNotAbove : (off n : ℕ) → List Float → Pivots
+firstNotAbove off n v = answerOf (firstBad ieee notAbove (pivotAt off (packed n) v) n)
 
 -- a row that was refused before, or else r
 abbrev pub orRow : Pivots → ℕ → Pivots

@@ -7,11 +7,11 @@ use lib.Ieee.{Float}
 use Rattle.storage.specs.Runs.{start, triangle, tab}
 use Rattle.storage.specs.Part.{part}
 use Rattle.layout.specs.declared.Layout.{Layout}
-use Rattle.profile.specs.Finish.{joined, fixedFactor, fixedRhs}
-use Rattle.solution_vectors.specs.result_places.Places.{factorAt, wholeLength, Solved}
+use Rattle.profile.specs.Finish.{flattened, fixedFactor, fixedRhs}
+use Rattle.solution_vectors.specs.result_places.Places.{lxAt, resultLengthOf, Solved}
 
 pub record Ready (h : List ℕ) (w : List Float) (y : Layout) (v : List Float) : Type 0 where
-  pub long : length v ≡ wholeLength y
+  pub long : length v ≡ resultLengthOf y
   pub solved : Solved h w y (y .p + 1) v
-  pub factor : part (factorAt y) (start triangle (y .p)) v ≡ joined (fixedFactor h w)
+  pub factor : part (lxAt y) (start triangle (y .p)) v ≡ flattened (fixedFactor h w)
   pub right : part 0 (y .p) v ≡ tab (y .p) (fixedRhs h w)

@@ -14,13 +14,13 @@ use Rattle.layout.specs.declared.Layout.{Layout}
 use Rattle.heading_format.specs.Heading.{layoutOf}
 use Rattle.profile.specs.declared.Solution.{Solution}
 use Rattle.profile.specs.Deviance.{freedom, logDeterminant}
-use Rattle.profile.specs.Finish.{joined, fixedFactor, fixedRhs, beta, resultList}
-use Rattle.solution_vectors.specs.result_places.Places.{factorAt}
+use Rattle.profile.specs.Finish.{flattened, fixedFactor, fixedRhs, beta, resultList}
+use Rattle.solution_vectors.specs.result_places.Places.{lxAt}
 
 -- the list, and beta times its right side
 pub record Finished (h : List ℕ) (w : List Float) (y : Layout) (v : List Float) (r : Float) : Type 0 where
   pub whole : v ≡ resultList h w
-  pub factor : part (factorAt y) (start triangle (y .p)) v ≡ joined (fixedFactor h w)
+  pub factor : part (lxAt y) (start triangle (y .p)) v ≡ flattened (fixedFactor h w)
   pub answer : r ≡ dot ieee (at ieee (beta h w)) (fixedRhs h w) (y .p)
 
 -- deviance and sigma2 with the residual r2

@@ -1,4 +1,4 @@
--- The result list of a lawful layout is short: no place in it is past what a word holds.
+-- The result list of a valid layout is short: no place in it is past what a word holds.
 use Prim.Native.Nat.{ℕ, _+_, _*_, _≤_}
 use mathlib.Core.Path.{_≡_, refl}
 use mathlib.Core.Bool.{true}
@@ -10,16 +10,16 @@ use Rattle.storage.proofs.Starts.{start-triangle}
 use Rattle.layout.specs.declared.Layout.{Layout}
 use Rattle.layout.specs.Shapes.{levels}
 use Rattle.layout.proofs.Sums.{sum-small}
-use Rattle.heading_format.specs.Heading.{lawful}
-use Rattle.heading_format.proofs.Lawful.{is-lawful}
-use Rattle.solution_vectors.specs.result_places.Places.{factorAt, solvedAt}
+use Rattle.heading_format.specs.Heading.{validLayout}
+use Rattle.heading_format.proofs.Valid.{is-valid}
+use Rattle.solution_vectors.specs.result_places.Places.{lxAt, wAt}
 
-module _ (y : Layout) (ok : lawful y ≡ true) where
+module _ (y : Layout) (ok : validLayout y ≡ true) where
   pub few-effects : y .p ≤ 32
-  few-effects = is-lawful y ok .effects .1
+  few-effects = is-valid y ok .effects .1
 
   pub few-rows : y .q ≤ 524280
-  few-rows = omega (arith, is-lawful y ok .total, sum-small (levels y) 65535 y.k (λ j h. is-lawful y ok .level j h .1), is-lawful y ok .blocks .1)
+  few-rows = omega (arith, is-valid y ok .total, sum-small (levels y) 65535 y.k (λ j h. is-valid y ok .level j h .1), is-valid y ok .blocks .1)
 
   pub few-cells : start triangle (y .p) ≤ 528
   few-cells =
@@ -31,9 +31,9 @@ module _ (y : Layout) (ok : lawful y ≡ true) where
   few-products r h = let g : r ≤ 32 = omega (arith, few-effects) in omega (arith, mul-le-mul g few-rows)
 
 -- where w of y starts, and w of a column
-module _ (y : Layout) (r f t : ℕ) (e : f ≡ factorAt y) (g : t ≡ start triangle (y .p)) where
-  pub at-response : r ≡ y .p → f + t ≡ solvedAt y r
+module _ (y : Layout) (r f t : ℕ) (e : f ≡ lxAt y) (g : t ≡ start triangle (y .p)) where
+  pub at-response : r ≡ y .p → f + t ≡ wAt y r
   at-response h = rw (eq-eqb r y.p h, e, g) refl
 
-  pub at-column : (r ≡ y .p → ⊥) → f + t + y .q + r * y .q ≡ solvedAt y r
+  pub at-column : (r ≡ y .p → ⊥) → f + t + y .q + r * y .q ≡ wAt y r
   at-column h = rw (ne-eqb r y.p h, e, g) refl

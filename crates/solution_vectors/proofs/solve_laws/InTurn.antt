@@ -9,7 +9,7 @@ use lib.Ieee.{Float}
 use Rattle.storage.proofs.Parts.{store-store}
 use Rattle.layout.specs.declared.Layout.{Layout}
 use Rattle.layout.specs.Shapes.{levels}
-use Rattle.heading_format.specs.Heading.{lawful}
+use Rattle.heading_format.specs.Heading.{validLayout}
 use Rattle.profile.specs.Solves.{blockIn}
 use Rattle.profile.specs.Finish.{inSheetOrder}
 use Rattle.solution_vectors.specs.Vectors.{blockAt, blocksAt, withVector, withBlockAt, Sized}
@@ -18,17 +18,17 @@ use Rattle.solution_vectors.proofs.Vectors.{sized-set, sized-blocks, ve
 
 -- v is v₀ with the vector of the blocks l
 pub record InTurn (y : Layout) (from : ℕ) (v₀ : List Float) (l : List (List Float)) (v : List Float) : Type 0 where
-  pub lawful : lawful y ≡ true
+  pub validLayout : validLayout y ≡ true
   pub fits : from + y .q ≤ length v₀
   pub sized : Sized y l
   pub long : length v ≡ length v₀
   pub same : v ≡ withVector y from l v₀
 
 module _ {y : Layout} {from : ℕ} {v₀ : List Float} where
-  pub turn-none : lawful y ≡ true → from + y .q ≤ length v₀ → InTurn y from v₀ (blocksAt y from v₀) v₀
+  pub turn-none : validLayout y ≡ true → from + y .q ≤ length v₀ → InTurn y from v₀ (blocksAt y from v₀) v₀
   turn-none ok fits =
       record {
-        lawful = ok;
+        validLayout = ok;
         fits = fits;
         sized = sized-blocks y ok from v₀ fits;
         long = refl;
@@ -41,7 +41,7 @@ module _ {y : Layout} {from : ℕ} {v₀ : List Float} where
       → {l′ : List (List Float)} → l′ ≡ set l i (make l (blockIn l i))
       → {v′ : List Float} → v′ ≡ withBlockAt y from i (make (blocksAt y from v) (blockAt y from v i)) v → InTurn y from v₀ l′ v′
   turn-more {l} {v} e i h make size {l′} q {v′} then =
-      let ok = e.lawful in
+      let ok = e.validLayout in
       let all : blocksAt y from v ≡ l = ap (blocksAt y from) e.same ∙ read-vector y ok from l e.sized v₀ e.fits in
       let own : blockAt y from v i ≡ blockIn l i =
       ap (λ (x : List Float). blockAt y from x i) e.same ∙ vector-at y ok from l e.sized v₀ e.fits i h in
@@ -51,7 +51,7 @@ module _ {y : Layout} {from : ℕ} {v₀ : List Float} where
       then ∙ ap₂ (λ (x u : List Float). withBlockAt y from i x u) (ap₂ make all own) e.same
       ∙ vector-block y ok from l e.sized v₀ e.fits i b h size ∙ ap (λ (z : List (List Float)). withVector y from z v₀) (sym q) in
       record {
-        lawful = ok;
+        validLayout = ok;
         fits = e.fits;
         sized = sized;
         long = ap length same ∙ length-vector y ok from l′ sized v₀ e.fits;
@@ -59,7 +59,7 @@ module _ {y : Layout} {from : ℕ} {v₀ : List Float} where
       }
 
 -- a vector stored over another stands alone
-pub vector-over : (y : Layout) → lawful y ≡ true → (from : ℕ) (v₀ : List Float) → from + y .q ≤ length v₀ → (l l′ : List (List Float)) → Sized y l → Sized y l′
+pub vector-over : (y : Layout) → validLayout y ≡ true → (from : ℕ) (v₀ : List Float) → from + y .q ≤ length v₀ → (l l′ : List (List Float)) → Sized y l → Sized y l′
     → withVector y from l′ (withVector y from l v₀) ≡ withVector y from l′ v₀
 vector-over y ok from v₀ fits l l′ e e′ =
     let n = order-length y ok l e in

@@ -12,15 +12,15 @@ use Rattle.rules.specs.Arithmetic.{ieee}
 use Rattle.rules.specs.Cholesky.{at}
 use Rattle.layout.specs.declared.Layout.{Layout}
 use Rattle.layout.specs.Shapes.{levels}
-use Rattle.heading_format.specs.Heading.{lawful, layoutOf}
+use Rattle.heading_format.specs.Heading.{validLayout, layoutOf}
 use Rattle.workspace.specs.Memory.{workingBlock}
 use Rattle.profile.specs.Solves.{
   blockIn,
   factorShapeOf,
   forwardIn,
   backwardIn,
-  lessFirst,
-  lessLater,
+  subtractFirst,
+  subtractLater,
   forwardSolved,
   backwardSolved,
   solvedFor,
@@ -37,7 +37,7 @@ module _ (h : List ℕ) (w : List Float) where
   forwardTo l n = forwardSolved h w l n ++ drop n l
 
   abbrev pub forwardMade : ℕ → List (List Float) → List Float → List Float
-  forwardMade i z b = forwardIn (factorShapeOf h w i) (workingBlock h w i i) (lessFirst h w i z (at ieee b) i)
+  forwardMade i z b = forwardIn (factorShapeOf h w i) (workingBlock h w i i) (subtractFirst h w i z (at ieee b) i)
 
   length-solved : (l : List (List Float)) (n : ℕ) → length (forwardSolved h w l n) ≡ n
   unfolding forwardSolved
@@ -61,7 +61,7 @@ module _ (h : List ℕ) (w : List Float) where
       let own : blockIn (forwardTo l n) n ≡ blockIn l n = ap (λ (x : List (List Float)). blockIn x n) split ∙ getD-at z (blockIn l n) (drop (suc n) l) [] n many in
       let made : forwardMade n (forwardTo l n) (blockIn (forwardTo l n) n) ≡ forwardMade n z (blockIn l n) =
       ap (forwardIn (factorShapeOf h w n) (workingBlock h w n n))
-      (ap (λ (b : List Float). lessFirst h w n (forwardTo l n) (at ieee b) n) own
+      (ap (λ (b : List Float). subtractFirst h w n (forwardTo l n) (at ieee b) n) own
       ∙ first-ext h w n (forwardTo l n) z (at ieee (blockIn l n)) n (λ j m. List·getD-append z (drop n l) [] j (omega arith))) in
       sym
       (ap₂ (λ (x : List (List Float)) (b : List Float). set x n b) split made
@@ -73,7 +73,7 @@ module _ (h : List ℕ) (w : List Float) where
   backwardTo k l n = take (k - n) l ++ backwardSolved h w l n
 
   abbrev pub backwardMade : ℕ → ℕ → List (List Float) → List Float → List Float
-  backwardMade i n z b = backwardIn (factorShapeOf h w i) (workingBlock h w i i) (lessLater h w i (drop (suc i) z) (at ieee b) n)
+  backwardMade i n z b = backwardIn (factorShapeOf h w i) (workingBlock h w i i) (subtractLater h w i (drop (suc i) z) (at ieee b) n)
 
   backward-none : (k : ℕ) (l : List (List Float)) → length l ≡ k → backwardTo k l 0 ≡ l
   unfolding backwardSolved
@@ -98,8 +98,8 @@ module _ (h : List ℕ) (w : List Float) where
         to ∙ ap (λ (x : List (List Float)). x ++ rest) (take-suc l i [] (omega arith)) ∙ append-snoc (take i l) (blockIn l i) rest in
         let own : blockIn (backwardTo y.k l n) i ≡ blockIn l i = ap (λ (x : List (List Float)). blockIn x i) split ∙ getD-at (take i l) (blockIn l i) rest [] i before in
         let made : backwardMade i n (backwardTo y.k l n) (blockIn (backwardTo y.k l n) i)
-        ≡ backwardIn (factorShapeOf h w i) (workingBlock h w i i) (lessLater h w i rest (at ieee (blockIn l i)) n) =
-        ap₂ (λ (z : List (List Float)) (b : List Float). backwardIn (factorShapeOf h w i) (workingBlock h w i i) (lessLater h w i z (at ieee b) n))
+        ≡ backwardIn (factorShapeOf h w i) (workingBlock h w i i) (subtractLater h w i rest (at ieee (blockIn l i)) n) =
+        ap₂ (λ (z : List (List Float)) (b : List Float). backwardIn (factorShapeOf h w i) (workingBlock h w i i) (subtractLater h w i z (at ieee b) n))
         (ap (drop (suc i)) to ∙ drop-at (take (suc i) l) rest (suc i) (length-take-le (suc i) l (omega arith))) own in
         rw (this, same)
         (sym (ap₂ (λ (x : List (List Float)) (b : List Float). set x i b) split made ∙ set-at (take i l) (blockIn l i) rest _ i before))
@@ -112,7 +112,7 @@ module _ (h : List ℕ) (w : List Float) where
       backward-size : (n : ℕ) → length (backwardMade i n z b) ≡ levels y i
       backward-size n = length-backward-in (factorShapeOf h w i) (levels y i) (factor-at h w y is i m) _ _
 
-    module _ (ok : lawful y ≡ true) (l : List (List Float)) (e : Sized y l) where
+    module _ (ok : validLayout y ≡ true) (l : List (List Float)) (e : Sized y l) where
       sized-forward-to : (n : ℕ) → n ≤ y .k → Sized y (forwardTo l n)
       sized-forward-to zero m = rw (forward-none l) e
       sized-forward-to (suc n) m =
@@ -139,7 +139,7 @@ module _ (h : List ℕ) (w : List Float) where
     unfolding solvedFor
     solved-as l = ap (λ (x : Layout). backwardSolved h w (forwardSolved h w l x.k) x.k) (sym is)
 
-    pub sized-solved : lawful y ≡ true → (l : List (List Float)) → Sized y l → Sized y (solvedFor h w l)
+    pub sized-solved : validLayout y ≡ true → (l : List (List Float)) → Sized y l → Sized y (solvedFor h w l)
     sized-solved ok l e = rw (solved-as l) (sized-backward ok (forwardSolved h w l y.k) (sized-forward ok l e))
 
   -- ---- the loops
@@ -155,10 +155,10 @@ module _ (h : List ℕ) (w : List Float) where
     pub turn : InTurn y from v₀ (backwardTo (y .k) (blocksAt y from v₀) (y .k - i)) v
 
   module _ {y : Layout} {from : ℕ} {v₀ : List Float} where
-    pub forward-begin : lawful y ≡ true → from + y .q ≤ length v₀ → ForwardTurns y from v₀ v₀ 0
+    pub forward-begin : validLayout y ≡ true → from + y .q ≤ length v₀ → ForwardTurns y from v₀ v₀ 0
     forward-begin ok fits = record { within = omega arith; turn = rw (forward-none (blocksAt y from v₀)) (turn-none ok fits) }
 
-    pub backward-begin : lawful y ≡ true → from + y .q ≤ length v₀ → BackwardTurns y from v₀ v₀ (y .k)
+    pub backward-begin : validLayout y ≡ true → from + y .q ≤ length v₀ → BackwardTurns y from v₀ v₀ (y .k)
     backward-begin ok fits =
         let e : y .k - y .k ≡ 0 = omega arith in
         record { within = omega arith; turn = rw (e, backward-none y.k (blocksAt y from v₀) (sized-blocks y ok from v₀ fits .count)) (turn-none ok fits) }
@@ -169,7 +169,7 @@ module _ (h : List ℕ) (w : List Float) where
       forward-turn {i} e m then =
           let t = e.turn in
           let l : List (List Float) = blocksAt y from v₀ in
-          let many = sized-blocks y t.lawful from v₀ t.fits .count in
+          let many = sized-blocks y t.validLayout from v₀ t.fits .count in
           let z : List (List Float) = forwardTo l i in
           record {
             within = omega arith;
@@ -189,7 +189,7 @@ module _ (h : List ℕ) (w : List Float) where
             within = omega arith;
             turn =
                 turn-more t i m (backwardMade i n) (backward-size y is i m z (blockIn z i) n)
-                (ap (backwardTo y.k l) next ∙ backward-set y is l (sized-blocks y t.lawful from v₀ t.fits .count) i n (omega arith)) then;
+                (ap (backwardTo y.k l) next ∙ backward-set y is l (sized-blocks y t.validLayout from v₀ t.fits .count) i n (omega arith)) then;
           }
 
     module _ {v : List Float} {i : ℕ} where
@@ -200,7 +200,7 @@ module _ (h : List ℕ) (w : List Float) where
           let l : List (List Float) = blocksAt y from v₀ in
           let all : i ≡ y .k = omega arith in
           t .same
-          ∙ ap (λ (z : List (List Float)). withVector y from z v₀) (ap (forwardTo l) all ∙ forward-all l y.k (sized-blocks y t.lawful from v₀ t.fits .count))
+          ∙ ap (λ (z : List (List Float)). withVector y from z v₀) (ap (forwardTo l) all ∙ forward-all l y.k (sized-blocks y t.validLayout from v₀ t.fits .count))
 
       pub backward-result : BackwardTurns y from v₀ v i → i ≤ 0 → v ≡ withVector y from (backwardSolved h w (blocksAt y from v₀) (y .k)) v₀
       backward-result e m =
@@ -209,7 +209,7 @@ module _ (h : List ℕ) (w : List Float) where
           e .turn .same ∙ ap (λ (z : List (List Float)). withVector y from z v₀) (ap (backwardTo y.k l) all ∙ backward-all y.k l)
 
   -- ---- forward, then backward
-  pub backsolved : (y : Layout) (is : y ≡ layoutOf h) (ok : lawful y ≡ true) (from : ℕ) (v v₁ v₂ : List Float) → from + y .q ≤ length v
+  pub backsolved : (y : Layout) (is : y ≡ layoutOf h) (ok : validLayout y ≡ true) (from : ℕ) (v v₁ v₂ : List Float) → from + y .q ≤ length v
       → v₁ ≡ withVector y from (forwardSolved h w (blocksAt y from v) (y .k)) v → v₂ ≡ withVector y from (backwardSolved h w (blocksAt y from v₁) (y .k)) v₁
       → v₂ ≡ withVector y from (solvedFor h w (blocksAt y from v)) v
   backsolved y is ok from v v₁ v₂ fits p q =

@@ -14,7 +14,7 @@ use Rattle.rules.specs.Arithmetic.{ieee}
 use Rattle.rules.specs.Cholesky.{at}
 use Rattle.layout.specs.declared.Layout.{Layout}
 use Rattle.layout.specs.Shapes.{levels}
-use Rattle.heading_format.specs.Heading.{lawful}
+use Rattle.heading_format.specs.Heading.{validLayout}
 use Rattle.workspace.specs.Loaded.{rowStart}
 use Rattle.block_places.proofs.sheet_rows.AllRows.{rows-within}
 use Rattle.solution_vectors.specs.Vectors.{blockAt, withBlockAt}
@@ -22,17 +22,17 @@ use Rattle.solution_vectors.proofs.Vectors.{block-length, length-block,
 
 -- block i has the values g, and all else is as in v₀
 pub record Turning (y : Layout) (from i : ℕ) (v₀ : List Float) (g : ℕ → Float) (v : List Float) : Type 0 where
-  pub lawful : lawful y ≡ true
+  pub validLayout : validLayout y ≡ true
   pub here : i < y .k
   pub fits : from + y .q ≤ length v₀
   pub long : length v ≡ length v₀
   pub same : v ≡ withBlockAt y from i (tab (levels y i) g) v₀
 
 -- at the start they are its own
-pub turning-none : {y : Layout} {from i : ℕ} {v₀ : List Float} → lawful y ≡ true → i < y .k → from + y .q ≤ length v₀ → Turning y from i v₀ (at ieee (blockAt y from v₀ i)) v₀
+pub turning-none : {y : Layout} {from i : ℕ} {v₀ : List Float} → validLayout y ≡ true → i < y .k → from + y .q ≤ length v₀ → Turning y from i v₀ (at ieee (blockAt y from v₀ i)) v₀
 turning-none {y} {from} {i} {v₀} ok here fits =
     record {
-      lawful = ok;
+      validLayout = ok;
       here = here;
       fits = fits;
       long = refl;
@@ -49,20 +49,20 @@ module _ {y : Layout} {from i : ℕ} {v₀ : List Float} {g : ℕ → Float} {v 
   cell-is : (r : ℕ) → r < levels y i → at ieee (blockAt y from v i) r ≡ g r
   cell-is r l =
       ap (λ (x : List Float). at ieee (blockAt y from x i) r) e.same
-      ∙ ap (λ (b : List Float). at ieee b r) (block-same y e.lawful from i (tab (levels y i) g) v₀ e.here (length-tab (levels y i) g) e.fits)
+      ∙ ap (λ (b : List Float). at ieee b r) (block-same y e.validLayout from i (tab (levels y i) g) v₀ e.here (length-tab (levels y i) g) e.fits)
       ∙ getD-tab (levels y i) g r ieee.zero l
 
   -- any other block is as it was
   pub turning-other : (j : ℕ) → j < y .k → (i ≡ j → ⊥) → blockAt y from v j ≡ blockAt y from v₀ j
   turning-other j h other =
       ap (λ (x : List Float). blockAt y from x j) e.same
-      ∙ block-other y e.lawful from i (tab (levels y i) g) v₀ e.here (length-tab (levels y i) g) e.fits j h other
+      ∙ block-other y e.validLayout from i (tab (levels y i) g) v₀ e.here (length-tab (levels y i) g) e.fits j h other
 
   over : (b : List Float) → length b ≡ levels y i → withBlockAt y from i b v ≡ withBlockAt y from i b v₀
   over b q =
       let fits = e.fits in
       let n = length-tab (levels y i) g in
-      let within = rows-within y e.lawful i e.here in
+      let within = rows-within y e.validLayout i e.here in
       ap (withBlockAt y from i b) e.same ∙ store-store (from + rowStart y i) (tab (levels y i) g) v₀ (omega arith) b (omega arith)
 
   -- a rule that makes each row of that row alone
@@ -74,10 +74,10 @@ module _ {y : Layout} {from i : ℕ} {v₀ : List Float} {g : ℕ → Float} {v 
       let same : v′ ≡ withBlockAt y from i b v₀ =
       then ∙ ap (λ (x : List Float). withBlockAt y from i x v) (tab-ext (levels y i) _ _ (λ r l. local _ _ r (cell-is r l))) ∙ over b n in
       record {
-        lawful = e.lawful;
+        validLayout = e.validLayout;
         here = e.here;
         fits = e.fits;
-        long = ap length same ∙ length-block y e.lawful from i b v₀ e.here n e.fits;
+        long = ap length same ∙ length-block y e.validLayout from i b v₀ e.here n e.fits;
         same = same;
       }
 

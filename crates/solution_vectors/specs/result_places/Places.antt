@@ -14,35 +14,35 @@ use Rattle.rules.specs.Cholesky.{at}
 use Rattle.layout.specs.declared.Layout.{Layout}
 use Rattle.profile.specs.Finish.{vOf, wOf, crossProduct, fixedTriangle, fixedRhs}
 
-abbrev pub effectsAt : Layout → ℕ
-effectsAt y = y .p
+abbrev pub bAt : Layout → ℕ
+bAt y = y .p
 
-abbrev pub offsetsAt : Layout → ℕ
-offsetsAt y = y .p + y .q
+abbrev pub uAt : Layout → ℕ
+uAt y = y .p + y .q
 
-abbrev pub factorAt : Layout → ℕ
-factorAt y = y .p + y .q + y .q
+abbrev pub lxAt : Layout → ℕ
+lxAt y = y .p + y .q + y .q
 
 -- w of y stands right behind L_X
 abbrev pub responseAt : Layout → ℕ
-responseAt y = factorAt y + start triangle (y .p)
+responseAt y = lxAt y + start triangle (y .p)
 
 -- w of row r of the fixed rows, the response's being row p
-abbrev pub solvedAt : Layout → ℕ → ℕ
-solvedAt y r = cond (eqb r (y .p)) (responseAt y) (responseAt y + y .q + r * y .q)
+abbrev pub wAt : Layout → ℕ → ℕ
+wAt y r = cond (eqb r (y .p)) (responseAt y) (responseAt y + y .q + r * y .q)
 
 -- how many doubles there are in all
-abbrev pub wholeLength : Layout → ℕ
-wholeLength y = responseAt y + y .q + y .p * y .q
+abbrev pub resultLengthOf : Layout → ℕ
+resultLengthOf y = responseAt y + y .q + y .p * y .q
 
 module _ (h : List ℕ) (w : List Float) (y : Layout) where
   -- the first n of the w stand in their places, rows 0 to p - 1, then the response's
   abbrev pub Solved : (n : ℕ) → List Float → Type 0
-  Solved n v = (r : ℕ) → suc r ≤ n → part (solvedAt y r) (y .q) v ≡ wOf h w r
+  Solved n v = (r : ℕ) → suc r ≤ n → part (wAt y r) (y .q) v ≡ wOf h w r
 
   -- X'X - V'W in the place of L_X, the right side in the place of beta, and y'y less v of y times w of y
   pub record Products (v : List Float) (r : Float) : Type 0 where
     pub solved : Solved (y .p + 1) v
-    pub triangle : part (factorAt y) (start triangle (y .p)) v ≡ fill (packed (y .p)) (fixedTriangle h w)
+    pub triangle : part (lxAt y) (start triangle (y .p)) v ≡ fill (packed (y .p)) (fixedTriangle h w)
     pub right : part 0 (y .p) v ≡ tab (y .p) (fixedRhs h w)
     pub rest : r ≡ ieee .minus (crossProduct h w (y .p) (y .p)) (dot ieee (at ieee (vOf h w (y .p))) (at ieee (wOf h w (y .p))) (y .q))

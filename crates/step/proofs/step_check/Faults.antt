@@ -3,7 +3,7 @@ use Prim.Native.Nat.{ℕ, _≤_}
 use mathlib.Core.Path.{_≡_, refl, sym, _∙_}
 use mathlib.Core.Bool.{Bool, true, false}
 use native.Mathlib.Omega.{arith}
-use Rattle.step_order.specs.Steps.{Step, S, C, T, Named, named, after}
+use Rattle.step_order.specs.Steps.{Step, S, C, T, IsStep, isStep, forerunners}
 use Rattle.step_order.specs.Progress.{all, done}
 use Rattle.step_order.proofs.Sets.{named-iff}
 use Rattle.heading_format.specs.declared.Progress.{Progress}
@@ -14,9 +14,9 @@ use Rattle.step.specs.step_check.Faults.{nameFault, faultOf}
 
 module _ (k : ℕ) (g : Progress) (s : Step) where
   abbrev number : ℕ
-  number = nameFault (named k s) (done (stageOf g) s) (all (done (stageOf g)) (after s))
+  number = nameFault (isStep k s) (done (stageOf g) s) (all (done (stageOf g)) (forerunners s))
 
-  module _ {n : Bool} (is-n : n ≡ named k s) where
+  module _ {n : Bool} (is-n : n ≡ isStep k s) where
     pub fault-unnamed : n ≡ false → 21 ≡ number
     fault-unnamed e = rw (← is-n, e) refl
 
@@ -24,7 +24,7 @@ module _ (k : ℕ) (g : Progress) (s : Step) where
       pub fault-done : d ≡ true → 23 ≡ number
       fault-done e = rw (← is-n, known, ← is-d, e) refl
 
-      module _ (undone : d ≡ false) {f : Bool} (is-f : f ≡ all (done (stageOf g)) (after s)) where
+      module _ (undone : d ≡ false) {f : Bool} (is-f : f ≡ all (done (stageOf g)) (forerunners s)) where
         pub fault-none : f ≡ true → 0 ≡ number
         fault-none e = rw (← is-n, known, ← is-d, undone, ← is-f, e) refl
 
@@ -32,15 +32,15 @@ module _ (k : ℕ) (g : Progress) (s : Step) where
         fault-forerun e = rw (← is-n, known, ← is-d, undone, ← is-f, e) refl
 
 -- a named step is one of eight blocks and the last
-named-more : (k : ℕ) (s : Step) → k ≤ 8 → Named k s → Named 8 s
+named-more : (k : ℕ) (s : Step) → k ≤ 8 → IsStep k s → IsStep 8 s
 named-more k (S i j x) h n = let c = n.2 in (n.0, n.1, omega arith)
 named-more k (C j) h n = omega arith
 named-more k (T i j) h n = let c = n.1 in (n.0, omega arith)
 
-pub named-eight : (k : ℕ) (s : Step) {b : Bool} → k ≤ 8 → b ≡ named k s → b ≡ true → Named 8 s
+pub named-eight : (k : ℕ) (s : Step) {b : Bool} → k ≤ 8 → b ≡ isStep k s → b ≡ true → IsStep 8 s
 named-eight k s h e t = named-more k s h (named-iff k s .0 (sym e ∙ t))
 
 -- under way, the name decides
 pub fault-named : (k : ℕ) (g : Progress) (s : Step) {state : State} {r : ℕ} → state ≡ UnderWay → state ≡ g .state
-    → r ≡ nameFault (named k s) (done (stageOf g) s) (all (done (stageOf g)) (after s)) → r ≡ faultOf k g s
+    → r ≡ nameFault (isStep k s) (done (stageOf g) s) (all (done (stageOf g)) (forerunners s)) → r ≡ faultOf k g s
 fault-named k g s e q f = f ∙ rw (← q, e) refl

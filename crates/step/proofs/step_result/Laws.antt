@@ -17,21 +17,21 @@ use Rattle.storage.specs.Shape.{sizeOf}
 use Rattle.storage.specs.Part.{store}
 use Rattle.storage.proofs.Parts.{length-part, length-store, drop-store, part-else, store-behind}
 use Rattle.storage.proofs.Blocks.{length-fill}
-use Rattle.step_order.specs.Steps.{Step, S, C, T, row, col, index, Named}
+use Rattle.step_order.specs.Steps.{Step, S, C, T, row, col, index, IsStep}
 use Rattle.rules.specs.Arithmetic.{ieee}
 use Rattle.layout.specs.declared.Layout.{Layout}
 use Rattle.heading_format.specs.declared.Progress.{Progress}
 use Rattle.layout.specs.Shapes.{shape, sizes, thetaAt, workingAt, sumAt, doublesNeeded}
-use Rattle.heading_format.specs.Heading.{layoutOf, progressOf, entryRow, lawful, idle}
+use Rattle.heading_format.specs.Heading.{layoutOf, progressOf, entryRow, validLayout, idle}
 use Rattle.heading_format.specs.Marked.{marked}
-use Rattle.heading_format.proofs.Lawful.{is-lawful}
+use Rattle.heading_format.proofs.Valid.{is-valid}
 use Rattle.layout.proofs.Places.{size-working, working-behind, working-inside}
-use Rattle.workspace.specs.Memory.{workingBlock, headingWith, noughts, cleared}
-use Rattle.workspace.specs.Answers.{Outcome, space}
+use Rattle.workspace.specs.Memory.{workingBlock, headingWith, zeros, cleared}
+use Rattle.workspace.specs.Answers.{Outcome, workspace}
 use Rattle.re_lower.specs.declared.Pivots.{Pivots}
 use Rattle.re_lower.specs.declared.Pivots.the-variants.{Accepted as Factored, Refused as NotFactored}
 use Rattle.re_lower.proofs.Blocks.{accepted-none, refused-some}
-use Rattle.update.specs.declared.Name.{Name}
+use Rattle.update.specs.declared.StepName.{StepName}
 use Rattle.update.specs.Names.{stepOfName}
 use Rattle.update.specs.Working.{subtracted}
 use Rattle.update.specs.Calls.{advanced, madeBy, sumBy, refusedBy, stepped, onPivot}
@@ -39,8 +39,8 @@ use Rattle.block_places.proofs.block_sizes.Sizes.{doubles-small}
 use Rattle.heading_format.specs.Fits.{Fits}
 use Rattle.step_blocks.specs.factor_logs.Factors.{OwnBlock, Factors}
 use Rattle.step_blocks.proofs.factor_logs.Forms.{kept}
-use Rattle.step.specs.declared.step_result.Moved.{Moved}
-use Rattle.step.specs.step_result.Taken.{movedBy, doublesBy, Taken}
+use Rattle.step.specs.declared.step_result.StepResult.{StepResult}
+use Rattle.step.specs.step_result.Applied.{movedBy, doublesBy, Applied}
 use Rattle.update.proofs.Lengths.{length-solved}
 
 -- ---- stores
@@ -63,7 +63,7 @@ unfolding tab
 same-cells zero z = refl
 same-cells (suc n) z = ap (λ (l : List Float). l ++ (z ∷ [])) (same-cells n z) ∙ replicate-more n z
 
-module _ (y : Layout) (ok : lawful y ≡ true) (w : List Float) (room : doublesNeeded y ≤ length w) {from sum : ℕ} (is-from : from ≡ thetaAt y) (is-sum : sum ≡ sumAt y) where
+module _ (y : Layout) (ok : validLayout y ≡ true) (w : List Float) (room : doublesNeeded y ≤ length w) {from sum : ℕ} (is-from : from ≡ thetaAt y) (is-sum : sum ≡ sumAt y) where
   pub sum-small : sum + 1 < 2199023255552
   sum-small = rw is-sum (doubles-small y ok)
 
@@ -75,23 +75,23 @@ module _ (y : Layout) (ok : lawful y ≡ true) (w : List Float) (room : doublesN
   working-fit = rw is-sum room
 
   pub all-cleared : {w′ : List Float} → w′ ≡ store from (tab (sum + 1 - from) (λ x. ieee .zero)) w → w′ ≡ cleared y w
-  unfolding cleared noughts
+  unfolding cleared zeros
   all-cleared e =
       e ∙ ap (λ (l : List Float). store from l w) (same-cells (sum + 1 - from) ieee.zero)
       ∙ ap₂ (λ (a b : ℕ). store a (replicate (b - a) ieee.zero) w) is-from (ap (λ (x : ℕ). x + 1) is-sum ∙ add-one (sumAt y))
 
-abbrev both : Answer → Progress → Moved
+abbrev both : Answer → Progress → StepResult
 both a p = record { answer = a; progress = p }
 
 module _ (h : List ℕ) (w : List Float) (y : Layout) (g : Progress) (is : y ≡ layoutOf h) (fit : Fits h (length w)) where
-  pub lawful-now : lawful y ≡ true
-  lawful-now = rw is fit.layout
+  pub valid-now : validLayout y ≡ true
+  valid-now = rw is fit.layout
 
   pub room : doublesNeeded y ≤ length w
   room = rw is fit.room
 
   pub few : y .k ≤ 8
-  few = is-lawful y lawful-now .blocks .1
+  few = is-valid y valid-now .blocks .1
 
   -- ---- one step more
 
@@ -113,8 +113,8 @@ module _ (h : List ℕ) (w : List Float) (y : Layout) (g : Progress) (is : y ≡
       fits-own : length made ≡ sizes y i j
       fits-own = long ∙ rw (← is) (size-working y (entryRow h) i j)
 
-      sum-stands : store (sumAt y) (getD w (sumAt y) (ieee .zero) ∷ []) (store (workingAt y i j) made w) ≡ store (workingAt y i j) made w
-      sum-stands =
+      sum-unchanged : store (sumAt y) (getD w (sumAt y) (ieee .zero) ∷ []) (store (workingAt y i j) made w) ≡ store (workingAt y i j) made w
+      sum-unchanged =
           let fits : workingAt y i j + length made ≤ length w = omega (arith, fits-own, own-inside, room) in
           ap (λ (x : Float). store (sumAt y) (x ∷ []) (store (workingAt y i j) made w))
           (sym (store-behind (workingAt y i j) made w fits ieee.zero (sumAt y) (omega (arith, fits-own, own-inside))))
@@ -130,32 +130,32 @@ module _ (h : List ℕ) (w : List Float) (y : Layout) (g : Progress) (is : y ≡
       length-solved (shape (layoutOf h) (entryRow h) i j) (shape (layoutOf h) (entryRow h) j j) (workingBlock h w i j) (workingBlock h w j j) (own-length i j a b)
 
   module _ (w′ : List Float) {place stage : ℕ} {p : Progress} (is-p : p ≡ marked g place stage) where
-    pub subtract-taken : (i j x : ℕ) → Named (y .k) (S i j x) → place ≡ start triangle i + j → stage ≡ x + 1 → w′ ≡ store (workingAt y i j) (madeBy h w (S i j x)) w
-        → Taken y g h w w′ (S i j x) (both Accepted p)
+    pub subtract-applied : (i j x : ℕ) → IsStep (y .k) (S i j x) → place ≡ start triangle i + j → stage ≡ x + 1 → w′ ≡ store (workingAt y i j) (madeBy h w (S i j x)) w
+        → Applied y g h w w′ (S i j x) (both Accepted p)
     unfolding refusedBy stepped sumBy
-    subtract-taken i j x n e f q =
+    subtract-applied i j x n e f q =
         record {
           moved = ap (both Accepted) (one-more (S i j x) is-p e (f ∙ add-one x));
-          doubles = q ∙ sym (sum-stands i j n.1 n.2 (madeBy h w (S i j x)) (subtract-long i j x)) ∙ rw is refl;
+          doubles = q ∙ sym (sum-unchanged i j n.1 n.2 (madeBy h w (S i j x)) (subtract-long i j x)) ∙ rw is refl;
         }
 
-    pub solve-taken : (i j : ℕ) → Named (y .k) (T i j) → place ≡ start triangle i + j → stage ≡ j + 1 → w′ ≡ store (workingAt y i j) (madeBy h w (T i j)) w
-        → Taken y g h w w′ (T i j) (both Accepted p)
+    pub solve-applied : (i j : ℕ) → IsStep (y .k) (T i j) → place ≡ start triangle i + j → stage ≡ j + 1 → w′ ≡ store (workingAt y i j) (madeBy h w (T i j)) w
+        → Applied y g h w w′ (T i j) (both Accepted p)
     unfolding refusedBy stepped sumBy
-    solve-taken i j n e f q =
+    solve-applied i j n e f q =
         record {
           moved = ap (both Accepted) (one-more (T i j) is-p e (f ∙ add-one j));
-          doubles = q ∙ sym (sum-stands i j below n.1 (madeBy h w (T i j)) (solve-long i j below n.1)) ∙ rw is refl;
+          doubles = q ∙ sym (sum-unchanged i j below n.1 (madeBy h w (T i j)) (solve-long i j below n.1)) ∙ rw is refl;
         }
       where
         below : j ≤ i
         below = let a = n.0 in omega arith
 
     -- C: its own block and the sum
-    pub factor-taken : (j : ℕ) → Named (y .k) (C j) → place ≡ start triangle j + j → stage ≡ j + 1 → (a : Pivots) → Factors y h w w′ j a → a ≡ Factored
-        → Taken y g h w w′ (C j) (both Accepted p)
+    pub factor-applied : (j : ℕ) → IsStep (y .k) (C j) → place ≡ start triangle j + j → stage ≡ j + 1 → (a : Pivots) → Factors y h w w′ j a → a ≡ Factored
+        → Applied y g h w w′ (C j) (both Accepted p)
     unfolding stepped
-    factor-taken j n e f a t q =
+    factor-applied j n e f a t q =
         let o : refusedBy h w (C j) ≡ none = accepted-none (refusedBy h w (C j)) (sym q ∙ t.answer) in
         record {
           moved = ap (both Accepted) (one-more (C j) is-p e (f ∙ add-one j)) ∙ ap (movedBy y g (C j)) (sym o);
@@ -166,7 +166,7 @@ module _ (h : List ℕ) (w : List Float) (y : Layout) (g : Progress) (is : y ≡
         after e = ap (λ (z : Layout). store (sumAt z) (sumBy h w (C j) ∷ []) (store (workingAt z j j) (madeBy h w (C j)) w)) e
 
   -- 26: what C left of its own block is cleared with all else
-  module _ (j : ℕ) (n : Named (y .k) (C j)) (w₁ : List Float) (a : Pivots) (t : Factors y h w w₁ j a) (r : ℕ) (q : a ≡ NotFactored r) where
+  module _ (j : ℕ) (n : IsStep (y .k) (C j)) (w₁ : List Float) (a : Pivots) (t : Factors y h w w₁ j a) (r : ℕ) (q : a ≡ NotFactored r) where
     row-is : refusedBy h w (C j) ≡ some r
     row-is = refused-some (refusedBy h w (C j)) r (sym q ∙ t.answer)
 
@@ -180,14 +180,14 @@ module _ (h : List ℕ) (w : List Float) (y : Layout) (g : Progress) (is : y ≡
     still-room = rw kept-own.stands (omega (arith, length-store (workingAt y j j) kept-own.left w own-fits, room))
 
     cleared-same : cleared y w₁ ≡ cleared y w
-    unfolding cleared noughts
+    unfolding cleared zeros
     cleared-same =
         let f = kept-own.fits in
         ap (cleared y) kept-own.stands
-        ∙ over w (workingAt y j j) kept-own.left (thetaAt y) (noughts y) own-fits (omega (arith, working-behind y j j (omega arith) n))
+        ∙ over w (workingAt y j j) kept-own.left (thetaAt y) (zeros y) own-fits (omega (arith, working-behind y j j (omega arith) n))
         (omega (arith, length-replicate (suc (sumAt y) - thetaAt y) ieee.zero, own-inside j j (omega arith) n))
 
-    pub factor-refused : (w′ : List Float) {p : Progress} → w′ ≡ cleared y w₁ → p ≡ idle (y .k) → Taken y g h w w′ (C j) (both (refuse 26 j r) p)
+    pub factor-refused : (w′ : List Float) {p : Progress} → w′ ≡ cleared y w₁ → p ≡ idle (y .k) → Applied y g h w w′ (C j) (both (refuse 26 j r) p)
     factor-refused w′ e f =
         record {
           moved = ap (both (refuse 26 j r)) f ∙ ap (movedBy y g (C j)) (sym row-is);
@@ -197,24 +197,24 @@ module _ (h : List ℕ) (w : List Float) (y : Layout) (g : Progress) (is : y ≡
 -- ---- the heading
 
 module _ (h : List ℕ) (w : List Float) (y : Layout) (g : Progress) (s : Step) (is-y : y ≡ layoutOf h) (is-g : g ≡ progressOf h) where
-  abbrev written : Moved → List Float → Outcome
-  written n v = record { answer = n.answer; left = space (headingWith h n.progress) v }
+  abbrev written : StepResult → List Float → Outcome
+  written n v = record { answer = n.answer; left = workspace (headingWith h n.progress) v }
 
   accepted-whole : written (movedBy y g s none) (doublesBy y h w s none) ≡ onPivot h w none s
   unfolding stepped
   accepted-whole = ap (λ (z : Progress). written (movedBy y z s none) (doublesBy y h w s none)) is-g
 
-  by-pivot : (m : Moved) (w′ : List Float) (o : Option ℕ) → m ≡ movedBy y g s o → w′ ≡ doublesBy y h w s o → written m w′ ≡ onPivot h w o s
+  by-pivot : (m : StepResult) (w′ : List Float) (o : Option ℕ) → m ≡ movedBy y g s o → w′ ≡ doublesBy y h w s o → written m w′ ≡ onPivot h w o s
   by-pivot m w′ none a b = ap₂ written a b ∙ accepted-whole
   by-pivot m w′ (some r) a b = ap₂ written a b ∙ ap (λ (z : Layout). written (movedBy z g s (some r)) (doublesBy z h w s (some r))) is-y
 
   -- what is left of a workspace
-  pub ready-left : (h′ : List ℕ) (w′ : List Float) (m : Moved) → Taken y g h w w′ s m → h′ ≡ headingWith h (m .progress)
-      → record { answer = m .answer; left = space h′ w′ } ≡ onPivot h w (refusedBy h w s) s
+  pub ready-left : (h′ : List ℕ) (w′ : List Float) (m : StepResult) → Applied y g h w w′ s m → h′ ≡ headingWith h (m .progress)
+      → record { answer = m .answer; left = workspace h′ w′ } ≡ onPivot h w (refusedBy h w s) s
   ready-left h′ w′ m t e =
-      ap (λ (x : List ℕ). record { answer = m.answer; left = space x w′ }) e ∙ by-pivot m w′ (refusedBy h w s) t.moved t.doubles
+      ap (λ (x : List ℕ). record { answer = m.answer; left = workspace x w′ }) e ∙ by-pivot m w′ (refusedBy h w s) t.moved t.doubles
 
 -- a step by its name
-pub by-name : (y : Layout) (g : Progress) (h : List ℕ) (w : List Float) {w′ : List Float} {m : Moved} {name n : Name} → name ≡ n → Taken y g h w w′ (stepOfName n) m
-    → Taken y g h w w′ (stepOfName name) m
-by-name y g h w {w′} {m} e t = subst (λ (x : Name). Taken y g h w w′ (stepOfName x) m) (sym e) t
+pub by-name : (y : Layout) (g : Progress) (h : List ℕ) (w : List Float) {w′ : List Float} {m : StepResult} {name n : StepName} → name ≡ n → Applied y g h w w′ (stepOfName n) m
+    → Applied y g h w w′ (stepOfName name) m
+by-name y g h w {w′} {m} e t = subst (λ (x : StepName). Applied y g h w w′ (stepOfName x) m) (sym e) t

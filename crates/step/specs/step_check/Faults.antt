@@ -1,7 +1,7 @@
 -- Which refusal a step's name meets (document 01, "Refused because of the state": 22, 21, 23, 24).
 use Prim.Native.Nat.{ℕ}
 use mathlib.Core.Bool.{Bool}
-use Rattle.step_order.specs.Steps.{Step, named, after}
+use Rattle.step_order.specs.Steps.{Step, isStep, forerunners}
 use Rattle.step_order.specs.Progress.{all, done}
 use Rattle.heading_format.specs.declared.Progress.{Progress}
 use Rattle.layout.specs.Shapes.{pick}
@@ -14,4 +14,4 @@ nameFault known isDone forerun = pick known (pick isDone 23 (pick forerun 0 24))
 
 -- 22 first; 0 where the step is ready
 abbrev pub faultOf : ℕ → Progress → Step → ℕ
-faultOf k g s = pick (isUnderWay (g .state)) (nameFault (named k s) (done (stageOf g) s) (all (done (stageOf g)) (after s))) 22
+faultOf k g s = pick (isUnderWay (g .state)) (nameFault (isStep k s) (done (stageOf g) s) (all (done (stageOf g)) (forerunners s))) 22

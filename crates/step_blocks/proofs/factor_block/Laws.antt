@@ -17,7 +17,7 @@ use Rattle.step_order.specs.Steps.{C}
 use Rattle.rules.specs.Arithmetic.{ieee}
 use Rattle.layout.specs.declared.Layout.{Layout}
 use Rattle.layout.specs.Shapes.{pick, shape, sizes, workingAt, sumAt, doublesNeeded}
-use Rattle.heading_format.specs.Heading.{layoutOf, entryRow, lawful}
+use Rattle.heading_format.specs.Heading.{layoutOf, entryRow, validLayout}
 use Rattle.layout.proofs.Places.{size-working, working-inside}
 use Rattle.workspace.specs.Memory.{cellOf, logSum}
 use Rattle.re_lower.specs.declared.Pivots.{Pivots}
@@ -58,8 +58,8 @@ rows-counted false n = refl
 -- ---- the workspace
 
 module _ (h : List ℕ) (w : List Float) (y : Layout) (is : y ≡ layoutOf h) (fit : Fits h (length w)) (j : ℕ) (below : j ≤ y .k) where
-  pub lawful-now : lawful y ≡ true
-  lawful-now = rw is fit.layout
+  pub valid-now : validLayout y ≡ true
+  valid-now = rw is fit.layout
 
   room : sumAt y < length w
   room = let r : doublesNeeded y ≤ length w = rw is fit.room in omega arith

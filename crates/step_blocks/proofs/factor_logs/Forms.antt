@@ -16,8 +16,8 @@ use Rattle.storage.proofs.Parts.{store-part}
 use Rattle.rules.specs.Arithmetic.{ieee}
 use Rattle.layout.specs.declared.Layout.{Layout}
 use Rattle.layout.specs.Shapes.{pick, levels, shape}
-use Rattle.heading_format.specs.Heading.{lawful}
-use Rattle.heading_format.proofs.Lawful.{is-lawful}
+use Rattle.heading_format.specs.Heading.{validLayout}
+use Rattle.heading_format.proofs.Valid.{is-valid}
 use Rattle.block_places.proofs.block_sizes.Sizes.{below}
 use Rattle.block_places.specs.block_kinds.Rows.{rowsOf, isDiagonal}
 use Rattle.block_places.proofs.block_kinds.Shapes.{rows-level, diagonal-shape, packed-shape, packed-limit}
@@ -35,17 +35,17 @@ use Rattle.storage.proofs.Cells.{any-default}
 abbrev pub Forms : Layout → ℕ → Bool → ℕ → Type 0
 Forms y j d n = ((row : ℕ → ℕ) → shape y row j j ≡ factorShapeOf d n) × (d ≡ false → n ≤ 316) × (j ≡ 0 → d ≡ true)
 
-module _ (y : Layout) (ok : lawful y ≡ true) (j : ℕ) where
+module _ (y : Layout) (ok : validLayout y ≡ true) (j : ℕ) where
   -- the last triangle
   pub last-form : y .k ≡ j → Forms y j false (y .p + 1)
   unfolding shape
   last-form e =
-      let b = is-lawful y ok .blocks .0 in
-      let p = is-lawful y ok .effects .1 in
+      let b = is-valid y ok .blocks .0 in
+      let p = is-valid y ok .effects .1 in
       (λ row. rw (eq-eqb j y.k (sym e)) refl, λ q. omega arith, λ z. absurd (omega arith))
 
   pub inner : j ≤ y .k → (y .k ≡ j → ⊥) → j < 8
-  inner h e = let b = is-lawful y ok .blocks .1 in omega arith
+  inner h e = let b = is-valid y ok .blocks .1 in omega arith
 
   -- an earlier one
   pub inner-form : {d : Bool} {n : ℕ} → j ≤ y .k → (y .k ≡ j → ⊥) → d ≡ isDiagonal y j → n ≡ levels y j → Forms y j d n

@@ -12,7 +12,7 @@ use borrow.Author.Tests.{eq-eqb, ne-eqb}
 use Rattle.storage.specs.Shape.{packed, diagonal, columns, entries, sizeOf}
 use Rattle.layout.specs.declared.Layout.{Layout}
 use Rattle.layout.specs.Shapes.{shape, workingAt, doublesNeeded}
-use Rattle.heading_format.specs.Heading.{lawful}
+use Rattle.heading_format.specs.Heading.{validLayout}
 use Rattle.block_places.proofs.block_sizes.Sizes.{not-both}
 use Rattle.cross_block.specs.Blocks.{dividedColumns, solvedRows}
 use Rattle.block_places.specs.block_kinds.Rows.{rowsOf, isDiagonal}
@@ -31,7 +31,7 @@ pub own-rows : (y : Layout) (i : ℕ) → (i ≡ y .k) ⊎ (y .sparse ≡ false)
 own-rows y i why =
     let n = not-both y.sparse (not (eqb i y.k)) (⊎-elim (λ e. inr (ap not (eq-eqb i y.k e))) (λ p. inl p) why) in rw n refl
 
-module _ (y : Layout) (ok : lawful y ≡ true) (i j : ℕ) (h : j < i) (g : i ≤ y .k) where
+module _ (y : Layout) (ok : validLayout y ≡ true) (i j : ℕ) (h : j < i) (g : i ≤ y .k) where
   -- ---- the target
 
   -- by a triangle, it is dense

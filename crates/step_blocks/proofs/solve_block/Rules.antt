@@ -20,7 +20,7 @@ use Rattle.update.specs.Working.{solved}
 use Rattle.update.specs.Calls.{madeBy}
 use Rattle.block_places.specs.block_kinds.Rows.{rowsOf, isDiagonal}
 use Rattle.block_places.proofs.block_kinds.Shapes.{diagonal-shape, packed-shape}
-use Rattle.block_places.proofs.block_kinds.Workspace.{fits-lawful}
+use Rattle.block_places.proofs.block_kinds.Workspace.{fits-valid}
 use Rattle.step_blocks.specs.solve_block.Factor.{heightOf}
 use Rattle.step_blocks.proofs.solve_block.Factors.{solved-shape, divided-shape}
 
@@ -61,12 +61,12 @@ module _ (h : List ℕ) (w : List Float) (y : Layout) (e : y ≡ layoutOf h) (fi
       ⊎-elim
       (λ t. rw t.0 (sym (made-is ∙ of-entries w (workingAt y i j) (workingAt y j j) (shape y row i j) (shape y row j j) row (rowsOf y j) t.1 by)))
       (λ t. rw t.0 (sym (made-is ∙ by-diagonal w (workingAt y i j) (workingAt y j j) (shape y row i j) (shape y row j j) (rowsOf y i) (rowsOf y j) t.1 by)))
-      (divided-shape y (fits-lawful h w y e fit) i j l g row)
+      (divided-shape y (fits-valid h w y e fit) i j l g row)
 
   -- by a triangle
   pub made-solved : isDiagonal y j ≡ false → solvedRows (workingAt y i j) (rowsOf y i) (rowsOf y j) (workingAt y j j) w ≡ store (workingAt y i j) (madeBy h w (T i j)) w
   made-solved d =
       sym
       (made-is
-      ∙ by-triangle w (workingAt y i j) (workingAt y j j) (shape y row i j) (shape y row j j) (rowsOf y i) (rowsOf y j) (solved-shape y (fits-lawful h w y e fit) i j l g row d)
+      ∙ by-triangle w (workingAt y i j) (workingAt y j j) (shape y row i j) (shape y row j j) (rowsOf y i) (rowsOf y j) (solved-shape y (fits-valid h w y e fit) i j l g row d)
       (packed-shape y row j (λ q. omega arith) d))

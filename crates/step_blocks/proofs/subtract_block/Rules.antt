@@ -12,13 +12,13 @@ use borrow.Author.Tests.{eq-eqb, ne-eqb}
 use Rattle.storage.specs.Shape.{Shape, packed, diagonal, columns, entries, sizeOf, fill}
 use Rattle.storage.specs.Part.{store}
 use Rattle.storage.proofs.Starts.{start-single}
-use Rattle.step_order.specs.Steps.{S, Named}
+use Rattle.step_order.specs.Steps.{S, IsStep}
 use Rattle.rules.specs.Arithmetic.{ieee}
 use Rattle.rules.specs.Steps.{subtractDense, subtractDiagonal, subtractLast, subtractSparse}
 use Rattle.layout.specs.declared.Layout.{Layout}
 use Rattle.layout.specs.Shapes.{pick, levels, shape, loadedShape, loadedAt, workingAt}
 use Rattle.heading_format.specs.Heading.{layoutOf, entryRow}
-use Rattle.heading_format.proofs.Lawful.{both}
+use Rattle.heading_format.proofs.Valid.{both}
 use Rattle.block_places.proofs.block_sizes.Sizes.{below, not-both}
 use Rattle.heading_format.specs.Fits.{Fits}
 use Rattle.block_runs.specs.blocks.Blocks.{block, entry, rowFrom}
@@ -28,7 +28,7 @@ use Rattle.cross_block.specs.Blocks.{subtractedSparse}
 use Rattle.update.specs.Working.{subtracted}
 use Rattle.update.specs.Calls.{madeBy}
 use Rattle.block_places.specs.block_kinds.Rows.{rowsOf}
-use Rattle.block_places.proofs.block_kinds.Workspace.{fits-lawful, fits-two}
+use Rattle.block_places.proofs.block_kinds.Workspace.{fits-valid, fits-two}
 use Rattle.block_places.proofs.block_kinds.Shapes.{rows-level, last-shape, triangle-shape, second-shape, dense-shape, sparse-shape, loaded-pair, sparse-two}
 use Rattle.heading_format.proofs.Sorted.{triangle-dense}
 
@@ -113,7 +113,7 @@ module _ (h : List ℕ) (w : List Float) (y : Layout) (e : y ≡ layoutOf h) (fi
   made-is i j x = rw e refl
 
   -- the last triangle
-  pub made-last : (i j x : ℕ) → Named (y .k) (S i j x) → j ≡ y .k
+  pub made-last : (i j x : ℕ) → IsStep (y .k) (S i j x) → j ≡ y .k
       → subtractedLast (workingAt y (y .k) (y .k)) (rowsOf y (y .k)) (workingAt y (y .k) x) (rowsOf y x) w ≡ store (workingAt y i j) (madeBy h w (S i j x)) w
   made-last i j x (l, g, u) q =
       let i₁ : i ≡ y .k = omega arith in
@@ -125,11 +125,11 @@ module _ (h : List ℕ) (w : List Float) (y : Layout) (e : y ≡ layoutOf h) (fi
       (last-shape y row y.k y.k refl refl)))
 
   -- a triangle
-  pub made-triangle : (i j x : ℕ) → Named (y .k) (S i j x) → (j ≡ y .k → ⊥) → i ≡ j → (y .diagonal && eqb j 1) ≡ false
+  pub made-triangle : (i j x : ℕ) → IsStep (y .k) (S i j x) → (j ≡ y .k → ⊥) → i ≡ j → (y .diagonal && eqb j 1) ≡ false
       → subtractedRank (workingAt y j j) (rowsOf y j) (workingAt y j x) (rowsOf y x) w ≡ store (workingAt y i j) (madeBy h w (S i j x)) w
   made-triangle i j x (l, g, u) o q d =
       let j₁ : j < y .k = below j y.k (omega arith) o in
-      let p : y .sparse ≡ false = triangle-dense y (fits-lawful h w y e fit) j (omega arith) j₁ d in
+      let p : y .sparse ≡ false = triangle-dense y (fits-valid h w y e fit) j (omega arith) j₁ d in
       let s = dense-shape y row j x l (omega arith) (inr p) in
       rw q
       (sym
@@ -138,7 +138,7 @@ module _ (h : List ℕ) (w : List Float) (y : Layout) (e : y ≡ layoutOf h) (fi
       (not-both (eqb j y.k) y.sparse (inr p)) (triangle-shape y row j (omega arith) j₁ d) s refl))
 
   -- a dense block
-  pub made-dense : (i j x : ℕ) → Named (y .k) (S i j x) → (i ≡ j → ⊥) → y .sparse ≡ false
+  pub made-dense : (i j x : ℕ) → IsStep (y .k) (S i j x) → (i ≡ j → ⊥) → y .sparse ≡ false
       → subtractedDense (workingAt y i j) (rowsOf y i) (rowsOf y j) (workingAt y i x) (workingAt y j x) (rowsOf y x) w ≡ store (workingAt y i j) (madeBy h w (S i j x)) w
   made-dense i j x (l, g, u) o p =
       let j₁ : j < i = below j i g (λ q. o (sym q)) in
@@ -149,7 +149,7 @@ module _ (h : List ℕ) (w : List Float) (y : Layout) (e : y ≡ layoutOf h) (fi
       (dense-shape y row j x l (omega arith) (inr p)))
 
   -- the diagonal, with a dense pair
-  pub made-diagonal : (i j x : ℕ) → Named (y .k) (S i j x) → (j ≡ y .k → ⊥) → i ≡ j → y .diagonal ≡ true → j ≡ 1 → y .sparse ≡ false
+  pub made-diagonal : (i j x : ℕ) → IsStep (y .k) (S i j x) → (j ≡ y .k → ⊥) → i ≡ j → y .diagonal ≡ true → j ≡ 1 → y .sparse ≡ false
       → subtractedDiagonal (workingAt y 1 1) (rowsOf y 1) (columns (rowsOf y 1) (rowsOf y 0)) (workingAt y 1 0) (rowsOf y 0) (loadedAt y 1 0) w ≡ store (workingAt y i j) (madeBy h w (S i j x)) w
   made-diagonal i j x (l, g, u) o q d one p =
       let k₁ : 1 < y .k = below 1 y.k (omega arith) (λ z. o (one ∙ z)) in
@@ -163,11 +163,11 @@ module _ (h : List ℕ) (w : List Float) (y : Layout) (e : y ≡ layoutOf h) (fi
       (second-shape y row k₁ d) (loaded-pair y row 1 0 (omega arith) ∙ s)))
 
   -- and with a sparse one
-  pub made-entries : (i j x : ℕ) → Named (y .k) (S i j x) → i ≡ j → j ≡ 1 → y .sparse ≡ true
+  pub made-entries : (i j x : ℕ) → IsStep (y .k) (S i j x) → i ≡ j → j ≡ 1 → y .sparse ≡ true
       → subtractedDiagonal (workingAt y 1 1) (rowsOf y 1) (entries (rowsOf y 0) (rowFrom h 128)) (workingAt y 1 0) (rowsOf y 0) (loadedAt y 1 0) w ≡ store (workingAt y i j) (madeBy h w (S i j x)) w
   made-entries i j x (l, g, u) q one p =
       let two = fits-two h w y e fit p in
-      let d = sparse-two y (fits-lawful h w y e fit) p .0 in
+      let d = sparse-two y (fits-valid h w y e fit) p .0 in
       let i₁ : i ≡ 1 = omega arith in
       let x₀ : x ≡ 0 = omega arith in
       let s = sparse-shape y row 1 0 (omega arith) (omega arith) p in
@@ -178,7 +178,7 @@ module _ (h : List ℕ) (w : List Float) (y : Layout) (e : y ≡ layoutOf h) (fi
       (second-shape y row (omega arith) d) (loaded-pair y row 1 0 (omega arith) ∙ s)))
 
   -- the fixed rows, with a sparse pair
-  pub made-sparse : (i j x : ℕ) → Named (y .k) (S i j x) → (i ≡ j → ⊥) → y .sparse ≡ true
+  pub made-sparse : (i j x : ℕ) → IsStep (y .k) (S i j x) → (i ≡ j → ⊥) → y .sparse ≡ true
       → subtractedSparse (workingAt y 2 1) (rowsOf y 2) (rowsOf y 1) (workingAt y 2 0) (workingAt y 1 0) (rowsOf y 0) (rowFrom h 128) w ≡ store (workingAt y i j) (madeBy h w (S i j x)) w
   made-sparse i j x (l, g, u) o p =
       let two = fits-two h w y e fit p in

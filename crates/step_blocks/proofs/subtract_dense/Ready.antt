@@ -13,7 +13,7 @@ use Rattle.storage.specs.Shape.{packed, diagonal, columns, entries, sizeOf}
 use Rattle.storage.proofs.Starts.{start-single}
 use Rattle.layout.specs.declared.Layout.{Layout}
 use Rattle.layout.specs.Shapes.{shape, loadedShape, loadedAt, workingAt, doublesNeeded}
-use Rattle.heading_format.specs.Heading.{lawful}
+use Rattle.heading_format.specs.Heading.{validLayout}
 use Rattle.block_places.proofs.block_sizes.Sizes.{not-both}
 use Rattle.block_runs.specs.blocks.Blocks.{RowsBelow}
 use Rattle.schur.specs.rank_diagonal.Diagonal.{subtractedDiagonal}
@@ -38,7 +38,7 @@ use Rattle.block_places.proofs.block_kinds.Shapes.{
 }
 use Rattle.heading_format.proofs.Sorted.{triangle-dense}
 
-module _ (y : Layout) (ok : lawful y ≡ true) (doubles : ℕ) (room : doublesNeeded y ≤ doubles) where
+module _ (y : Layout) (ok : validLayout y ≡ true) (doubles : ℕ) (room : doublesNeeded y ≤ doubles) where
   abbrev none : ℕ → ℕ
   none x = 0
 

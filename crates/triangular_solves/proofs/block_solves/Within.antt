@@ -10,20 +10,20 @@ use Rattle.storage.specs.Shape.{Shape, packed, diagonal, sizeOf}
 use Rattle.storage.proofs.Starts.{start-single}
 use Rattle.layout.specs.declared.Layout.{Layout}
 use Rattle.layout.specs.Shapes.{levels, shape, workingAt}
-use Rattle.heading_format.specs.Heading.{lawful, layoutOf, entryRow}
+use Rattle.heading_format.specs.Heading.{validLayout, layoutOf, entryRow}
 use Rattle.heading_format.specs.Fits.{Fits}
 use Rattle.workspace.specs.Loaded.{rowStart}
 use Rattle.block_places.proofs.sheet_rows.AllRows.{rows-within}
 use Rattle.block_places.specs.block_kinds.Rows.{rowsOf, isDiagonal}
 use Rattle.block_places.proofs.block_kinds.Shapes.{rows-level, diagonal-shape, packed-shape, block-inside, packed-limit}
-use Rattle.block_places.proofs.block_kinds.Workspace.{fits-lawful, fits-room}
+use Rattle.block_places.proofs.block_kinds.Workspace.{fits-valid, fits-room}
 use Rattle.re_factor.specs.Factor.{solvedForward, solvedBackward, divided}
 use Rattle.solution_vectors.specs.Vectors.{solvedForwardIn, solvedBackwardIn}
 
 -- factor i of a workspace, and block i of the vector at `from`
 module _ (h : List ℕ) (w : List Float) (y : Layout) (e : y ≡ layoutOf h) (fit : Fits h (length w)) (i : ℕ) (g : i < y .k) (from : ℕ) where
-  ok : lawful y ≡ true
-  ok = fits-lawful h w y e fit
+  ok : validLayout y ≡ true
+  ok = fits-valid h w y e fit
 
   factor-inside : (s : Shape) → shape y (entryRow h) i i ≡ s → workingAt y i i + sizeOf s ≤ length w
   factor-inside s q = block-inside y (entryRow h) (length w) (fits-room h w y e fit) i i (omega arith) (omega arith) s q

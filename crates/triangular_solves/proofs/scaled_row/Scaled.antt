@@ -27,7 +27,7 @@ use Rattle.block_places.proofs.sheet_rows.Rows.{order-below}
 use Rattle.block_places.proofs.sheet_rows.AllRows.{rows-within}
 use Rattle.block_places.specs.block_kinds.Rows.{rowsOf}
 use Rattle.block_places.proofs.block_kinds.Shapes.{rows-level, dense-shape, loaded-pair, loaded-room}
-use Rattle.block_places.proofs.block_kinds.Workspace.{fits-lawful, fits-room}
+use Rattle.block_places.proofs.block_kinds.Workspace.{fits-valid, fits-room}
 use Rattle.profile.specs.Solves.{scaledRow, blockIn}
 use Rattle.solution_vectors.specs.Vectors.{withBlockAt, Sized}
 use Rattle.solution_vectors.proofs.Vectors.{sized-tab}
@@ -51,7 +51,7 @@ module _ (h : List ℕ) (w : List Float) (y : Layout) (e : y ≡ layoutOf h) (fi
     -- theta of sorted block j
     module _ (x s : ℕ) (p : x ≡ thetaAt y) (q : s ≡ getD (y .order) j 0) where
       pub theta-room : x + s < length w
-      theta-room = omega (arith, fits-room h w y e fit, theta-inside y, order-below y (fits-lawful h w y e fit) j l)
+      theta-room = omega (arith, fits-room h w y e fit, theta-inside y, order-below y (fits-valid h w y e fit) j l)
 
       pub theta-read : getD w (x + s) nan ≡ thetaOf h w j
       theta-read =
@@ -60,7 +60,7 @@ module _ (h : List ℕ) (w : List Float) (y : Layout) (e : y ≡ layoutOf h) (fi
 
     -- the rows of sorted block j in a list of q rows
     pub rows-room : (from to n len : ℕ) → to ≡ rowStart y j → n ≡ rowsOf y j → from + y .q ≤ len → from + to + n ≤ len
-    rows-room from to n len p q fits = omega (arith, rows-within y (fits-lawful h w y e fit) j l, rows-level y j l)
+    rows-room from to n len p q fits = omega (arith, rows-within y (fits-valid h w y e fit) j l, rows-level y j l)
 
     -- its fixed rows are dense
     fixed-shape : (row : ℕ → ℕ) → loadedShape y row (y .k) j ≡ columns (rowsOf y (y .k)) (rowsOf y j)

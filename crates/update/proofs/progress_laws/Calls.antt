@@ -8,12 +8,12 @@ use lib.Dec.{eqb}
 use lib.ListN.{length}
 use lib.Ieee.{Float}
 use borrow.Author.Tests.{eqb-true}
-use Rattle.step_order.specs.Steps.{Step, named, after}
+use Rattle.step_order.specs.Steps.{Step, isStep, forerunners}
 use Rattle.step_order.specs.Progress.{all, done}
 use Rattle.refusal.specs.declared.Answer.{Answer}
 use Rattle.refusal.specs.declared.Answer.the-variants.{Accepted, Refused}
 use Rattle.layout.specs.Shapes.{pick}
-use Rattle.heading_format.specs.Heading.{layoutOf, progressOf, stageOf, underWay, headed}
+use Rattle.heading_format.specs.Heading.{layoutOf, progressOf, stageOf, underWay, validHeading}
 use Rattle.heading_format.proofs.Fits.{fits}
 use Rattle.update.proofs.progress_laws.Kept.{layout-kept}
 use Rattle.workspace.specs.Memory.{Workspace, headingWith}
@@ -36,19 +36,19 @@ module _ (h : List ℕ) (w : List Float) where
   -- a step
   step-kept : (s : Step) → Keeps h (stepOf h w s)
   unfolding stepOf stepped
-  step-kept s = go (headed h (length w)) refl
+  step-kept s = go (validHeading h (length w)) refl
     where
       pivot : 128 ≤ length h → (o : Option ℕ) → Keeps h (onPivot h w o s)
       pivot long none = layout-kept h long _
       pivot long (some r) = layout-kept h long _
 
-      go : (b : Bool) → headed h (length w) ≡ b → Keeps h (stepOf h w s)
+      go : (b : Bool) → validHeading h (length w) ≡ b → Keeps h (stepOf h w s)
       go true e =
           let d : Step → Bool = done (stageOf (progressOf h)) in
           rw e
           (keeps-pick h (isUnderWay (progressOf h .state)) _ _
-          (keeps-pick h (named (layoutOf h .k) s) _ _
-          (keeps-pick h (d s) _ _ refl (keeps-pick h (all d (after s)) _ _ (pivot (fits h (length w) e .long) (refusedBy h w s)) refl)) refl) refl)
+          (keeps-pick h (isStep (layoutOf h .k) s) _ _
+          (keeps-pick h (d s) _ _ refl (keeps-pick h (all d (forerunners s)) _ _ (pivot (fits h (length w) e .long) (refusedBy h w s)) refl)) refl) refl)
       go false e = rw e refl
 
   -- begin, by its tests
@@ -59,9 +59,9 @@ module _ (h : List ℕ) (w : List Float) where
 
     pub begin-kept : Keeps h (beginOf h w theta)
     unfolding beginOf begun
-    begin-kept = go (headed h (length w)) refl (eqb (length theta) (layoutOf h .k)) (firstInfinite 0 theta)
+    begin-kept = go (validHeading h (length w)) refl (eqb (length theta) (layoutOf h .k)) (firstInfinite 0 theta)
       where
-        go : (x : Bool) → headed h (length w) ≡ x → (y : Bool) (i : Option ℕ) → Keeps h (begunBy x y i)
+        go : (x : Bool) → validHeading h (length w) ≡ x → (y : Bool) (i : Option ℕ) → Keeps h (begunBy x y i)
         go true e true none = layout-kept h (fits h (length w) e .long) _
         go true e true (some i) = refl
         go true e false i = refl
@@ -69,12 +69,12 @@ module _ (h : List ℕ) (w : List Float) where
 
     -- an accepted one is in a workspace, theta has a number for each of its blocks, and it writes the progress of an update just begun
     pub begin-accepted : beginOf h w theta .answer ≡ Accepted
-        → (headed h (length w) ≡ true) × (length theta ≡ layoutOf h .k) × (beginOf h w theta .left .heading ≡ headingWith h (underWay (layoutOf h .k)))
+        → (validHeading h (length w) ≡ true) × (length theta ≡ layoutOf h .k) × (beginOf h w theta .left .heading ≡ headingWith h (underWay (layoutOf h .k)))
     unfolding beginOf begun
-    begin-accepted a = go (headed h (length w)) refl (eqb (length theta) (layoutOf h .k)) refl (firstInfinite 0 theta) (ap isAccepted a)
+    begin-accepted a = go (validHeading h (length w)) refl (eqb (length theta) (layoutOf h .k)) refl (firstInfinite 0 theta) (ap isAccepted a)
       where
-        go : (x : Bool) → headed h (length w) ≡ x → (y : Bool) → eqb (length theta) (layoutOf h .k) ≡ y → (i : Option ℕ) → isAccepted (begunBy x y i .answer) ≡ true
-            → (headed h (length w) ≡ true) × (length theta ≡ layoutOf h .k) × (begunBy x y i .left .heading ≡ headingWith h (underWay (layoutOf h .k)))
+        go : (x : Bool) → validHeading h (length w) ≡ x → (y : Bool) → eqb (length theta) (layoutOf h .k) ≡ y → (i : Option ℕ) → isAccepted (begunBy x y i .answer) ≡ true
+            → (validHeading h (length w) ≡ true) × (length theta ≡ layoutOf h .k) × (begunBy x y i .left .heading ≡ headingWith h (underWay (layoutOf h .k)))
         go true p true r none t = (p, eqb-true _ _ r, refl)
         go true p true r (some i) t = absurd (true≢false (sym t))
         go true p false r i t = absurd (true≢false (sym t))

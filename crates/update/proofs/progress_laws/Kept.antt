@@ -15,7 +15,7 @@ use Rattle.heading_format.specs.declared.State.{State}
 use Rattle.heading_format.specs.declared.State.the-variants.{Idle, UnderWay, Finished}
 use Rattle.layout.specs.Blocks.{padded}
 use Rattle.layout.specs.Shapes.{levels, numbersNeeded, doublesNeeded}
-use Rattle.heading_format.specs.Heading.{stateNumber, stateOf, layoutNumbers, progressNumbers, written, layoutOf, progressOf, entryRow, every, lawful, progressLawful, headed}
+use Rattle.heading_format.specs.Heading.{stateNumber, stateOf, layoutNumbers, progressNumbers, written, layoutOf, progressOf, entryRow, every, validLayout, validProgress, validHeading}
 use Rattle.heading_format.proofs.Fits.{fits}
 use Rattle.heading_format.proofs.Heading.{state-back, progress-back}
 use Rattle.workspace.specs.Memory.{headingWith}
@@ -104,23 +104,23 @@ module _ (h : List ℕ) (long : 128 ≤ length h) (g : Progress) where
   pub length-kept : length (headingWith h g) ≡ length h
   length-kept = length-store 22 (progressNumbers g) h room
 
--- ---- 20 of a heading with another lawful progress
--- what `headed` asks, of what is read from a heading
+-- ---- 20 of a heading with another valid progress
+-- what `validHeading` asks, of what is read from a heading
 nine : Layout → Progress → (n a b c : ℕ) (row : ℕ → ℕ) (doubles : ℕ) → Bool
 nine y g n a b c row doubles =
     leb 128 n
     && leb a 1
     && leb b 1
     && leb c 2
-    && lawful y
-    && progressLawful y.k g
+    && validLayout y
+    && validProgress y.k g
     && leb (numbersNeeded y) n
     && leb (doublesNeeded y) doubles
     && (not y.sparse || every (λ c. ltb (row c) (levels y 1)) (levels y 0))
 
-headed-nine : (h : List ℕ) (doubles : ℕ) → headed h doubles ≡ nine (layoutOf h) (progressOf h) (length h) (getD h 20 0) (getD h 21 0) (getD h 22 0) (entryRow h) doubles
-unfolding headed nine
-headed-nine h doubles = refl
+valid-heading-nine : (h : List ℕ) (doubles : ℕ) → validHeading h doubles ≡ nine (layoutOf h) (progressOf h) (length h) (getD h 20 0) (getD h 21 0) (getD h 22 0) (entryRow h) doubles
+unfolding validHeading nine
+valid-heading-nine h doubles = refl
 
 -- two of nine tests exchanged for others that pass
 exchanged : (a b c d e f g h i d′ f′ : Bool) → d′ ≡ true → f′ ≡ true → (a && b && c && d && e && f && g && h && i) ≡ true → (a && b && c && d′ && e && f′ && g && h && i) ≡ true
@@ -135,22 +135,22 @@ exchanged a b c d e f g h i d′ f′ p q t =
     let t₁ = and-eq-true-iff a b .0 t₂.0 in
     rw (t₁.0, t₁.1, t₂.1, p, t₄.1, q, t₆.1, t₇.1, t₈.1) refl
 
--- another progress and its state, both lawful
-nine-exchanged : (y : Layout) (g : Progress) (n a b c : ℕ) (row : ℕ → ℕ) (doubles : ℕ) (g′ : Progress) (c′ : ℕ) → leb c′ 2 ≡ true → progressLawful (y .k) g′ ≡ true
+-- another progress and its state, both valid
+nine-exchanged : (y : Layout) (g : Progress) (n a b c : ℕ) (row : ℕ → ℕ) (doubles : ℕ) (g′ : Progress) (c′ : ℕ) → leb c′ 2 ≡ true → validProgress (y .k) g′ ≡ true
     → nine y g n a b c row doubles ≡ true → nine y g′ n a b c′ row doubles ≡ true
 unfolding nine
 nine-exchanged y g n a b c row doubles g′ c′ =
-    exchanged (leb 128 n) (leb a 1) (leb b 1) (leb c 2) (lawful y) (progressLawful y.k g) (leb (numbersNeeded y) n) (leb (doublesNeeded y) doubles)
-    (not y.sparse || every (λ c. ltb (row c) (levels y 1)) (levels y 0)) (leb c′ 2) (progressLawful y.k g′)
+    exchanged (leb 128 n) (leb a 1) (leb b 1) (leb c 2) (validLayout y) (validProgress y.k g) (leb (numbersNeeded y) n) (leb (doublesNeeded y) doubles)
+    (not y.sparse || every (λ c. ltb (row c) (levels y 1)) (levels y 0)) (leb c′ 2) (validProgress y.k g′)
 
-module _ (h : List ℕ) (doubles : ℕ) (ok : headed h doubles ≡ true) (g : Progress) (many : length (g .stages) ≡ 45) (lawfully′ : progressLawful (layoutOf h .k) g ≡ true) where
-  pub headed-with : headed (headingWith h g) doubles ≡ true
-  headed-with =
+module _ (h : List ℕ) (doubles : ℕ) (ok : validHeading h doubles ≡ true) (g : Progress) (many : length (g .stages) ≡ 45) (stays-valid′ : validProgress (layoutOf h .k) g ≡ true) where
+  pub valid-heading-with : validHeading (headingWith h g) doubles ≡ true
+  valid-heading-with =
       let long : 128 ≤ length h = fits h doubles ok .long in
       let v : List ℕ = headingWith h g in
       let a : getD v 22 0 ≡ stateNumber g.state = store-in 22 (progressNumbers g) h (room h long g) 0 0 (omega (arith, numbers-many g)) ∙ stored-state g in
       let r : entryRow v ≡ entryRow h = fun-ext (row-kept h long g) in
-      headed-nine v doubles
+      valid-heading-nine v doubles
       ∙ rw (layout-kept h long g, progress-read h long g many, length-kept h long g, number-kept h long g 20 (omega arith), number-kept h long g 21 (omega arith), a, r)
-      (nine-exchanged (layoutOf h) (progressOf h) (length h) (getD h 20 0) (getD h 21 0) (getD h 22 0) (entryRow h) doubles g (stateNumber g.state) (state-small g.state) lawfully′
-      (sym (headed-nine h doubles) ∙ ok))
+      (nine-exchanged (layoutOf h) (progressOf h) (length h) (getD h 20 0) (getD h 21 0) (getD h 22 0) (entryRow h) doubles g (stateNumber g.state) (state-small g.state) stays-valid′
+      (sym (valid-heading-nine h doubles) ∙ ok))

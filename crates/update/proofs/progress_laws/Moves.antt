@@ -1,4 +1,4 @@
--- What a ready step does to a progress: one stage, one step left fewer, and lawful as before.
+-- What a ready step does to a progress: one stage, one step left fewer, and valid as before.
 use Prim.Native.Nat.{ℕ, suc, _+_, _-_, _<_, _≤_}
 use mathlib.Core.Path.{_≡_, refl, sym, ap, ap₂, _∙_}
 use mathlib.Core.Bool.{Bool, true, not, _&&_, _||_, cond, and-eq-true-iff}
@@ -13,7 +13,7 @@ use lib.Seq.{getD-set-same, getD-set-other}
 use borrow.Author.Tests.{lt-ltb, le-leb, ltb-true, leb-true, eq-eqb, ne-eqb, eqb-true}
 use Rattle.storage.specs.Runs.{start, triangle}
 use Rattle.storage.proofs.Starts.{start-triangle, same-run, same-cell}
-use Rattle.step_order.specs.Steps.{Step, Named, row, col, index, after, rustOrder}
+use Rattle.step_order.specs.Steps.{Step, IsStep, row, col, index, forerunners, rustOrder}
 use Rattle.step_order.specs.Progress.{all, stepsLeft, done, advance, Bounded, Ready, Represents}
 use Rattle.step_order.proofs.Tables.{at, put-here, put-else, in-range, step-unique}
 use Rattle.step_order.proofs.Invariant.{bounded-moved}
@@ -25,29 +25,29 @@ use Rattle.heading_format.specs.declared.Progress.{Progress}
 use Rattle.heading_format.specs.declared.State.{State}
 use Rattle.heading_format.specs.declared.State.the-variants.{UnderWay, Finished}
 use Rattle.layout.specs.Shapes.{levels, numbersNeeded, doublesNeeded}
-use Rattle.heading_format.specs.Heading.{stageOf, written, every, forerun, stateLawful, lawful, progressLawful, headed}
-use Rattle.heading_format.proofs.Lawful.{both, unless, unless-at, every-of, every-at}
+use Rattle.heading_format.specs.Heading.{stageOf, written, every, forerunnersDone, validState, validLayout, validProgress, validHeading}
+use Rattle.heading_format.proofs.Valid.{both, unless, unless-at, every-of, every-at}
 use Rattle.heading_format.proofs.Heading.{never-20}
 use Rattle.update.specs.Calls.{advanced}
 use Rattle.step_order.proofs.Next.{all-grows}
 
 -- ---- no step is done without its forerunners, as a fact
 -- the test passes where it holds of every step of the list
-forerun-of : (g : ℕ → ℕ → ℕ) (l : List Step) → ((s : Step) → List·Memᴰ s l → done g s ≡ true → all (done g) (after s) ≡ true) → forerun g l ≡ true
+forerun-of : (g : ℕ → ℕ → ℕ) (l : List Step) → ((s : Step) → List·Memᴰ s l → done g s ≡ true → all (done g) (forerunners s) ≡ true) → forerunnersDone g l ≡ true
 forerun-of g [] h = refl
 forerun-of g (s ∷ l) h =
-    both (not (done g s) || all (done g) (after s)) (forerun g l) (unless (done g s) (all (done g) (after s)) (h s (List·Memᴰ·head refl)))
+    both (not (done g s) || all (done g) (forerunners s)) (forerunnersDone g l) (unless (done g s) (all (done g) (forerunners s)) (h s (List·Memᴰ·head refl)))
     (forerun-of g l (λ t m. h t (List·Memᴰ·tail m)))
 
 -- and where it passes, it holds of every step
-forerun-at : (g : ℕ → ℕ → ℕ) (l : List Step) → forerun g l ≡ true → (s : Step) → List·Memᴰ s l → done g s ≡ true → all (done g) (after s) ≡ true
+forerun-at : (g : ℕ → ℕ → ℕ) (l : List Step) → forerunnersDone g l ≡ true → (s : Step) → List·Memᴰ s l → done g s ≡ true → all (done g) (forerunners s) ≡ true
 forerun-at g [] e s m = absurd (List·Memᴰ·not-nil m)
 forerun-at g (t ∷ l) e s m =
-    let k = and-eq-true-iff (not (done g t) || all (done g) (after t)) (forerun g l) .0 e in
-    ⊎-elim (λ q. rw q (unless-at (done g t) (all (done g) (after t)) k.0)) (forerun-at g l k.1 s) (List·Memᴰ·cases-cons m)
+    let k = and-eq-true-iff (not (done g t) || all (done g) (forerunners t)) (forerunnersDone g l) .0 e in
+    ⊎-elim (λ q. rw q (unless-at (done g t) (all (done g) (forerunners t)) k.0)) (forerun-at g l k.1 s) (List·Memᴰ·cases-cons m)
 
--- ---- a lawful progress, taken apart
-pub record Lawfully (k : ℕ) (g : Progress) : Type 0 where
+-- ---- a valid progress, taken apart
+pub record StaysValid (k : ℕ) (g : Progress) : Type 0 where
   pub most : Bounded k (stageOf g)
   pub left : g .left ≡ stepsLeft k (done (stageOf g))
 
@@ -63,15 +63,15 @@ four a b c d t =
 abbrev bounded : ℕ → Progress → Bool
 bounded k g = every (λ i. every (λ j. leb (stageOf g i j) (suc j)) (suc i)) (suc k)
 
--- the four tests of a lawful progress
-tests : (k : ℕ) (g : Progress) → progressLawful k g ≡ true
-    → (bounded k g ≡ true) × (eqb (g .left) (stepsLeft k (done (stageOf g))) ≡ true) × (forerun (stageOf g) (rustOrder k) ≡ true) × (stateLawful (g .state) (g .left) (length (rustOrder k)) ≡ true)
-unfolding progressLawful
-tests k g = four (bounded k g) (eqb g.left (stepsLeft k (done (stageOf g)))) (forerun (stageOf g) (rustOrder k)) (stateLawful g.state g.left (length (rustOrder k)))
+-- the four tests of a valid progress
+tests : (k : ℕ) (g : Progress) → validProgress k g ≡ true
+    → (bounded k g ≡ true) × (eqb (g .left) (stepsLeft k (done (stageOf g))) ≡ true) × (forerunnersDone (stageOf g) (rustOrder k) ≡ true) × (validState (g .state) (g .left) (length (rustOrder k)) ≡ true)
+unfolding validProgress
+tests k g = four (bounded k g) (eqb g.left (stepsLeft k (done (stageOf g)))) (forerunnersDone (stageOf g) (rustOrder k)) (validState g.state g.left (length (rustOrder k)))
 
 -- no stage is past its target's last step, and the steps left are those outside the set
-pub lawfully : (k : ℕ) (g : Progress) → progressLawful k g ≡ true → Lawfully k g
-lawfully k g e =
+pub stays-valid : (k : ℕ) (g : Progress) → validProgress k g ≡ true → StaysValid k g
+stays-valid k g e =
     let t = tests k g e in
     record {
       most =
@@ -81,15 +81,15 @@ lawfully k g e =
       left = eqb-true g.left (stepsLeft k (done (stageOf g))) t.1;
     }
 
--- every done step of a lawful progress has its forerunners done
-pub lawfully-after : (k : ℕ) (g : Progress) → progressLawful k g ≡ true → (s : Step) → Named k s → done (stageOf g) s ≡ true → all (done (stageOf g)) (after s) ≡ true
-lawfully-after k g e s n = forerun-at (stageOf g) (rustOrder k) (tests k g e .2) s (rust-has k s n)
+-- every done step of a valid progress has its forerunners done
+pub stays-valid-after : (k : ℕ) (g : Progress) → validProgress k g ≡ true → (s : Step) → IsStep k s → done (stageOf g) s ≡ true → all (done (stageOf g)) (forerunners s) ≡ true
+stays-valid-after k g e s n = forerun-at (stageOf g) (rustOrder k) (tests k g e .2) s (rust-has k s n)
 
 -- and facts put together
-lawful-of : (k : ℕ) (g : Progress) → Bounded k (stageOf g) → g .left ≡ stepsLeft k (done (stageOf g))
-    → ((s : Step) → Named k s → done (stageOf g) s ≡ true → all (done (stageOf g)) (after s) ≡ true) → stateLawful (g .state) (g .left) (length (rustOrder k)) ≡ true → progressLawful k g ≡ true
-unfolding progressLawful
-lawful-of k g most left fore state =
+valid-of : (k : ℕ) (g : Progress) → Bounded k (stageOf g) → g .left ≡ stepsLeft k (done (stageOf g))
+    → ((s : Step) → IsStep k s → done (stageOf g) s ≡ true → all (done (stageOf g)) (forerunners s) ≡ true) → validState (g .state) (g .left) (length (rustOrder k)) ≡ true → validProgress k g ≡ true
+unfolding validProgress
+valid-of k g most left fore state =
     both _ _
     (both _ _
     (both _ _
@@ -99,9 +99,9 @@ lawful-of k g most left fore state =
     (forerun-of (stageOf g) (rustOrder k) (λ s m. fore s (rust-named k s m))))
     state
 
--- a state under way is lawful after a step more: under way, or finished with the last
-state-advanced : (s : State) (left every-step : ℕ) → s ≡ UnderWay → stateLawful s left every-step ≡ true
-    → (0 < left) × (stateLawful (cond (eqb left 1) Finished UnderWay) (left - 1) every-step ≡ true)
+-- a state under way is valid after a step more: under way, or finished with the last
+state-advanced : (s : State) (left every-step : ℕ) → s ≡ UnderWay → validState s left every-step ≡ true
+    → (0 < left) × (validState (cond (eqb left 1) Finished UnderWay) (left - 1) every-step ≡ true)
 state-advanced s left every-step u e =
     let going : 0 < left = ltb-true 0 left (rw u at e) in (
       going,
@@ -113,7 +113,7 @@ state-advanced s left every-step u e =
 below-45 : (i j : ℕ) → j ≤ i → i ≤ 8 → start triangle i + j < 45
 below-45 i j l m = let g : i + 1 ≤ 9 = omega arith in omega (arith, start-triangle i, mul-le-mul m g)
 
-module _ (k : ℕ) (few : k ≤ 8) (g : Progress) (many : length (g .stages) ≡ 45) (s : Step) (n : Named k s) where
+module _ (k : ℕ) (few : k ≤ 8) (g : Progress) (many : length (g .stages) ≡ 45) (s : Step) (n : IsStep k s) where
   -- the place of its target is one of the 45
   pub place-below : start triangle (row s) + col s < 45
   place-below = below-45 (row s) (col s) (in-range k s n .1) (omega (arith, in-range k s n))
@@ -153,14 +153,14 @@ module _ (k : ℕ) (few : k ≤ 8) (g : Progress) (many : length (g .stages) ≡
       (λ w. omega (arith, getD-set-other g.stages (start triangle (row s) + col s) (start triangle i + j) (suc (index s)) 0 (λ e. w .1 e refl)))
       (at (start triangle i + j) 0 (start triangle (row s) + col s) 0)
 
-  -- a ready step of an update under way leaves a lawful progress
-  pub lawful-advanced : progressLawful k g ≡ true → g .state ≡ UnderWay → Ready (stageOf g) s → progressLawful k (advanced g s) ≡ true
-  lawful-advanced e u r =
-      let f = lawfully k g e in
+  -- a ready step of an update under way leaves a valid progress
+  pub valid-advanced : validProgress k g ≡ true → g .state ≡ UnderWay → Ready (stageOf g) s → validProgress k (advanced g s) ≡ true
+  valid-advanced e u r =
+      let f = stays-valid k g e in
       let state = state-advanced g.state g.left (length (rustOrder k)) u (tests k g e .3) in
       let d : Represents k (stageOf (advanced g s)) (done (advance (stageOf g) s)) =
       represents-same k (advance (stageOf g) s) (stageOf (advanced g s)) (done (advance (stageOf g) s)) (λ i j l m. sym (stage-advanced i j l m)) (λ t o. refl) in
-      lawful-of k (advanced g s)
+      valid-of k (advanced g s)
       (λ i j l m. rw (stage-advanced i j l m) (bounded-moved k (stageOf g) f.most s n i j l m))
       (omega (arith, f.left, left-moved k (stageOf g) f.most s n r, left-represents k (stageOf (advanced g s)) (done (advance (stageOf g) s)) d))
       fore
@@ -169,10 +169,10 @@ module _ (k : ℕ) (few : k ≤ 8) (g : Progress) (many : length (g .stages) ≡
       more : (t : Step) → done (stageOf g) t ≡ true → done (stageOf (advanced g s)) t ≡ true
       more t q = lt-ltb (index t) (stageOf (advanced g s) (row t) (col t)) (omega (arith, ltb-true (index t) (stageOf g (row t) (col t)) q, stage-rises r.0 (row t) (col t)))
 
-      fore : (t : Step) → Named k t → done (stageOf (advanced g s)) t ≡ true → all (done (stageOf (advanced g s))) (after t) ≡ true
+      fore : (t : Step) → IsStep k t → done (stageOf (advanced g s)) t ≡ true → all (done (stageOf (advanced g s))) (forerunners t) ≡ true
       fore t o q =
-          all-grows (done (stageOf g)) (done (stageOf (advanced g s))) more (after t)
-          (by-cases (decLt (index t) (stageOf g (row t) (col t))) (λ m. lawfully-after k g e t o (lt-ltb (index t) (stageOf g (row t) (col t)) m)) (λ m. rw (new m) (ready-after k (stageOf g) (lawfully k g e .most) (done (stageOf g)) (λ x y. refl) s n .0 r .1)))
+          all-grows (done (stageOf g)) (done (stageOf (advanced g s))) more (forerunners t)
+          (by-cases (decLt (index t) (stageOf g (row t) (col t))) (λ m. stays-valid-after k g e t o (lt-ltb (index t) (stageOf g (row t) (col t)) m)) (λ m. rw (new m) (ready-after k (stageOf g) (stays-valid k g e .most) (done (stageOf g)) (λ x y. refl) s n .0 r .1)))
         where
           new : (index t < stageOf g (row t) (col t) → ⊥) → t ≡ s
           new m =
@@ -185,14 +185,14 @@ module _ (k : ℕ) (few : k ≤ 8) (g : Progress) (many : length (g .stages) ≡
               (λ w. absurd (m (rw (put-else (stageOf g) (row s) (col s) (suc (index s)) (row t) (col t) w.1) at b)))
               (at (row t) (col t) (row s) (col s))
 
--- ---- a heading is never refused with 20 where layout and progress are lawful, and numbers and doubles are enough
-module _ (y : Layout) (lawful-layout : lawful y ≡ true) (eight : length (y .m) ≡ 8) (eight′ : length (y .order) ≡ 8)
+-- ---- a heading is never refused with 20 where layout and progress are valid, and numbers and doubles are enough
+module _ (y : Layout) (valid-layout : validLayout y ≡ true) (eight : length (y .m) ≡ 8) (eight′ : length (y .order) ≡ 8)
     (rest : List ℕ) (numbers : numbersNeeded y ≤ 128 + length rest) (rows : y .sparse ≡ true → (c : ℕ) → c < levels y 0 → getD rest c 0 < levels y 1)
-    (g : Progress) (many : length (g .stages) ≡ 45) (lawful-progress : progressLawful (y .k) g ≡ true) where
+    (g : Progress) (many : length (g .stages) ≡ 45) (valid-progress : validProgress (y .k) g ≡ true) where
   -- whatever number of doubles is lent, if they are enough
-  pub headed-written : (doubles : ℕ) → doublesNeeded y ≤ doubles → headed (written y g ++ rest) doubles ≡ true
-  headed-written doubles room =
-      never-20 y g rest doubles lawful-layout lawful-progress eight eight′ many (λ s. (long y.sparse s numbers, rows s)) room
+  pub valid-heading-written : (doubles : ℕ) → doublesNeeded y ≤ doubles → validHeading (written y g ++ rest) doubles ≡ true
+  valid-heading-written doubles room =
+      never-20 y g rest doubles valid-layout valid-progress eight eight′ many (λ s. (long y.sparse s numbers, rows s)) room
     where
       long : (b : Bool) → b ≡ true → 128 + cond b (levels y 0) 0 ≤ 128 + length rest → levels y 0 ≤ length rest
       long b e h = let z : 128 + levels y 0 ≤ 128 + length rest = rw e at h in omega arith

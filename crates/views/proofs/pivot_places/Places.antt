@@ -1,4 +1,4 @@
--- Where the pivots of a lawful layout lie.
+-- Where the pivots of a valid layout lie.
 use Prim.Native.Nat.{ℕ, _+_, _≤_, _<_}
 use mathlib.Core.Path.{_≡_, refl, sym, ap, _∙_}
 use mathlib.Core.Bool.{Bool, true, false}
@@ -16,8 +16,8 @@ use Rattle.storage.proofs.Places.{place-below}
 use Rattle.block_runs.proofs.blocks.Laws.{read-block, has-packed, has-diagonal}
 use Rattle.layout.specs.declared.Layout.{Layout}
 use Rattle.layout.specs.Shapes.{shape, sizes, workingAt, doublesNeeded}
-use Rattle.heading_format.specs.Heading.{lawful}
-use Rattle.heading_format.proofs.Lawful.{is-lawful}
+use Rattle.heading_format.specs.Heading.{validLayout}
+use Rattle.heading_format.proofs.Valid.{is-valid}
 use Rattle.layout.proofs.Places.{working-inside}
 use Rattle.block_places.proofs.block_sizes.Sizes.{doubles-small}
 use Rattle.block_places.specs.block_kinds.Rows.{rowsOf, isDiagonal}
@@ -86,16 +86,16 @@ module _ (y : Layout) (j r : ℕ) (here : r < rowsOf y j) where
     in-packed s t q = rw q (sym (place-packed (pivotShape y j) (rowsOf y j) r (packed-kind y j n t)))
 
 -- ---- few rows, and places far below 2 ^ 63
-module _ (y : Layout) (ok : lawful y ≡ true) (j : ℕ) (there : j ≤ y .k) where
+module _ (y : Layout) (ok : validLayout y ≡ true) (j : ℕ) (there : j ≤ y .k) where
   pub few-last : j ≡ y .k → rowsOf y j ≤ 33
-  few-last e = omega (arith, rows-last y j e, is-lawful y ok .effects .1)
+  few-last e = omega (arith, rows-last y j e, is-valid y ok .effects .1)
 
 -- the start of a row of a triangle
 pub start-small : (r s : ℕ) → r ≤ 316 → s ≡ start triangle r → s ≤ 50086
 unfolding start
 start-small r s h e = let l : start triangle 316 ≡ 50086 = refl in omega (arith, start-le triangle r 316 h)
 
-module _ (y : Layout) (n : ℕ) (ok : lawful y ≡ true) (room : doublesNeeded y ≤ n) (j r : ℕ) (there : j ≤ y .k) (here : r < rowsOf y j) where
+module _ (y : Layout) (n : ℕ) (ok : validLayout y ≡ true) (room : doublesNeeded y ≤ n) (j r : ℕ) (there : j ≤ y .k) (here : r < rowsOf y j) where
   -- the block lies within the doubles
   pub block-within : (m : ℕ) → doublesNeeded y ≤ m → workingAt y j j + sizeOf (pivotShape y j) ≤ m
   block-within m h =
@@ -108,7 +108,7 @@ module _ (y : Layout) (n : ℕ) (ok : lawful y ≡ true) (room : doublesNeeded y
       let p = place-below (pivotShape y j) r r (has-pivot y j r here) in
       (omega (arith, block-within n room), omega (arith, block-within (doublesNeeded y) (omega arith), doubles-small y ok))
 
-pub pivot-read : (y : Layout) (w : List Float) → doublesNeeded y ≤ length w → (j r : ℕ) → j ≤ y .k → r < rowsOf y j → lawful y ≡ true → (at s : ℕ) → at ≡ workingAt y j j → s ≡ pivotIn y j r
+pub pivot-read : (y : Layout) (w : List Float) → doublesNeeded y ≤ length w → (j r : ℕ) → j ≤ y .k → r < rowsOf y j → validLayout y ≡ true → (at s : ℕ) → at ≡ workingAt y j j → s ≡ pivotIn y j r
     → getD w (at + s) nan ≡ pivotAt y w j r
 unfolding pivotIn pivotAt
 pivot-read y w room j r there here ok at s e q =

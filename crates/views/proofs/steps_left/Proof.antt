@@ -7,13 +7,13 @@ use Rattle.views.proofs.steps_left.Statement.{statement}
 use Rattle.views.proofs.steps_left.Tie as tie
 
 progress-requires : tie.Need-progress-requires
-progress-requires c κs = fits c.before.before.before.args.h.now 2199023255552 (sym c.before.is-headed.ensures ∙ c.if1.taken) .long
+progress-requires c κs = fits c.before.before.before.args.heading.now 2199023255552 (sym c.before.is-valid-heading.ensures ∙ c.if1.taken) .long
 
 returns : tie.Need-returns
-returns c = steps c.before.before.before.before.args.h.now _ c.before.before.is-headed.ensures c.before.if1.taken _ c.progress.ensures
+returns c = steps c.before.before.before.before.args.heading.now _ c.before.before.is-valid-heading.ensures c.before.if1.taken _ c.progress.ensures
 
 returns-2 : tie.Need-returns-2
-returns-2 c = no-heading c.before.before.before.before.args.h.now _ c.before.before.is-headed.ensures c.before.if1.left _ c.refused.ensures
+returns-2 c = no-heading c.before.before.before.before.args.heading.now _ c.before.before.is-valid-heading.ensures c.before.if1.left _ c.refused.ensures
 
 pub steps-left-spec : {M : Type 1} → statement M
 steps-left-spec = tie.close (tie.spec (λ c κs. search needs) progress-requires returns (λ c κs. search needs) returns-2)

@@ -15,17 +15,17 @@ returns : tie.Need-returns
 returns c = let a = c.before.before.before.before.args in let e : a .i ≡ a .j = c.before.before.before.if1.taken in
     c .factor-cells .ensures
     ∙ sym
-    (subst (λ (x : ℕ). before (sizesOf a.y a.loaded) (targets a.y.k) x a.j ≡ cellsOf (sizesOf a.y a.loaded) (factors a.j)) (sym e)
-    (before-factor (sizesOf a.y a.loaded) a.y.k a.j (omega arith)))
+    (subst (λ (x : ℕ). before (sizesOf a.layout a.loaded) (targets a.layout.k) x a.j ≡ cellsOf (sizesOf a.layout a.loaded) (factors a.j)) (sym e)
+    (before-factor (sizesOf a.layout a.loaded) a.layout.k a.j (omega arith)))
 
 add-result : tie.Need-add-result
 add-result c = let s = c.before.before.before in let a = s.args in
-    omega (arith, before-small a.y s.pre.0 a.loaded a.i a.j s.pre.1 s.pre.2, c.before.factor-cells2.ensures, c.pair-cells.ensures)
+    omega (arith, before-small a.layout s.pre.0 a.loaded a.i a.j s.pre.1 s.pre.2, c.before.factor-cells2.ensures, c.pair-cells.ensures)
 
 add-result-2 : tie.Need-add-result-2
 add-result-2 c = let s = c.before.before.before.before in let a = s.args in omega (
   arith,
-  before-small a.y s.pre.0 a.loaded a.i a.j s.pre.1 s.pre.2,
+  before-small a.layout s.pre.0 a.loaded a.i a.j s.pre.1 s.pre.2,
   c .before .before .factor-cells2 .ensures,
   c .before .pair-cells .ensures,
   c .row-cells .ensures,
@@ -34,7 +34,7 @@ add-result-2 c = let s = c.before.before.before.before in let a = s.args in omeg
 returns-2 : tie.Need-returns-2
 returns-2 c = let s = c.before.before.before.before in let a = s.args in omega (
   arith,
-  before-row (sizesOf a.y a.loaded) a.y.k a.i a.j s.pre.1 s.pre.2 (⊎-elim (λ t e l. omega arith) (λ t e l. absurd (t.left e)) c.before.before.before.if1.came),
+  before-row (sizesOf a.layout a.loaded) a.layout.k a.i a.j s.pre.1 s.pre.2 (⊎-elim (λ t e l. omega arith) (λ t e l. absurd (t.left e)) c.before.before.before.if1.came),
   c .before .before .factor-cells2 .ensures,
   c .before .pair-cells .ensures,
   c .row-cells .ensures,

@@ -16,7 +16,7 @@ abbrev μ-loop : tie.MeasureT-loop
 
 loop-holds : tie.Need-loop-holds Inv-loop μ-loop
 loop-holds c = let a = c.args in
-    summing-none (pairs-sums (sizesOf a.y a.loaded)) (λ x h. row-small a.y c.pre.0 a.loaded x (omega arith)) (omega (arith, few-blocks a.y c.pre.0))
+    summing-none (pairs-sums (sizesOf a.layout a.loaded)) (λ x h. row-small a.layout c.pre.0 a.loaded x (omega arith)) (omega (arith, few-blocks a.layout c.pre.0))
 
 row-cells-requires : tie.Need-row-cells-requires Inv-loop μ-loop
 row-cells-requires c κs = (c.before.before.pre.0, omega arith, omega arith)

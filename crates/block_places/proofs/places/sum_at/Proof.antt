@@ -9,14 +9,14 @@ use Rattle.block_places.proofs.places.sum_at.Tie as tie
 
 add-result : tie.Need-add-result
 add-result c = let s = c.before.before in
-    omega (arith, few-blocks s.args.y s.pre, cells-small s.args.y s.pre true, c.before.all-cells.ensures)
+    omega (arith, few-blocks s.args.layout s.pre, cells-small s.args.layout s.pre true, c.before.all-cells.ensures)
 
 add-result-2 : tie.Need-add-result-2
 add-result-2 c = let s = c.before.before.before in omega (
   arith,
-  few-blocks s.args.y s.pre,
-  cells-small s.args.y s.pre true,
-  cells-small s.args.y s.pre false,
+  few-blocks s.args.layout s.pre,
+  cells-small s.args.layout s.pre true,
+  cells-small s.args.layout s.pre false,
   c .before .before .all-cells .ensures,
   c .all-cells2 .ensures,
 )

@@ -11,15 +11,15 @@ use Rattle.block_places.proofs.places.working_at.Tie as tie
 
 add-result : tie.Need-add-result
 add-result c = let s = c.before.before in
-    omega (arith, few-blocks s.args.y s.pre.0, cells-small s.args.y s.pre.0 true, c.before.all-cells.ensures)
+    omega (arith, few-blocks s.args.layout s.pre.0, cells-small s.args.layout s.pre.0 true, c.before.all-cells.ensures)
 
 add-result-2 : tie.Need-add-result-2
 add-result-2 c = let s = c.before.before.before in let a = s.args in omega (
   arith,
-  few-blocks a.y s.pre.0,
-  cells-small a.y s.pre.0 true,
-  cells-small a.y s.pre.0 false,
-  block-inside (sizesOf a.y false) (targets a.y.k) a.i a.j (in-targets a.y.k a.i a.j s.pre.1 s.pre.2),
+  few-blocks a.layout s.pre.0,
+  cells-small a.layout s.pre.0 true,
+  cells-small a.layout s.pre.0 false,
+  block-inside (sizesOf a.layout false) (targets a.layout.k) a.i a.j (in-targets a.layout.k a.i a.j s.pre.1 s.pre.2),
   c .before .before .all-cells .ensures,
   c .cells-before .ensures,
 )

@@ -8,7 +8,7 @@ use borrow.Author.Needs.{needs}
 use lib.Dec.{ltb, leb}
 use lib.ListN.{getD}
 use Rattle.layout.specs.declared.Layout.{Layout}
-use Rattle.heading_format.proofs.Lawful.{is-lawful}
+use Rattle.heading_format.proofs.Valid.{is-valid}
 use Rattle.block_places.specs.sheet_rows.Blocks.{blockOf, FirstRows}
 use Rattle.block_places.proofs.sheet_rows.Rows.{start-small, block-none, block-more}
 use Rattle.block_places.proofs.row_map.block_of.Statement.{statement}
@@ -22,12 +22,12 @@ abbrev μ-loop : tie.MeasureT-loop
 μ-loop counts first x k b₀ j₀ b j = k - j
 
 loop-holds : tie.Need-loop-holds Inv-loop μ-loop
-loop-holds c = (is-lawful c.args.y c.pre.0 .blocks .1, omega arith, λ y e f g. sym e ∙ block-none y c.args.x)
+loop-holds c = (is-valid c.args.layout c.pre.0 .blocks .1, omega arith, λ y e f g. sym e ∙ block-none y c.args.x)
 
 within-requires : tie.Need-within-requires Inv-loop μ-loop
 within-requires c κs = let s = c.before.before.before.before in let j = c.before.before.before.loop.j in (
-  omega (arith, s.pre.2 j (omega arith), start-small s.args.y s.pre.0 j (omega arith)),
-  omega (arith, ap (λ (t : List ℕ). getD t j 0) s.pre.1, is-lawful s.args.y s.pre.0 .level j (omega arith) .1),
+  omega (arith, s.pre.2 j (omega arith), start-small s.args.layout s.pre.0 j (omega arith)),
+  omega (arith, ap (λ (t : List ℕ). getD t j 0) s.pre.1, is-valid s.args.layout s.pre.0 .level j (omega arith) .1),
 )
 
 loop-again : tie.Need-loop-again Inv-loop μ-loop
@@ -42,7 +42,7 @@ loop-again c = let s = c.before.before.before.before.before.before in
 
 returns : tie.Need-returns Inv-loop μ-loop
 returns c = let s = c.before.before in let l = c.before.loop in
-    l .inv .2 s.args.y refl s.pre.1 s.pre.2 ∙ ap (λ (j : ℕ). blockOf s.args.y j s.args.x) (omega arith)
+    l .inv .2 s.args.layout refl s.pre.1 s.pre.2 ∙ ap (λ (j : ℕ). blockOf s.args.layout j s.args.x) (omega arith)
 
 pub block-of-spec : {M : Type 1} → statement M
 block-of-spec = tie.close (tie.spec Inv-loop μ-loop loop-holds (λ c. search needs) (λ c. search needs)

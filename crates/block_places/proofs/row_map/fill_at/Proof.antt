@@ -5,7 +5,7 @@ use native.Mathlib.Omega.{arith}
 use borrow.Author.Needs.{needs}
 use lib.ListN.{length, getD, length-set}
 use Rattle.layout.specs.Shapes.{loadedAt}
-use Rattle.heading_format.proofs.Lawful.{is-lawful}
+use Rattle.heading_format.proofs.Valid.{is-valid}
 use Rattle.block_places.proofs.sheet_rows.Rows.{filled-more}
 use Rattle.block_places.proofs.row_map.fill_at.Statement.{statement}
 use Rattle.block_places.proofs.row_map.fill_at.Tie as tie
@@ -23,11 +23,11 @@ loop-again : tie.Need-loop-again Inv-loop μ-loop
 loop-again c = let a = c.before.before.before.args in let l = c.before.before.loop in (
   omega arith,
   simp length-set l.inv.1,
-  filled-more (λ s v. (i j : ℕ) → s ≡ i * 9 + j → j ≤ i → i ≤ a .y .k → v ≡ loadedAt a.y i j) l.at l.t c.start-at.result (omega arith) l.inv.2 c.start-at.ensures,
+  filled-more (λ s v. (i j : ℕ) → s ≡ i * 9 + j → j ≤ i → i ≤ a .layout .k → v ≡ loadedAt a.layout i j) l.at l.t c.start-at.result (omega arith) l.inv.2 c.start-at.ensures,
 )
 
 returns : tie.Need-returns Inv-loop μ-loop
-returns c = λ i j h g. let s = c.before.before in c.before.loop.inv.2 (i * 9 + j) (omega (arith, is-lawful s.args.y s.pre.0 .blocks .1)) i j refl h g
+returns c = λ i j h g. let s = c.before.before in c.before.loop.inv.2 (i * 9 + j) (omega (arith, is-valid s.args.layout s.pre.0 .blocks .1)) i j refl h g
 
 pub fill-at-spec : {M : Type 1} → statement M
 fill-at-spec = tie.close (tie.spec Inv-loop μ-loop loop-holds (λ c κs. c.before.before.pre.0) (λ c. search needs)

@@ -4,7 +4,7 @@ use mathlib.Core.Path.{_≡_, refl}
 use native.Mathlib.Omega.{arith}
 use borrow.Author.Needs.{needs}
 use lib.ListN.{length, getD, length-set}
-use Rattle.heading_format.proofs.Lawful.{is-lawful}
+use Rattle.heading_format.proofs.Valid.{is-valid}
 use Rattle.workspace.specs.Loaded.{rowStart}
 use Rattle.block_places.proofs.sheet_rows.Rows.{filled-more}
 use Rattle.block_places.proofs.row_map.fill_first.Statement.{statement}
@@ -17,7 +17,7 @@ abbrev μ-loop : tie.MeasureT-loop
 μ-loop y first₀ k j₀ first j = k - j
 
 loop-holds : tie.Need-loop-holds Inv-loop μ-loop
-loop-holds c = (refl, is-lawful c.args.y c.pre.0 .blocks .1, omega arith, c.pre.1, λ s h. absurd (omega arith))
+loop-holds c = (refl, is-valid c.args.layout c.pre.0 .blocks .1, omega arith, c.pre.1, λ s h. absurd (omega arith))
 
 loop-again : tie.Need-loop-again Inv-loop μ-loop
 loop-again c = let a = c.before.before.before.args in let l = c.before.before.loop in (
@@ -25,7 +25,7 @@ loop-again c = let a = c.before.before.before.args in let l = c.before.before.lo
   l .inv .1,
   omega arith,
   simp length-set l.inv.3,
-  filled-more (λ s v. v ≡ rowStart a.y s) l.first l.j c.first-row.result (omega arith) l.inv.4 c.first-row.ensures,
+  filled-more (λ s v. v ≡ rowStart a.layout s) l.first l.j c.first-row.result (omega arith) l.inv.4 c.first-row.ensures,
 )
 
 returns : tie.Need-returns Inv-loop μ-loop

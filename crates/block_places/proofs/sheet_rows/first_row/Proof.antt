@@ -5,7 +5,7 @@ use native.Mathlib.Omega.{arith}
 use lib.ListN.{getD}
 use Rattle.layout.specs.Blocks as Blocks
 use Rattle.heading_format.specs.Heading.{sheetLevels}
-use Rattle.heading_format.proofs.Lawful.{is-lawful}
+use Rattle.heading_format.proofs.Valid.{is-valid}
 use Rattle.layout.proofs.Sums.{sum-none, sum-more}
 use Rattle.block_places.proofs.sheet_rows.Rows.{order-below, levels-small, rows-small}
 use Rattle.block_places.proofs.sheet_rows.first_row.Statement.{statement}
@@ -18,14 +18,14 @@ abbrev μ-loop : tie.MeasureT-loop
 μ-loop j y before sum₀ i₀ sum i = before - i
 
 mul-before : tie.Need-mul-before Inv-loop μ-loop
-mul-before c = let s = c in omega (arith, is-lawful s.args.t1 s.pre.0 .blocks .1)
+mul-before c = let s = c in omega (arith, is-valid s.args.t1 s.pre.0 .blocks .1)
 
 element-copy-out-before : tie.Need-element-copy-out-before Inv-loop μ-loop
-element-copy-out-before c = omega (arith, is-lawful c.args.t1 c.pre.0 .blocks .1)
+element-copy-out-before c = omega (arith, is-valid c.args.t1 c.pre.0 .blocks .1)
 
 loop-holds : tie.Need-loop-holds Inv-loop μ-loop
 loop-holds c = let s = c.before in
-    (refl, omega (arith, order-below s.args.t1 s.pre.0 s.args.j s.pre.1, is-lawful s.args.t1 s.pre.0 .blocks .1), omega arith, sum-none (sheetLevels s.args.t1 s.args.t1.k))
+    (refl, omega (arith, order-below s.args.t1 s.pre.0 s.args.j s.pre.1, is-valid s.args.t1 s.pre.0 .blocks .1), omega arith, sum-none (sheetLevels s.args.t1 s.args.t1.k))
 
 add-sum : tie.Need-add-sum Inv-loop μ-loop
 add-sum c = let s = c.before.before.before.before in let l = c.before.before.loop in

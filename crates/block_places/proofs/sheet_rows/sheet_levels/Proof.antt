@@ -4,7 +4,7 @@ use mathlib.Core.Path.{_≡_, refl, ap, _∙_}
 use native.Mathlib.Omega.{arith}
 use borrow.Author.Needs.{needs}
 use Rattle.heading_format.specs.Heading.{sheetLevels}
-use Rattle.heading_format.proofs.Lawful.{is-lawful}
+use Rattle.heading_format.proofs.Valid.{is-valid}
 use Rattle.block_places.proofs.sheet_rows.Rows.{sheet-none, sheet-more}
 use Rattle.block_places.proofs.sheet_rows.sheet_levels.Statement.{statement}
 use Rattle.block_places.proofs.sheet_rows.sheet_levels.Tie as tie
@@ -16,7 +16,7 @@ abbrev μ-loop : tie.MeasureT-loop
 μ-loop i y k m₀ s₀ m s = k - s
 
 loop-holds : tie.Need-loop-holds Inv-loop μ-loop
-loop-holds c = (refl, is-lawful c.args.t1 c.pre .blocks .1, omega arith, sheet-none c.args.t1 c.args.i)
+loop-holds c = (refl, is-valid c.args.t1 c.pre .blocks .1, omega arith, sheet-none c.args.t1 c.args.i)
 
 loop-again : tie.Need-loop-again Inv-loop μ-loop
 loop-again c = let a = c.before.before.before.before.before.args in let l = c.before.before.before.before.loop in

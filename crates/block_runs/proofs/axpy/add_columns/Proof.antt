@@ -7,7 +7,7 @@ use Rattle.block_runs.proofs.axpy.add_columns.Tie as tie
 returns : tie.Need-returns
 returns c =
     let a = c.before.before.before.before.before.before.before.before.before.before.before.before.before.before.before.args in
-    four-signed a.less a.acc.now _ a.n a.w.now a.p a.rows a.v.now a.q a.step _ _ _ _
+    four-signed a.subtract a.acc.now _ a.n a.doubles.now a.p a.rows a.v.now a.q a.step _ _ _ _
     c.before.before.before.before.before.before.before.before.before.before.signed.ensures c.before.before.before.before.before.before.before.before.signed2.ensures c.before.before.before.before.before.before.signed3.ensures c.before.before.before.before.signed4.ensures c.before.before.add-four.ensures
 
 pub add-columns-spec : {M : Type 1} → statement M

@@ -22,7 +22,7 @@ loop-holds c = let a = c.args in filling-none _ 0 a.n a.acc.now (omega arith)
 loop-again : tie.Need-loop-again Inv-loop μ-loop
 loop-again c = let a = c.before.before.before.before.before.before.before.args in
     let l = c.before.before.before.before.before.before.loop in filling-next l.inv
-    (λ (s : Float). oneMore ieee.plus a.w.now a.p3 a.f3 (oneMore ieee.plus a.w.now a.p2 a.f2 (oneMore ieee.plus a.w.now a.p1 a.f1 (oneMore ieee.plus a.w.now a.p a.f (λ i. s)))) l.i)
+    (λ (s : Float). oneMore ieee.plus a.doubles.now a.p3 a.f3 (oneMore ieee.plus a.doubles.now a.p2 a.f2 (oneMore ieee.plus a.doubles.now a.p1 a.f1 (oneMore ieee.plus a.doubles.now a.p a.f (λ i. s)))) l.i)
     nan (omega arith) (omega arith) refl
 
 returns : tie.Need-returns Inv-loop μ-loop

@@ -21,7 +21,7 @@ loop-holds c = let a = c.args in filling-none _ 0 a.n a.acc.now (omega arith)
 
 loop-again : tie.Need-loop-again Inv-loop μ-loop
 loop-again c = let a = c.before.before.before.before.args in let l = c.before.before.before.loop in
-    filling-next l.inv (λ (s : Float). ieee .plus s (ieee.times (at a.w.now (a.p + l .i)) a.f)) nan (omega arith) (omega arith) refl
+    filling-next l.inv (λ (s : Float). ieee .plus s (ieee.times (at a.doubles.now (a.p + l .i)) a.f)) nan (omega arith) (omega arith) refl
 
 returns : tie.Need-returns Inv-loop μ-loop
 returns c = filling-done c.before.loop.inv (omega arith)

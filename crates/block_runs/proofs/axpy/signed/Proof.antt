@@ -1,4 +1,4 @@
--- `block_runs::axpy::signed`: the sign is turned where the test passes.
+-- `block_runs::axpy::signed`: the factor is negated where the test passes.
 use lib.Ieee.{neg}
 use borrow.Author.Needs.{needs}
 use Rattle.block_runs.proofs.axpy.signed.Statement.{statement}

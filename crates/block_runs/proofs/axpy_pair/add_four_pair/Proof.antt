@@ -23,9 +23,9 @@ loop-again : tie.Need-loop-again Inv-loop μ-loop
 loop-again c = let a = c.before.before.before.before.before.before.before.before.args in
     let l = c.before.before.before.before.before.before.before.loop in (
       filling-next l.inv.0
-          (λ (s : Float). four a.w.now a.p a.p1 a.p2 a.p3 a.f a.f1 a.f2 a.f3 (λ i. s) l.i) nan (omega arith) (omega arith) refl,
+          (λ (s : Float). four a.doubles.now a.p a.p1 a.p2 a.p3 a.f a.f1 a.f2 a.f3 (λ i. s) l.i) nan (omega arith) (omega arith) refl,
       filling-next l.inv.1
-          (λ (s : Float). four a.w.now a.p a.p1 a.p2 a.p3 a.g a.g1 a.g2 a.g3 (λ i. s) l.i) nan (omega arith) (omega arith) refl,
+          (λ (s : Float). four a.doubles.now a.p a.p1 a.p2 a.p3 a.g a.g1 a.g2 a.g3 (λ i. s) l.i) nan (omega arith) (omega arith) refl,
     )
 
 returns : tie.Need-returns Inv-loop μ-loop

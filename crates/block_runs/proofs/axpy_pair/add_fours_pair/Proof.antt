@@ -6,7 +6,7 @@ use native.Mathlib.Omega.{arith}
 use lib.ListN.{length}
 use Rattle.rules.specs.Arithmetic.{ieee}
 use Rattle.block_runs.specs.axpy.Axpy.{products}
-use Rattle.block_runs.proofs.axpy.Sums.{none-taken}
+use Rattle.block_runs.proofs.axpy.Sums.{none-added}
 use Rattle.block_runs.proofs.axpy_pair.Laws.{Reached, reached, reached-four, reached-next, four-more}
 use Rattle.block_runs.proofs.axpy_pair.add_fours_pair.Statement.{statement}
 use Rattle.block_runs.proofs.axpy_pair.add_fours_pair.Tie as tie
@@ -21,11 +21,11 @@ abbrev μ-loop : tie.MeasureT-loop
 
 loop-holds : tie.Need-loop-holds Inv-loop μ-loop
 loop-holds c = let a = c.before.before.before.before.args in (
-  reached a.w.now a.a a.rows a.v.now a.b a.step a.inner 0 a.a a.b (omega arith) (omega arith) (omega arith) (omega arith) (omega arith),
+  reached a.doubles.now a.a a.rows a.v.now a.b a.step a.inner 0 a.a a.b (omega arith) (omega arith) (omega arith) (omega arith) (omega arith),
   refl,
   refl,
-  none-taken ieee.plus a.acc.now a.n a.w.now a.a a.rows a.v.now a.b a.step a.r (omega arith) (omega arith) (omega arith),
-  none-taken ieee.plus a.acc2.now a.n a.w.now a.a a.rows a.v.now a.b a.step (a.r + 1) (omega arith) (omega arith) (omega arith),
+  none-added ieee.plus a.acc.now a.n a.doubles.now a.a a.rows a.v.now a.b a.step a.r (omega arith) (omega arith) (omega arith),
+  none-added ieee.plus a.acc2.now a.n a.doubles.now a.a a.rows a.v.now a.b a.step (a.r + 1) (omega arith) (omega arith) (omega arith),
 )
 
 add-add-columns-pair : tie.Need-add-add-columns-pair Inv-loop μ-loop

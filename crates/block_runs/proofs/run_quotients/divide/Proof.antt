@@ -13,7 +13,7 @@ use Rattle.block_runs.proofs.run_quotients.divide.Tie as tie
 
 returns : tie.Need-returns
 returns c = let a = c.before.before.before.before.before.args in
-    lent-run a.w.now _ a.off a.end a.to a.n (λ i. ieee .over (at (take (a.end - a .off) (drop a.off a.w.now)) (a.to + i)) a.p) (λ i. ieee .over (at a.w.now (a.off + a .to + i)) a.p) (omega arith) (omega arith) (λ i l. ap (λ (s : Float). ieee .over s a.p) (lent-read a.w.now a.off a.end a.to a.n (omega arith) i l)) c.before.before.divide-part.ensures
+    lent-run a.doubles.now _ a.off a.end a.to a.n (λ i. ieee .over (at (take (a.end - a .off) (drop a.off a.doubles.now)) (a.to + i)) a.p) (λ i. ieee .over (at a.doubles.now (a.off + a .to + i)) a.p) (omega arith) (omega arith) (λ i l. ap (λ (s : Float). ieee .over s a.p) (lent-read a.doubles.now a.off a.end a.to a.n (omega arith) i l)) c.before.before.divide-part.ensures
 
 pub divide-spec : {M : Type 1} → statement M
 divide-spec = tie.close (tie.spec (λ c. search needs) (λ c. search needs) (λ c. search needs) (λ c. search needs)

@@ -25,7 +25,7 @@ add-end c = let a = c.before.args in omega (arith, start-dense a.rows a.cols)
 
 loop-holds : tie.Need-loop-holds Inv-loop μ-loop
 loop-holds c = let a = c.before.args in let e = start-dense a.rows a.cols in
-    writing-none a.off _ (dense a.rows) a.cols _ a.w.now (omega arith) (omega arith)
+    writing-none a.off _ (dense a.rows) a.cols _ a.doubles.now (omega arith) (omega arith)
 
 add-p : tie.Need-add-p Inv-loop μ-loop
 add-p c = omega (arith, start-single c.before.before.before.args.cols)

@@ -19,7 +19,7 @@ abbrev μ-loop : tie.MeasureT-loop
 μ-loop w₀ off src n column row i₀ w i = n - i
 
 loop-holds : tie.Need-loop-holds Inv-loop μ-loop
-loop-holds c = let a = c.args in filling-none _ a.off a.n a.w.now (omega arith)
+loop-holds c = let a = c.args in filling-none _ a.off a.n a.doubles.now (omega arith)
 
 loop-again : tie.Need-loop-again Inv-loop μ-loop
 loop-again c = let p = c.before.before.before in let a = p.args in let l = c.before.before.loop in
@@ -27,7 +27,7 @@ loop-again c = let p = c.before.before.before in let a = p.args in let l = c.bef
 
 returns : tie.Need-returns Inv-loop μ-loop
 returns c = let a = c.before.before.args in
-    as-shape a.off a.n a.src a.w.now (crossCell ieee a.column a.row) (omega arith) _ (filling-done c.before.loop.inv (omega arith))
+    as-shape a.off a.n a.src a.doubles.now (crossCell ieee a.column a.row) (omega arith) _ (filling-done c.before.loop.inv (omega arith))
 
 pub scale-twice-spec : {M : Type 1} → statement M
 scale-twice-spec = tie.close (tie.spec Inv-loop μ-loop loop-holds (λ c. search needs) (λ c. search needs)

@@ -26,10 +26,10 @@ loop-again : tie.Need-loop-again Inv-loop μ-loop
 loop-again c = let a = c.before.before.before.before.before.before.before.args in
     let l = c.before.before.before.before.before.before.loop in (
       omega arith,
-      rw add-one (sum-more a.w.now a.p a.v.now a.z l.r l.s l.inv.1),
-      rw add-one (sum-more a.w.now (a.p + a .rows) a.v.now a.z l.r l.s1 l.inv.2),
-      rw add-one (sum-more a.w.now (a.p + a .rows + a .rows) a.v.now a.z l.r l.s2 l.inv.3),
-      rw add-one (sum-more a.w.now (a.p + a .rows + a .rows + a .rows) a.v.now a.z l.r l.s3 l.inv.4),
+      rw add-one (sum-more a.doubles.now a.p a.v.now a.z l.r l.s l.inv.1),
+      rw add-one (sum-more a.doubles.now (a.p + a .rows) a.v.now a.z l.r l.s1 l.inv.2),
+      rw add-one (sum-more a.doubles.now (a.p + a .rows + a .rows) a.v.now a.z l.r l.s2 l.inv.3),
+      rw add-one (sum-more a.doubles.now (a.p + a .rows + a .rows + a .rows) a.v.now a.z l.r l.s3 l.inv.4),
     )
 
 returns : tie.Need-returns Inv-loop μ-loop

@@ -23,7 +23,7 @@ loop-holds c = (omega arith, refl)
 
 loop-again : tie.Need-loop-again Inv-loop μ-loop
 loop-again c = let a = c.before.before.before.before.args in let l = c.before.before.before.loop in
-    (omega arith, rw add-one (sum-more a.w.now a.p a.v.now a.z l.r l.s l.inv.1))
+    (omega arith, rw add-one (sum-more a.doubles.now a.p a.v.now a.z l.r l.s l.inv.1))
 
 returns : tie.Need-returns Inv-loop μ-loop
 returns c = let e : c .before .loop .r ≡ c .before .before .args .rows = omega arith in rw e at c.before.loop.inv.1

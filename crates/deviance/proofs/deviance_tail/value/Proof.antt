@@ -9,11 +9,11 @@ use Rattle.deviance.proofs.deviance_tail.value.Tie as tie
 
 value-requires : tie.Need-value-requires
 value-requires c κs = let s = c.before.before in
-    (omega (arith, few-effects s.args.y _ s.pre.0 s.pre.1), first-rows s.args.y _ s.pre.0 s.pre.1 _ c.working-at.ensures)
+    (omega (arith, few-effects s.args.layout _ s.pre.0 s.pre.1), first-rows s.args.layout _ s.pre.0 s.pre.1 _ c.working-at.ensures)
 
 returns : tie.Need-returns
 returns c = let a = c.before.before.before.args in c.value.ensures
-    ∙ value-same a.reml a.d a.s a.logdet a.y.p _ _ (λ r h. first-pivots a.y a.w.now _ r c.before.working-at.ensures h)
+    ∙ value-same a.reml a.d a.s a.logdet a.layout.p _ _ (λ r h. first-pivots a.layout a.doubles.now _ r c.before.working-at.ensures h)
 
 pub value-spec : {M : Type 1} → statement M
 value-spec = tie.close (tie.spec (λ c κs. search needs) value-requires returns)

@@ -2,23 +2,23 @@
 use denote.Ref.{now}
 use lib.ListN.{length}
 use Rattle.heading_format.proofs.Fits.{fits}
-use Rattle.block_places.proofs.block_kinds.Workspace.{fits-lawful, fits-room}
+use Rattle.block_places.proofs.block_kinds.Workspace.{fits-valid, fits-room}
 use Rattle.factor_text.proofs.pivot_lines.Lines.{lines-put}
 use borrow.Author.Needs.{needs}
 use Rattle.factor_text.proofs.pivot_lines.put_pivots.Statement.{statement}
 use Rattle.factor_text.proofs.pivot_lines.put_pivots.Tie as tie
 
 layout-requires : tie.Need-layout-requires
-layout-requires c κs = let st = c.before.before.before in fits (now st.args.h) (length (now st.args.w)) st.pre.0 .long
+layout-requires c κs = let st = c.before.before.before in fits (now st.args.heading) (length (now st.args.doubles)) st.pre.0 .long
 
 put-blocks-requires : tie.Need-put-blocks-requires
-put-blocks-requires c κs = let st = c.before.before.before.before.before in let h = now st.args.h in
-    let w = now st.args.w in let fit = fits h (length w) st.pre.0 in let e = c.before.layout.ensures in
-    (fits-lawful h w _ e fit, fits-room h w _ e fit, st.pre.1, st.pre.2)
+put-blocks-requires c κs = let st = c.before.before.before.before.before in let h = now st.args.heading in
+    let w = now st.args.doubles in let fit = fits h (length w) st.pre.0 in let e = c.before.layout.ensures in
+    (fits-valid h w _ e fit, fits-room h w _ e fit, st.pre.1, st.pre.2)
 
 returns : tie.Need-returns
 returns c = let a = c.before.before.before.before.before.before.before.before.args in
-    lines-put (now a.h) (now a.w) _ c.before.before.before.before.layout.ensures (now a.out) _ _ c.before.before.put-blocks.ensures
+    lines-put (now a.heading) (now a.doubles) _ c.before.before.before.before.layout.ensures (now a.out) _ _ c.before.before.put-blocks.ensures
 
 pub put-pivots-spec : {M : Type 1} → statement M
 put-pivots-spec = tie.close (tie.spec layout-requires put-blocks-requires (λ c. search needs) returns)

@@ -9,13 +9,13 @@ put-begun-requires : tie.Need-put-begun-requires
 put-begun-requires c κs =
     let st = c.before.before.before.before.before.before.before.before.before.before.before.before.before.before in
     let a = st.args in
-    (λ q. begun-underway (now a.h) (now a.w) (now a.theta) _ _ _ (search needs) c.before.before.before.before.before.before.before.begin.ensures q, search needs, st.pre.1)
+    (λ q. begun-underway (now a.heading) (now a.doubles) (now a.theta) _ _ _ (search needs) c.before.before.before.before.before.before.before.begin.ensures q, search needs, st.pre.1)
 
 returns : tie.Need-returns
 returns c =
     let st = c.before.before.before.before.before.before.before.before.before.before.before.before.before.before.before.before.before.before.before.before.before in
     let a = st.args in
-    begin-out (now a.h) (now a.w) (now a.theta) _ _ _ _ _ _ _ c.before.before.before.before.before.before.before.before.before.before.before.before.before.before.begin.ensures c.before.before.before.before.before.before.put-begun.ensures
+    begin-out (now a.heading) (now a.doubles) (now a.theta) _ _ _ _ _ _ _ c.before.before.before.before.before.before.before.before.before.before.before.before.before.before.begin.ensures c.before.before.before.before.before.before.put-begun.ensures
 
 pub put-factor-spec : {M : Type 1} → statement M
 put-factor-spec = tie.close (tie.spec (λ c κs. search needs) put-begun-requires (λ c. search needs) (λ c. search needs)

@@ -2,7 +2,7 @@
 use denote.Ref.{now}
 use Rattle.refusal.specs.declared.Answer.{Answer}
 use Rattle.heading_format.specs.Heading.{layoutOf}
-use Rattle.workspace.specs.Answers.{space}
+use Rattle.workspace.specs.Answers.{workspace}
 use Rattle.factor_output.specs.Program.{printSteps}
 use Rattle.factor_text.proofs.refusal_text.Texts.{answered}
 use borrow.Author.Needs.{needs}
@@ -15,13 +15,13 @@ put-pivots-requires c κs = let st = c.before.before.before.before.before.before
 
 returns : tie.Need-returns
 returns c = let st = c.before.before.before.before.before.before.before.before.before in
-    let v = space (now st.args.h) (now st.args.w) in
-    answered (λ (x : Answer). printSteps x v (layoutOf (now st.args.h) .k)) _ _ _ _ _ c.before.before.before.before.enum-told.given.1 c.before.before.put-pivots.ensures
+    let v = workspace (now st.args.heading) (now st.args.doubles) in
+    answered (λ (x : Answer). printSteps x v (layoutOf (now st.args.heading) .k)) _ _ _ _ _ c.before.before.before.before.enum-told.given.1 c.before.before.put-pivots.ensures
 
 returns-2 : tie.Need-returns-2
 returns-2 c = let st = c.before.before.before.before.before.before.before.before.before.before in
-    let v = space (now st.args.h) (now st.args.w) in
-    answered (λ (x : Answer). printSteps x v (layoutOf (now st.args.h) .k)) _ _ _ _ _ c.before.before.before.before.before.a.given.1 c.before.before.put-refusal.ensures
+    let v = workspace (now st.args.heading) (now st.args.doubles) in
+    answered (λ (x : Answer). printSteps x v (layoutOf (now st.args.heading) .k)) _ _ _ _ _ c.before.before.before.before.before.a.given.1 c.before.before.put-refusal.ensures
 
 pub put-steps-spec : {M : Type 1} → statement M
 put-steps-spec = tie.close (tie.spec (λ c. search needs) put-pivots-requires (λ c. search needs) (λ c κs. search needs)

@@ -7,7 +7,7 @@ use Rattle.heading.proofs.writer.write_counts.Tie as tie
 returns : tie.Need-returns
 returns c =
     let start = c.before.before.before.before.before.before.before.before.before.before.before.before.before.before.before.before.before in
-    let w = start.args.h.now in
+    let w = start.args.heading.now in
     counts-stored w _ _ _ _ c.before.before.put4.ensures c.before.before.before.before.before.before.put3.ensures c.before.before.before.before.before.before.before.before.before.before.put2.ensures c.before.before.before.before.before.before.before.before.before.before.before.before.before.before.put.ensures start.pre.0
 
 pub write-counts-spec : {M : Type 1} → statement M

@@ -6,7 +6,7 @@ use Rattle.heading.proofs.writer.write_flags.Tie as tie
 
 returns : tie.Need-returns
 returns c = let start = c.before.before.before.before.before.before.before.before.before.before.before in
-    let w = start.args.h.now in
+    let w = start.args.heading.now in
     flags-stored w _ _ c.before.before.put2.ensures c.before.before.before.before.before.before.before.put.ensures c.before.before.before.before.before.before.before.before.flag.ensures.0 c.before.before.before.flag2.ensures.0 start.pre
 
 pub write-flags-spec : {M : Type 1} → statement M

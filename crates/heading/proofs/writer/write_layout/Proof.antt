@@ -20,7 +20,7 @@ write-numbers-requires-2 c κs = (search needs, omega (arith, slice-aggregate-wr
 returns : tie.Need-returns
 returns c =
     let start = c.before.before.before.before.before.before.before.before.before.before.before.before.before.before.before.before.before.before.before.before.before in
-    layout-stored start.args.h.now start.args.y c.before.before.write-flags.ensures c.before.before.before.before.before.before.write-numbers2.ensures c.before.before.before.before.before.before.before.before.before.before.before.before.write-numbers.ensures c.before.before.before.before.before.before.before.before.before.before.before.before.before.before.before.before.before.before.write-counts.ensures start.pre.0
+    layout-stored start.args.heading.now start.args.layout c.before.before.write-flags.ensures c.before.before.before.before.before.before.write-numbers2.ensures c.before.before.before.before.before.before.before.before.before.before.before.before.write-numbers.ensures c.before.before.before.before.before.before.before.before.before.before.before.before.before.before.before.before.before.before.write-counts.ensures start.pre.0
 
 pub write-layout-spec : {M : Type 1} → statement M
 write-layout-spec = tie.close (tie.spec (λ c κs. search needs) slice-aggregate-write-numbers write-numbers-requires

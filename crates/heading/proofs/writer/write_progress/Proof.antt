@@ -14,7 +14,7 @@ write-numbers-requires c κs = (search needs, omega (arith, slice-aggregate-writ
 returns : tie.Need-returns
 returns c =
     let start = c.before.before.before.before.before.before.before.before.before.before.before.before.before.before.before.before in
-    progress-stored start.args.h.now start.args.g c.before.before.write-numbers.ensures c.before.before.before.before.before.before.before.before.put2.ensures c.before.before.before.before.before.before.before.before.before.before.before.before.put.ensures c.before.before.before.before.before.before.before.before.before.before.before.before.before.state-number.ensures.0 start.pre.0
+    progress-stored start.args.heading.now start.args.progress c.before.before.write-numbers.ensures c.before.before.before.before.before.before.before.before.put2.ensures c.before.before.before.before.before.before.before.before.before.before.before.before.put.ensures c.before.before.before.before.before.before.before.before.before.before.before.before.before.state-number.ensures.0 start.pre.0
 
 pub write-progress-spec : {M : Type 1} → statement M
 write-progress-spec = tie.close (tie.spec (λ c κs. search needs) (λ c κs. (search needs, c.state-number.ensures.1))

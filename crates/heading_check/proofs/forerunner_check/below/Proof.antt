@@ -3,13 +3,13 @@ use borrow.Author.Needs.{needs}
 use Prim.Native.Nat.{suc, _+_, _-_, _*_, _≤_, _<_}
 use mathlib.Core.List.{[], _∷_, _++_}
 use Rattle.step_order.specs.Steps.{T, each, subtractions}
-use Rattle.heading_check.specs.stage_check.Walk.{walked, told}
+use Rattle.heading_check.specs.stage_check.Walk.{walked, stagesIn}
 use Rattle.heading_check.proofs.stage_check.Walks.{Going, going-start, going-more, going-done}
 use Rattle.heading_check.proofs.forerunner_check.below.Statement.{statement}
 use Rattle.heading_check.proofs.forerunner_check.below.Tie as tie
 
 abbrev Inv-loop : tie.InvT-loop
-Inv-loop h j k v₀ i₀ v i = Going (told h) (walked (told h) v₀ (each (λ r. subtractions r j ++ (T r j ∷ [])) (suc j) (k - j))) (λ r. subtractions r j ++ (T r j ∷ [])) i (suc k) v
+Inv-loop h j k v₀ i₀ v i = Going (stagesIn h) (walked (stagesIn h) v₀ (each (λ r. subtractions r j ++ (T r j ∷ [])) (suc j) (k - j))) (λ r. subtractions r j ++ (T r j ∷ [])) i (suc k) v
     × (v.left ≤ v₀ .left + 9 * i)
     × (j < i)
 
@@ -18,7 +18,7 @@ abbrev μ-loop : tie.MeasureT-loop
 
 loop-holds : tie.Need-loop-holds Inv-loop μ-loop
 loop-holds c =
-    (going-start (told _) _ (λ r. subtractions r c.before.args.j ++ (T r c.before.args.j ∷ [])) (suc c.before.args.j) (c.before.args.k - c .before .args .j) (search needs) (search needs), search needs, search needs)
+    (going-start (stagesIn _) _ (λ r. subtractions r c.before.args.j ++ (T r c.before.args.j ∷ [])) (suc c.before.args.j) (c.before.args.k - c .before .args .j) (search needs) (search needs), search needs, search needs)
 
 loop-again : tie.Need-loop-again Inv-loop μ-loop
 loop-again c = (going-more c.before.before.loop.inv.0 (search needs) c.target.ensures.0, search needs, search needs)

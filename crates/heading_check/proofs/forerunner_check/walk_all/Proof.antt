@@ -2,19 +2,19 @@
 use borrow.Author.Needs.{needs}
 use Prim.Native.Nat.{suc, _-_, _*_, _≤_}
 use Rattle.step_order.specs.Steps.{each, columnSteps, rustOrder}
-use Rattle.heading_check.specs.stage_check.Walk.{walked, told}
+use Rattle.heading_check.specs.stage_check.Walk.{walked, stagesIn}
 use Rattle.heading_check.proofs.stage_check.Walks.{Going, going-start, going-more, going-done}
 use Rattle.heading_check.proofs.forerunner_check.walk_all.Statement.{statement}
 use Rattle.heading_check.proofs.forerunner_check.walk_all.Tie as tie
 
 abbrev Inv-loop : tie.InvT-loop
-Inv-loop h k v₀ j₀ v j = Going (told h) (walked (told h) v₀ (each (columnSteps k) 0 (suc k))) (columnSteps k) j (suc k) v × (v.left ≤ 90 * j)
+Inv-loop h k v₀ j₀ v j = Going (stagesIn h) (walked (stagesIn h) v₀ (each (columnSteps k) 0 (suc k))) (columnSteps k) j (suc k) v × (v.left ≤ 90 * j)
 
 abbrev μ-loop : tie.MeasureT-loop
 μ-loop h k v₀ j₀ v j = suc k - j
 
 loop-holds : tie.Need-loop-holds Inv-loop μ-loop
-loop-holds c = (going-start (told _) _ (columnSteps c.before.args.k) 0 (suc c.before.args.k) (search needs) (search needs), search needs)
+loop-holds c = (going-start (stagesIn _) _ (columnSteps c.before.args.k) 0 (suc c.before.args.k) (search needs) (search needs), search needs)
 
 loop-again : tie.Need-loop-again Inv-loop μ-loop
 loop-again c = (going-more c.before.before.loop.inv.0 (search needs) c.column.ensures.0, search needs)

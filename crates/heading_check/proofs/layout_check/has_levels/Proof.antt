@@ -19,7 +19,7 @@ abbrev μ-loop : tie.MeasureT-loop
 μ-loop y k j₀ j = k - j
 
 found : (c : lts.After-in-range (level-reads.Asked, level-reads.Learnt, in-range-reads.Asked, in-range-reads.Learnt) reads.Pre reads.Post Inv-loop μ-loop)
-    → c .in-range .result ≡ within 1 65535 (levels (c .before .before .before .before .args .y) (c .before .before .before .loop .j))
+    → c .in-range .result ≡ within 1 65535 (levels (c .before .before .before .before .args .layout) (c .before .before .before .loop .j))
 found c = c.in-range.ensures ∙ ap (within 1 65535) c.before.level.ensures
 
 loop-again : tie.Need-loop-again Inv-loop μ-loop

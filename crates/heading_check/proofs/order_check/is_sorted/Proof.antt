@@ -6,7 +6,7 @@ use Rattle.heading_check.proofs.order_check.is_sorted.Tie as tie
 
 returns : tie.Need-returns
 returns c =
-    sorted-same c.before.before.before.before.args.y c.before.before.before.by-sheet.result c.agree.ensures c.before.before.sorted.ensures c.before.before.before.by-sheet.ensures
+    sorted-same c.before.before.before.before.args.layout c.before.before.before.by-sheet.result c.agree.ensures c.before.before.sorted.ensures c.before.before.before.by-sheet.ensures
     c.before.before.before.before.pre (search needs)
 
 pub is-sorted-spec : {M : Type 1} → statement M

@@ -4,12 +4,12 @@ use Prim.Native.Nat.{suc, _-_}
 use lib.Dec.{leb}
 use Rattle.heading_format.specs.Heading.{every}
 use Rattle.heading_check.proofs.order_check.Every.{Passing, passing-none, passing-more, passing-fails, passing-all}
-use Rattle.heading_check.specs.stage_check.Walk.{told}
+use Rattle.heading_check.specs.stage_check.Walk.{stagesIn}
 use Rattle.heading_check.proofs.stage_check.is_bounded.Statement.{statement}
 use Rattle.heading_check.proofs.stage_check.is_bounded.Tie as tie
 
 abbrev Inv-loop : tie.InvT-loop
-Inv-loop h k i₀ i = Passing (λ r. every (λ x. leb (told h r x) (suc x)) (suc r)) (suc k) i
+Inv-loop h k i₀ i = Passing (λ r. every (λ x. leb (stagesIn h r x) (suc x)) (suc r)) (suc k) i
 
 abbrev μ-loop : tie.MeasureT-loop
 μ-loop h k i₀ i = suc k - i

@@ -4,13 +4,13 @@ use mathlib.Core.Path.{refl}
 use Rattle.heading_check.proofs.stage_check.Stages.{stage-within, stage-past}
 use lib.Dec.{leb}
 use Rattle.heading_check.proofs.order_check.Every.{Passing, passing-none, passing-more, passing-fails, passing-all}
-use Rattle.heading_check.specs.stage_check.Walk.{told}
+use Rattle.heading_check.specs.stage_check.Walk.{stagesIn}
 use borrow.Author.Needs.{needs}
 use Rattle.heading_check.proofs.stage_check.row_bounded.Statement.{statement}
 use Rattle.heading_check.proofs.stage_check.row_bounded.Tie as tie
 
 abbrev Inv-loop : tie.InvT-loop
-Inv-loop h i j₀ j = Passing (λ x. leb (told h i x) (suc x)) (suc i) j
+Inv-loop h i j₀ j = Passing (λ x. leb (stagesIn h i x) (suc x)) (suc i) j
 
 abbrev μ-loop : tie.MeasureT-loop
 μ-loop h i j₀ j = suc i - j

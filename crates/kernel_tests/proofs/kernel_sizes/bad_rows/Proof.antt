@@ -19,11 +19,11 @@ loop-holds c = (omega arith, λ x l. absurd (omega arith))
 
 loop-again : tie.Need-loop-again Inv-loop μ-loop
 loop-again c = let a = c.before.before.before.before.before.before.before.args in
-    let l = c.before.before.before.before.loop in (omega arith, one-more a.h.now a.first a.m l.i l.inv.1 (omega arith))
+    let l = c.before.before.before.before.loop in (omega arith, one-more a.heading.now a.first a.m l.i l.inv.1 (omega arith))
 
 returns-3 : tie.Need-returns-3 Inv-loop μ-loop
 returns-3 c = λ q. let e : c .before .loop .i ≡ c .before .before .before .before .args .n = omega arith in
-    (omega arith, subst (λ k. RowsBelow c.before.before.before.before.args.h.now c.before.before.before.before.args.first k c.before.before.before.before.args.m) e c.before.loop.inv.1)
+    (omega arith, subst (λ k. RowsBelow c.before.before.before.before.args.heading.now c.before.before.before.before.args.first k c.before.before.before.before.args.m) e c.before.loop.inv.1)
 
 pub bad-rows-spec : {M : Type 1} → statement M
 bad-rows-spec = tie.close (tie.spec Inv-loop μ-loop (λ c. search needs) (λ c. no-case) loop-holds (λ c. search needs)

@@ -1,23 +1,23 @@
 -- `kernel_tests::vectors::products` meets its contract.
 use lib.Dec.{ltb}
 use borrow.Author.Tests.{ltb-false}
-use Rattle.kernel_tests.proofs.kernel_sizes.Laws.{neither, block-at, turned}
+use Rattle.kernel_tests.proofs.kernel_sizes.Laws.{neither, block-at, transposed}
 use borrow.Author.Needs.{needs}
 use Rattle.kernel_tests.proofs.vectors.products.Statement.{statement}
 use Rattle.kernel_tests.proofs.vectors.products.Tie as tie
 
-less-product-requires : tie.Need-less-product-requires
-less-product-requires c κs = let p = neither _ _ c.before.before.before.if1.left in let q = neither _ _ p.0 in
+matvec-sub-requires : tie.Need-matvec-sub-requires
+matvec-sub-requires c κs = let p = neither _ _ c.before.before.before.if1.left in let q = neither _ _ p.0 in
     let h = c.before.before.before.before.before.clash.ensures q.1 in
     ((ltb-false _ _ q.0, h.first, h.second, block-at _ _ c.before.before.before.before.before.before.before.columns-size.ensures.0 (ltb-false _ _ p.1)), h.apart)
 
-less-product-t-requires : tie.Need-less-product-t-requires
-less-product-t-requires c κs = let p = neither _ _ c.before.before.before.if1.left in
+matvec-t-sub-requires : tie.Need-matvec-t-sub-requires
+matvec-t-sub-requires c κs = let p = neither _ _ c.before.before.before.if1.left in
     let q = neither (ltb 316 c.before.before.before.before.before.before.before.before.before.before.args.x.p1) _ p.0 in
     let h = c.before.before.before.before.before.clash.ensures q.1 in
-    ((h.first, h.second, block-at _ _ (turned c.before.before.before.before.before.before.before.before.before.before.args.x.p1 c.before.before.before.before.before.before.before.before.before.before.args.x.p3 c.before.before.before.before.before.before.before.columns-size.ensures.0) (ltb-false _ _ p.1)), h.apart)
+    ((h.first, h.second, block-at _ _ (transposed c.before.before.before.before.before.before.before.before.before.before.args.x.p1 c.before.before.before.before.before.before.before.before.before.before.args.x.p3 c.before.before.before.before.before.before.before.columns-size.ensures.0) (ltb-false _ _ p.1)), h.apart)
 
 pub products-spec : {M : Type 1} → statement M
 products-spec = tie.close (tie.spec (λ c κs. search needs) (λ c κs. search needs) (λ c. search needs)
-    (λ c. search needs) less-product-requires (λ c. search needs) (λ c. search needs) less-product-t-requires
+    (λ c. search needs) matvec-sub-requires (λ c. search needs) (λ c. search needs) matvec-t-sub-requires
     (λ c. search needs) (λ c. search needs))

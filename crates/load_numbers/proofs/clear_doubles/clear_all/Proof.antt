@@ -11,7 +11,7 @@ use Rattle.load_numbers.proofs.clear_doubles.clear_all.Tie as tie
 
 returns : tie.Need-returns
 returns c = let a = c.before.before.before.before.before.before.args in
-    c .before .before .clear .ensures ∙ ap (λ (n : ℕ). store 0 (tab (n + 1) (λ i. ieee .zero)) (now a.w)) c.before.before.before.sum-at.ensures
+    c .before .before .clear .ensures ∙ ap (λ (n : ℕ). store 0 (tab (n + 1) (λ i. ieee .zero)) (now a.doubles)) c.before.before.before.sum-at.ensures
 
 pub clear-all-spec : {M : Type 1} → statement M
 clear-all-spec = tie.close (tie.spec (λ c κs. search needs) (λ c. search needs) (λ c κs. search needs)

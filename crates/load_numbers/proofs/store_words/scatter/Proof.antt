@@ -31,28 +31,28 @@ double-of-requires : tie.Need-double-of-requires Inv-loop μ-loop
 double-of-requires c κs =
     let a = c.before.before.before.before.before.before.before.before.before.before.before.before.args in
     let l = c.before.before.before.before.before.before.before.before.before.loop in
-    each-now FiniteWord (lineOf a.run (now a.s)) l.left l.p c.before.before.before.before.before.before.before.line-at.result (omega arith) c.before.before.before.before.before.before.before.line-at.ensures l.inv.1
+    each-now FiniteWord (lineOf a.run (now a.bytes)) l.left l.p c.before.before.before.before.before.before.before.line-at.result (omega arith) c.before.before.before.before.before.before.before.line-at.ensures l.inv.1
 
 loop-again : tie.Need-loop-again Inv-loop μ-loop
 loop-again c =
     let a = c.before.before.before.before.before.before.before.before.before.before.before.before.before.before.before.before.args in
     let l = c.before.before.before.before.before.before.before.before.before.before.before.before.before.loop in
     let line = c.before.before.before.before.before.before.before.before.before.before.before.line-at in
-    let read = lineOf a.run (now a.s) in
-    let made : c .before .before .put .last .0 ≡ putWord a.run a.t6 l.i line.result l.w =
+    let read = lineOf a.run (now a.bytes) in
+    let made : c .before .before .put .last .0 ≡ putWord a.run a.t6 l.i line.result l.doubles =
     c .before .before .put .ensures
-    ∙ ap₂ (λ (p : ℕ) (x : Float). set l.w p x) c.before.before.before.before.place-of.ensures c.before.before.before.double-of.ensures in (
+    ∙ ap₂ (λ (p : ℕ) (x : Float). set l.doubles p x) c.before.before.before.before.place-of.ensures c.before.before.before.double-of.ensures in (
       omega arith,
       each-more FiniteWord read l.left l.p line.result (omega arith) line.ensures l.inv.1,
-      ap length made ∙ length-set l.w (placeOf a.run a.t6 l.i line.result) _ ∙ l.inv.2,
+      ap length made ∙ length-set l.doubles (placeOf a.run a.t6 l.i line.result) _ ∙ l.inv.2,
       ap (λ (t : List Float). spread (putWord a.run a.t6) read (l.left - 1) (l.i + 1) line.result.next t) made
-          ∙ sym (spread-more (putWord a.run a.t6) read l.left l.i l.p l.w line.result (omega arith) line.ensures)
+          ∙ sym (spread-more (putWord a.run a.t6) read l.left l.i l.p l.doubles line.result (omega arith) line.ensures)
           ∙ l.inv.3,
     )
 
 returns : tie.Need-returns Inv-loop μ-loop
 returns c = let a = c.before.before.before.before.args in let l = c.before.loop in
-    sym (spread-none (putWord a.run a.t6) (lineOf a.run (now a.s)) l.left l.i l.p l.w (omega arith)) ∙ l.inv.3
+    sym (spread-none (putWord a.run a.t6) (lineOf a.run (now a.bytes)) l.left l.i l.p l.doubles (omega arith)) ∙ l.inv.3
 
 pub scatter-spec : {M : Type 1} → statement M
 scatter-spec = tie.close (tie.spec Inv-loop μ-loop loop-holds (λ c κs. search needs) place-of-requires

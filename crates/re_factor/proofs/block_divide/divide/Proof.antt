@@ -18,7 +18,7 @@ loop-holds c = let a = c.args in filling-none _ a.z a.n a.v.now (omega arith)
 
 loop-again : tie.Need-loop-again Inv-loop μ-loop
 loop-again c = let a = c.before.before.before.before.args in
-    divide-turn a.off a.w.now (omega arith) c.before.before.before.loop.inv (omega arith)
+    divide-turn a.off a.doubles.now (omega arith) c.before.before.before.loop.inv (omega arith)
 
 returns : tie.Need-returns Inv-loop μ-loop
 returns c = filling-done c.before.loop.inv (omega arith)

@@ -12,7 +12,7 @@ returns : tie.Need-returns
 returns c = let a = c.before.before.before.before.before.before.before.before.args in
     let p = c.before.before.solve-row in
     lent-solve (λ b f. forward ieee b f a.n) a.n (λ b f. length-forward ieee b f a.n) a.v.now a.z (omega arith)
-    a.w.now a.off _ c.before.before.before.before.before.row-start.ensures p.last.0 p.ensures
+    a.doubles.now a.off _ c.before.before.before.before.before.row-start.ensures p.last.0 p.ensures
 
 pub forward-spec : {M : Type 1} → statement M
 forward-spec = tie.close (tie.spec (λ c. search needs) (λ c κs. search needs) (λ c. search needs) (λ c. search needs)

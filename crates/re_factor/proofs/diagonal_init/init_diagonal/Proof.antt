@@ -21,19 +21,19 @@ abbrev μ-loop : tie.MeasureT-loop
 μ-loop w₀ off n src t r₀ w r = n - r
 
 loop-holds : tie.Need-loop-holds Inv-loop μ-loop
-loop-holds c = let a = c.args in (omega arith, refl, begun-none (diagonal a.n) a.off a.n a.src a.t a.w.now (omega (arith, start-single a.n)))
+loop-holds c = let a = c.args in (omega arith, refl, begun-none (diagonal a.n) a.off a.n a.src a.t a.doubles.now (omega (arith, start-single a.n)))
 
 loop-again : tie.Need-loop-again Inv-loop μ-loop
 loop-again c = let p = c.before.before.before in let a = p.args in let l = c.before.before.loop in
     let k = start-single a.n in
-    let t = begun-pivot (diagonal a.n) a.off a.n a.src a.t a.w.now (omega arith) (omega arith)
-    (⊎-elim (λ x. inl (omega arith)) (λ x. inr x) p.pre.1) l.r (omega arith) (has-diagonal a.n l.r (omega arith)) refl l.w l.inv.2
+    let t = begun-pivot (diagonal a.n) a.off a.n a.src a.t a.doubles.now (omega arith) (omega arith)
+    (⊎-elim (λ x. inl (omega arith)) (λ x. inr x) p.pre.1) l.r (omega arith) (has-diagonal a.n l.r (omega arith)) refl l.doubles l.inv.2
     (a.off + l .r) (omega (arith, start-single l.r)) in
     (omega arith, simp length-set (omega arith), rw add-one t)
 
 returns : tie.Need-returns Inv-loop μ-loop
 returns c = let a = c.before.before.args in let l = c.before.loop in
-    begun-all (diagonal a.n) a.off a.n a.src a.t a.w.now (omega (arith, start-single a.n)) l.r (omega arith) l.w l.inv.2
+    begun-all (diagonal a.n) a.off a.n a.src a.t a.doubles.now (omega (arith, start-single a.n)) l.r (omega arith) l.doubles l.inv.2
 
 pub init-diagonal-spec : {M : Type 1} → statement M
 init-diagonal-spec = tie.close (tie.spec Inv-loop μ-loop loop-holds (λ c. search needs) (λ c. search needs)

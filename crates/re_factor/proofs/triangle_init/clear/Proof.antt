@@ -15,7 +15,7 @@ abbrev μ-loop : tie.MeasureT-loop
 μ-loop w₀ at n i₀ w i = n - i
 
 loop-holds : tie.Need-loop-holds Inv-loop μ-loop
-loop-holds c = let a = c.args in filling-none _ a.at a.n a.w.now (omega arith)
+loop-holds c = let a = c.args in filling-none _ a.at a.n a.doubles.now (omega arith)
 
 loop-again : tie.Need-loop-again Inv-loop μ-loop
 loop-again c = filling-more c.before.loop.inv (omega arith) refl

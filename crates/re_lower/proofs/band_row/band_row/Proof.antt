@@ -12,18 +12,18 @@ use Rattle.re_lower.proofs.band_row.band_row.Tie as tie
 put-row-requires : tie.Need-put-row-requires
 put-row-requires c κs = ((λ h. omega (arith, c.before.before.before.pre.3 h)), omega arith, omega arith)
 
-mul-row-beside : tie.Need-mul-row-beside
-mul-row-beside c = let a = c.before.before.before.before.before.before.before.args in
+mul-row-left-of-pivot : tie.Need-mul-row-left-of-pivot
+mul-row-left-of-pivot c = let a = c.before.before.before.before.before.before.before.args in
     omega (arith, start-triangle a.base, start-le triangle a.base a.r (omega arith))
 
-row-beside-requires : tie.Need-row-beside-requires
-row-beside-requires c κs = let a = c.before.before.before.before.before.before.before.args in
+row-left-of-pivot-requires : tie.Need-row-left-of-pivot-requires
+row-left-of-pivot-requires c κs = let a = c.before.before.before.before.before.before.before.args in
     (c.before.before.before.before.before.before.before.pre.0, omega arith, start-half a.base, omega arith)
 
 returns : tie.Need-returns
 returns c = let a = c.before.before.before.before.before.before.before.before.before.before.args in
-    c .before .before .row-beside .ensures a.t.now (omega arith) (c.before.before.before.before.before.before.put-row.ensures ∙ row-back a.t.now a.x.now a.from a.base a.r c.before.before.before.before.before.before.before.before.before.before.pre.5)
+    c .before .before .row-left-of-pivot .ensures a.t.now (omega arith) (c.before.before.before.before.before.before.put-row.ensures ∙ row-back a.t.now a.x.now a.from a.base a.r c.before.before.before.before.before.before.before.before.before.before.pre.5)
 
 pub band-row-spec : {M : Type 1} → statement M
-band-row-spec = tie.close (tie.spec (λ c. search needs) put-row-requires (λ c. search needs) mul-row-beside
-    row-beside-requires (λ c. search needs) returns)
+band-row-spec = tie.close (tie.spec (λ c. search needs) put-row-requires (λ c. search needs) mul-row-left-of-pivot
+    row-left-of-pivot-requires (λ c. search needs) returns)

@@ -5,7 +5,7 @@ use native.Mathlib.Omega.{arith}
 use native.Mathlib.Numerals.{add-one}
 use native.Mathlib.Nat.{zero-add}
 use mathlib.Core.Path.{sym}
-use Rattle.rules.specs.Sums.{lessFrom}
+use Rattle.rules.specs.Sums.{subtractFrom}
 use Rattle.re_lower.specs.Lower.{chained}
 use Rattle.re_lower.proofs.Turns.{chain-turn}
 use Rattle.re_lower.proofs.substitution.chain_row.Statement.{statement}
@@ -18,7 +18,7 @@ abbrev μ-loop : tie.MeasureT-loop
 μ-loop t l from n s v₀ y₀ v y = n - y
 
 loop-holds : tie.Need-loop-holds Inv-loop μ-loop
-unfolding lessFrom
+unfolding subtractFrom
 loop-holds c = (omega arith, refl)
 
 loop-again : tie.Need-loop-again Inv-loop μ-loop

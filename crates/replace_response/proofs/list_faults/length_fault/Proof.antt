@@ -7,19 +7,19 @@ use Rattle.replace_response.proofs.list_faults.length_fault.Tie as tie
 
 returns : tie.Need-returns
 returns c = let a = c.before.before.before.before.before.before.args in
-    c .refused .ensures ∙ rw (eq-eqb a.zty a.y.q c.before.before.before.before.if1.taken, eq-eqb a.xty a.y.p c.before.before.if2.taken, eq-eqb a.yty 1 c.before.if3.taken) refl
+    c .refused .ensures ∙ rw (eq-eqb a.zty a.layout.q c.before.before.before.before.if1.taken, eq-eqb a.xty a.layout.p c.before.before.if2.taken, eq-eqb a.yty 1 c.before.if3.taken) refl
 
 returns-2 : tie.Need-returns-2
 returns-2 c = let a = c.before.before.before.before.before.before.args in
-    c .refused2 .ensures ∙ rw (eq-eqb a.zty a.y.q c.before.before.before.before.if1.taken, eq-eqb a.xty a.y.p c.before.before.if2.taken, ne-eqb a.yty 1 c.before.if3.left) refl
+    c .refused2 .ensures ∙ rw (eq-eqb a.zty a.layout.q c.before.before.before.before.if1.taken, eq-eqb a.xty a.layout.p c.before.before.if2.taken, ne-eqb a.yty 1 c.before.if3.left) refl
 
 returns-3 : tie.Need-returns-3
 returns-3 c = let a = c.before.before.before.before.before.args in
-    c .refused3 .ensures ∙ rw (eq-eqb a.zty a.y.q c.before.before.before.if1.taken, ne-eqb a.xty a.y.p c.before.if2.left) refl
+    c .refused3 .ensures ∙ rw (eq-eqb a.zty a.layout.q c.before.before.before.if1.taken, ne-eqb a.xty a.layout.p c.before.if2.left) refl
 
 returns-4 : tie.Need-returns-4
 returns-4 c = let a = c.before.before.before.args in
-    c .refused4 .ensures ∙ rw (ne-eqb a.zty a.y.q c.before.if1.left) refl
+    c .refused4 .ensures ∙ rw (ne-eqb a.zty a.layout.q c.before.if1.left) refl
 
 pub length-fault-spec : {M : Type 1} → statement M
 length-fault-spec = tie.close (tie.spec (λ c κs. search needs) returns (λ c κs. search needs) returns-2

@@ -5,10 +5,10 @@ use Rattle.replace_response.proofs.write_rows.row_of.Statement.{stateme
 use Rattle.replace_response.proofs.write_rows.row_of.Tie as tie
 
 mul-result : tie.Need-mul-result
-mul-result c = let b = few-blocks c.before.args.y c.before.pre.0 in omega arith
+mul-result c = let b = few-blocks c.before.args.layout c.before.pre.0 in omega arith
 
 array-read-result : tie.Need-array-read-result
-array-read-result c = let b = few-blocks c.before.args.y c.before.pre.0 in omega arith
+array-read-result c = let b = few-blocks c.before.args.layout c.before.pre.0 in omega arith
 
 returns : tie.Need-returns
 returns c = c.before.pre.1.first c.before.args.j c.before.pre.2

@@ -18,27 +18,27 @@ abbrev μ-loop : tie.MeasureT-loop
 loop-holds : tie.Need-loop-holds Inv-loop μ-loop
 loop-holds c = (omega arith, strided-none _ _ _ _, refl)
 
-mul-w-2 : tie.Need-mul-w-2 Inv-loop μ-loop
-mul-w-2 c = let h = c.before.before.before.pre.1 c.before.before.loop.c c.before.loop-test.taken in search needs
+mul-doubles-2 : tie.Need-mul-doubles-2 Inv-loop μ-loop
+mul-doubles-2 c = let h = c.before.before.before.pre.1 c.before.before.loop.c c.before.loop-test.taken in search needs
 
-add-w-2 : tie.Need-add-w-2 Inv-loop μ-loop
-add-w-2 c = let h = c.before.before.before.pre.1 c.before.before.loop.c c.before.loop-test.taken in search needs
+add-doubles-2 : tie.Need-add-doubles-2 Inv-loop μ-loop
+add-doubles-2 c = let h = c.before.before.before.pre.1 c.before.before.loop.c c.before.loop-test.taken in search needs
 
-mul-w-3 : tie.Need-mul-w-3 Inv-loop μ-loop
-mul-w-3 c = let h = c.before.before.before.pre.1 c.before.before.loop.c c.before.loop-test.taken in search needs
+mul-doubles-3 : tie.Need-mul-doubles-3 Inv-loop μ-loop
+mul-doubles-3 c = let h = c.before.before.before.pre.1 c.before.before.loop.c c.before.loop-test.taken in search needs
 
-slice-write-w : tie.Need-slice-write-w Inv-loop μ-loop
-slice-write-w c = let h = c.before.before.before.pre.1 c.before.before.loop.c c.before.loop-test.taken in search needs
+slice-write-doubles : tie.Need-slice-write-doubles Inv-loop μ-loop
+slice-write-doubles c = let h = c.before.before.before.pre.1 c.before.before.loop.c c.before.loop-test.taken in search needs
 
 loop-again : tie.Need-loop-again Inv-loop μ-loop
 loop-again c = let s = c.before.before.before in let l = c.before.before.loop in
-    (omega arith, strided-more s.args.to s.args.step _ s.args.w.now l.c l.w l.inv.1, simp length-set l.inv.2)
+    (omega arith, strided-more s.args.to s.args.step _ s.args.doubles.now l.c l.doubles l.inv.1, simp length-set l.inv.2)
 
 returns : tie.Need-returns Inv-loop μ-loop
 returns c = let l = c.before.loop in let a = c.before.before.args in
-    l .inv .1 ∙ ap (λ (x : ℕ). strided a.to a.step x (from a.l.now a.at) a.w.now) (omega arith)
+    l .inv .1 ∙ ap (λ (x : ℕ). strided a.to a.step x (from a.l.now a.at) a.doubles.now) (omega arith)
 
 pub spread-spec : {M : Type 1} → statement M
 spread-spec = tie.close (tie.spec Inv-loop μ-loop loop-holds (λ c. search needs) (λ c. search needs) (λ c. search needs)
-    mul-w-2 add-w-2 mul-w-3 slice-write-w (λ c. search needs) (λ c. search needs) loop-again (λ c. search needs)
+    mul-doubles-2 add-doubles-2 mul-doubles-3 slice-write-doubles (λ c. search needs) (λ c. search needs) loop-again (λ c. search needs)
     returns)

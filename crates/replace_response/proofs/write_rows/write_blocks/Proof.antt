@@ -22,7 +22,7 @@ write-block-requires c κs = let s = c.before.before.before.before.before in
 
 add-j : tie.Need-add-j Inv-loop μ-loop
 add-j c = let s = c.before.before.before.before.before.before.before.before in
-    omega (arith, few-blocks s.args.y s.pre.0, c.before.before.before.before.before.loop.inv.0, c.before.before.before.before.loop-test.taken)
+    omega (arith, few-blocks s.args.layout s.pre.0, c.before.before.before.before.before.loop.inv.0, c.before.before.before.before.loop-test.taken)
 
 loop-less : tie.Need-loop-less Inv-loop μ-loop
 loop-less c = omega (arith, c.before.before.before.before.loop-test.taken)
@@ -30,11 +30,11 @@ loop-less c = omega (arith, c.before.before.before.before.loop-test.taken)
 loop-again : tie.Need-loop-again Inv-loop μ-loop
 loop-again c = let s = c.before.before.before.before.before.before.before.before in
     let l = c.before.before.before.before.before.loop in
-    (omega (arith, c.before.before.before.before.loop-test.taken), rows-more s.args.y s.args.zty.now _ l.j _ _ l.inv.1 c.before.before.write-block.ensures, ap length c.before.before.write-block.ensures ∙ length-row s.args.y s.args.zty.now s.args.w.now l.j _ ∙ l.inv.2)
+    (omega (arith, c.before.before.before.before.loop-test.taken), rows-more s.args.layout s.args.zty.now _ l.j _ _ l.inv.1 c.before.before.write-block.ensures, ap length c.before.before.write-block.ensures ∙ length-row s.args.layout s.args.zty.now s.args.doubles.now l.j _ ∙ l.inv.2)
 
 returns : tie.Need-returns Inv-loop μ-loop
 returns c = let a = c.before.before.before.before.args in let l = c.before.loop in
-    l .inv .1 ∙ ap (λ (x : ℕ). fixedRows a.y a.zty.now x a.w.now) (omega arith)
+    l .inv .1 ∙ ap (λ (x : ℕ). fixedRows a.layout a.zty.now x a.doubles.now) (omega arith)
 
 pub write-blocks-spec : {M : Type 1} → statement M
 write-blocks-spec = tie.close (tie.spec Inv-loop μ-loop (λ c. (omega arith, rows-none _ _ _, refl)) write-block-requires

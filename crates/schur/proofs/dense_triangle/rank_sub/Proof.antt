@@ -8,13 +8,13 @@ use Rattle.storage.specs.Runs.{triangle}
 use Rattle.storage.specs.Shape.{packed, fill}
 use Rattle.storage.proofs.Starts.{start-triangle}
 use Rattle.block_runs.proofs.blocks.Runs.{Writing, writing-none, writing-room, writing-all}
-use Rattle.schur.specs.Schur.{lessSquares}
+use Rattle.schur.specs.Schur.{subtractSquares}
 use Rattle.schur.proofs.Turns.{turn, sums-swapped}
 use Rattle.schur.proofs.dense_triangle.rank_sub.Statement.{statement}
 use Rattle.schur.proofs.dense_triangle.rank_sub.Tie as tie
 
 abbrev Inv-loop : tie.InvT-loop
-Inv-loop w₀ off rows a inner end acc₀ r₀ to₀ w acc r to = (length acc ≡ 316) × Writing off end triangle rows (lessSquares off rows a inner w₀) w₀ r to w
+Inv-loop w₀ off rows a inner end acc₀ r₀ to₀ w acc r to = (length acc ≡ 316) × Writing off end triangle rows (subtractSquares off rows a inner w₀) w₀ r to w
 
 abbrev μ-loop : tie.MeasureT-loop
 μ-loop w₀ off rows a inner end acc₀ r₀ to₀ w acc r to = rows - r
@@ -27,7 +27,7 @@ add-end-2 c = omega (arith, start-triangle c.before.args.rows)
 
 loop-holds : tie.Need-loop-holds Inv-loop μ-loop
 loop-holds c = let a = c.before.args in let e = start-triangle a.rows in
-    (refl, writing-none a.off _ triangle a.rows _ a.w.now (omega arith) (omega arith))
+    (refl, writing-none a.off _ triangle a.rows _ a.doubles.now (omega arith) (omega arith))
 
 subtract-run-requires : tie.Need-subtract-run-requires Inv-loop μ-loop
 subtract-run-requires c κs = omega (arith, writing-room c.before.before.before.loop.inv.1 (omega arith))

@@ -10,7 +10,7 @@ returns : tie.Need-returns
 returns c =
     let p = c.before.before.before.before.before.before.before.before.before.before.before.before.before.before.before.before in
     let a = p.args in
-    row-put a.w.now a.t.now _ a.acc.now _ _ a.from (0 + a .from) a.n a.a a.rows a.b a.r a.inner p.pre.1 c.before.before.before.before.before.before.before.before.before.before.before.clear.ensures c.before.before.before.before.before.before.before.add-products.ensures (omega arith) c.before.before.put.ensures
+    row-put a.doubles.now a.t.now _ a.acc.now _ _ a.from (0 + a .from) a.n a.a a.rows a.b a.r a.inner p.pre.1 c.before.before.before.before.before.before.before.before.before.before.before.clear.ensures c.before.before.before.before.before.before.before.add-products.ensures (omega arith) c.before.before.put.ensures
 
 pub sum-row-spec : {M : Type 1} → statement M
 sum-row-spec = tie.close (tie.spec (λ c. search needs) (λ c κs. search needs) (λ c κs. search needs)

@@ -14,9 +14,9 @@ returns c =
     let p = c.before.before.before.before.before.before.before.before.before.before.before.before.before.before.before.before.before.before.before.before.before.before.before.before.before.before.before.before.before in
     let a = p.args in
     let s = c.before.before.before.before.before.before.before.before.before.before.before.before.before.before.add-products-pair in
-    row-put a.w.now _ _ a.acc2.now _ _ (a.from + a .n) (0 + (a.from + a .n)) a.n a.a a.rows a.b (a.r + 1) a.inner p.pre.2 c.before.before.before.before.before.before.before.before.before.before.before.before.before.before.before.before.before.before.before.clear2.ensures s.ensures.1 (omega arith) c.before.before.put2.ensures
-    ∙ ap (run (a.from + a .n) a.n (rowSums a.a a.rows a.b a.n a.inner a.w.now (a.r + 1)))
-    (row-put a.w.now a.t.now _ a.acc.now _ _ a.from (0 + a .from) a.n a.a a.rows a.b a.r a.inner p.pre.1 c.before.before.before.before.before.before.before.before.before.before.before.before.before.before.before.before.before.before.before.before.before.before.before.clear.ensures s.ensures.0 (omega arith) c.before.before.before.before.before.before.before.put.ensures)
+    row-put a.doubles.now _ _ a.acc2.now _ _ (a.from + a .n) (0 + (a.from + a .n)) a.n a.a a.rows a.b (a.r + 1) a.inner p.pre.2 c.before.before.before.before.before.before.before.before.before.before.before.before.before.before.before.before.before.before.before.clear2.ensures s.ensures.1 (omega arith) c.before.before.put2.ensures
+    ∙ ap (run (a.from + a .n) a.n (rowSums a.a a.rows a.b a.n a.inner a.doubles.now (a.r + 1)))
+    (row-put a.doubles.now a.t.now _ a.acc.now _ _ a.from (0 + a .from) a.n a.a a.rows a.b a.r a.inner p.pre.1 c.before.before.before.before.before.before.before.before.before.before.before.before.before.before.before.before.before.before.before.before.before.before.before.clear.ensures s.ensures.0 (omega arith) c.before.before.before.before.before.before.before.put.ensures)
 
 pub sum-two-rows-spec : {M : Type 1} → statement M
 sum-two-rows-spec = tie.close (tie.spec (λ c. search needs) (λ c. search needs) (λ c κs. search needs)

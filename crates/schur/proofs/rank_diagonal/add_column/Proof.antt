@@ -24,13 +24,13 @@ loop-again : tie.Need-loop-again Inv-loop μ-loop
 loop-again c = let a = c.before.before.before.before.before.before.before.before.args in
     let l = c.before.before.before.before.before.loop in (
       omega arith,
-      column-more a.n a.a a.inner a.src a.w.now a.x a.sums.now (omega arith) (omega arith) (omega arith)
+      column-more a.n a.a a.inner a.src a.doubles.now a.x a.sums.now (omega arith) (omega arith) (omega arith)
           a.p a.q (omega arith) (omega arith) l.r (omega arith) l.inv.1 c.plus-square.result c.plus-square.ensures,
     )
 
 returns : tie.Need-returns Inv-loop μ-loop
 returns c = let a = c.before.before.before.before.args in
-    column-added a.n a.a a.inner a.src a.w.now a.x a.sums.now c.before.loop.inv.1 (omega arith)
+    column-added a.n a.a a.inner a.src a.doubles.now a.x a.sums.now c.before.loop.inv.1 (omega arith)
 
 pub add-column-spec : {M : Type 1} → statement M
 add-column-spec = tie.close (tie.spec Inv-loop μ-loop loop-holds (λ c. search needs) (λ c. search needs)

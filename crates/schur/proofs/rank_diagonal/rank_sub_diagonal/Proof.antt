@@ -13,15 +13,15 @@ use Rattle.schur.proofs.rank_diagonal.rank_sub_diagonal.Tie as tie
 sum-columns-requires : tie.Need-sum-columns-requires
 sum-columns-requires c κs = (search needs, λ i h. getD-replicate 316 i ieee.zero nan (omega arith))
 
-less-sums-requires : tie.Need-less-sums-requires
-less-sums-requires c κs = omega (arith, start-single c.before.before.before.before.before.before.before.args.n)
+subtract-sums-requires : tie.Need-subtract-sums-requires
+subtract-sums-requires c κs = omega (arith, start-single c.before.before.before.before.before.before.before.args.n)
 
 returns : tie.Need-returns
 returns c = let p = c.before.before.before.before.before.before.before.before.before.before in let a = p.args in
     let sums = c.before.before.before.before.before.before.sum-columns in
-    rows-once a.off a.n (columns a.n a.inner) a.a a.inner a.src a.w.now (omega arith) p.pre.1.0 p.pre.1.1
-    sums.last.0 sums.ensures c.before.before.less-sums.last.0 c.before.before.less-sums.ensures
+    rows-once a.off a.n (columns a.n a.inner) a.a a.inner a.src a.doubles.now (omega arith) p.pre.1.0 p.pre.1.1
+    sums.last.0 sums.ensures c.before.before.subtract-sums.last.0 c.before.before.subtract-sums.ensures
 
 pub rank-sub-diagonal-spec : {M : Type 1} → statement M
 rank-sub-diagonal-spec = tie.close (tie.spec (λ c. search needs) sum-columns-requires (λ c. search needs)
-    less-sums-requires (λ c. search needs) returns)
+    subtract-sums-requires (λ c. search needs) returns)

@@ -33,7 +33,7 @@ loop-holds c = let p = c.before.before in let a = p.args in (
   omega arith,
   omega arith,
   refl,
-  summed-none (columns a.n a.inner) a.a a.src a.w.now 0 a.n a.sums.now p.pre.1,
+  summed-none (columns a.n a.inner) a.a a.src a.doubles.now 0 a.n a.sums.now p.pre.1,
 )
 
 add-p : tie.Need-add-p Inv-loop μ-loop
@@ -51,7 +51,7 @@ loop-again c = let a = c.before.before.before.before.before.before.before.before
       rw add-one (omega arith),
       omega arith,
       rw add-one
-          (summed-more (columns a.n a.inner) a.a a.src a.w.now 0 a.n l.x l.sums t.last.0 l.inv.4 t.ensures),
+          (summed-more (columns a.n a.inner) a.a a.src a.doubles.now 0 a.n l.x l.sums t.last.0 l.inv.4 t.ensures),
     )
 
 returns : tie.Need-returns Inv-loop μ-loop

@@ -20,29 +20,29 @@ abbrev μ-loop : tie.MeasureT-loop
 
 loop-holds : tie.Need-loop-holds Inv-loop μ-loop
 loop-holds c = let a = c.before.before.args in
-    (omega arith, refl, rows-none a.off a.n (entries a.inner (rowFrom a.h.now a.first)) a.a a.inner a.src a.w.now)
+    (omega arith, refl, rows-none a.off a.n (entries a.inner (rowFrom a.heading.now a.first)) a.a a.inner a.src a.doubles.now)
 
-less-rows-requires : tie.Need-less-rows-requires Inv-loop μ-loop
-less-rows-requires c κs = omega (arith, start-single c.before.before.before.before.before.before.args.n)
+subtract-rows-requires : tie.Need-subtract-rows-requires Inv-loop μ-loop
+subtract-rows-requires c κs = omega (arith, start-single c.before.before.before.before.before.before.args.n)
 
 loop-less : tie.Need-loop-less Inv-loop μ-loop
 loop-less c = let q = c.before.before.before.before.chunk.ensures.2 (omega arith) in omega arith
 
 loop-again : tie.Need-loop-again Inv-loop μ-loop
 loop-again c = let p = c.before.before.before.before.before.before.before.before.before in let a = p.args in
-    let l = c.before.before.before.before.before.before.loop in let t = c.before.before.less-rows in (
+    let l = c.before.before.before.before.before.before.loop in let t = c.before.before.subtract-rows in (
       omega arith,
       omega arith,
-      rows-more a.off a.n (entries a.inner (rowFrom a.h.now a.first)) a.a a.inner a.src a.w.now (omega arith)
+      rows-more a.off a.n (entries a.inner (rowFrom a.heading.now a.first)) a.a a.inner a.src a.doubles.now (omega arith)
           (rw (start-single a.inner) p.pre.1.0) (rw (start-single a.inner) p.pre.1.1)
-          l.from c.before.before.before.before.chunk.result (omega arith) l.w l.inv.2 t.last.0 t.ensures,
+          l.from c.before.before.before.before.chunk.result (omega arith) l.doubles l.inv.2 t.last.0 t.ensures,
     )
 
 returns : tie.Need-returns Inv-loop μ-loop
 returns c = let a = c.before.before.before.before.args in let l = c.before.loop in
     let e : l .from ≡ a .n = omega arith in
-    rows-all a.off a.n (entries a.inner (rowFrom a.h.now a.first)) a.a a.inner a.src a.w.now l.w (rw e at l.inv.2)
+    rows-all a.off a.n (entries a.inner (rowFrom a.heading.now a.first)) a.a a.inner a.src a.doubles.now l.doubles (rw e at l.inv.2)
 
 pub rank-sub-diagonal-sparse-spec : {M : Type 1} → statement M
 rank-sub-diagonal-sparse-spec = tie.close (tie.spec Inv-loop μ-loop loop-holds (λ c. omega arith) (λ c κs. tt)
-    less-rows-requires (λ c. omega arith) loop-less loop-again (λ c. omega arith) returns)
+    subtract-rows-requires (λ c. omega arith) loop-less loop-again (λ c. omega arith) returns)

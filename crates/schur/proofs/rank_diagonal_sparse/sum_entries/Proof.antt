@@ -23,7 +23,7 @@ loop-holds : tie.Need-loop-holds Inv-loop μ-loop
 loop-holds c = let p = c.before.before.before in let a = p.args in (
   search needs,
   refl,
-  summed-none (entries a.inner (rowFrom a.h.now a.first)) a.a a.src a.w.now a.from a.m a.sums.now p.pre.1,
+  summed-none (entries a.inner (rowFrom a.heading.now a.first)) a.a a.src a.doubles.now a.from a.m a.sums.now p.pre.1,
 )
 
 loop-again : tie.Need-loop-again Inv-loop μ-loop
@@ -31,12 +31,12 @@ loop-again c =
     let a = c.before.before.before.before.before.before.before.before.before.before.before.before.before.args in
     let l = c.before.before.before.before.before.before.before.before.before.loop in
     let k = c.before.before.before.before.before.before.wide in let t = c.before.before.add-entry in
-    let row : ℕ → ℕ = rowFrom a.h.now a.first in (
+    let row : ℕ → ℕ = rowFrom a.heading.now a.first in (
       omega arith,
       omega arith,
       rw add-one
-          (summed-more (entries a.inner row) a.a a.src a.w.now a.from a.m l.x l.sums t.last.0 l.inv.2
-          (entry-added a.a a.inner a.src row a.w.now a.from a.m l.x (omega arith) (omega arith) (omega arith)
+          (summed-more (entries a.inner row) a.a a.src a.doubles.now a.from a.m l.x l.sums t.last.0 l.inv.2
+          (entry-added a.a a.inner a.src row a.doubles.now a.from a.m l.x (omega arith) (omega arith) (omega arith)
           l.sums t.last.0 k.result k.ensures t.ensures)),
     )
 

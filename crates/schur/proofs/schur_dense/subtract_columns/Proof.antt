@@ -8,7 +8,7 @@ use Rattle.storage.specs.Runs.{dense}
 use Rattle.storage.specs.Shape.{columns, fill}
 use Rattle.storage.proofs.Starts.{start-dense}
 use Rattle.block_runs.proofs.blocks.Runs.{Writing, writing-none, writing-room, writing-all}
-use Rattle.schur.specs.Schur.{lessDots}
+use Rattle.schur.specs.Schur.{subtractDots}
 use Rattle.schur.proofs.Turns.{turn, room-for-two, sums-dot}
 use Rattle.schur.proofs.schur_dense.Laws.{two-turns}
 use Rattle.schur.proofs.schur_dense.subtract_columns.Statement.{statement}
@@ -16,7 +16,7 @@ use Rattle.schur.proofs.schur_dense.subtract_columns.Tie as tie
 
 abbrev Inv-loop : tie.InvT-loop
 Inv-loop w₀ off rows cols a b inner end acc₀ acc2₀ c₀ to₀ w acc acc2 c to =
-    (length acc ≡ 316) × (length acc2 ≡ 316) × Writing off end (dense rows) cols (lessDots off rows cols a b inner w₀) w₀ c to w
+    (length acc ≡ 316) × (length acc2 ≡ 316) × Writing off end (dense rows) cols (subtractDots off rows cols a b inner w₀) w₀ c to w
 
 abbrev μ-loop : tie.MeasureT-loop
 μ-loop w₀ off rows cols a b inner end acc₀ acc2₀ c₀ to₀ w acc acc2 c to = cols - c
@@ -29,7 +29,7 @@ add-end c = let a = c.before.args in omega (arith, start-dense a.rows a.cols)
 
 loop-holds : tie.Need-loop-holds Inv-loop μ-loop
 loop-holds c = let a = c.before.args in let e = start-dense a.rows a.cols in
-    (refl, refl, writing-none a.off _ (dense a.rows) a.cols _ a.w.now (omega arith) (omega arith))
+    (refl, refl, writing-none a.off _ (dense a.rows) a.cols _ a.doubles.now (omega arith) (omega arith))
 
 subtract-pair-requires : tie.Need-subtract-pair-requires Inv-loop μ-loop
 subtract-pair-requires c κs = let p = c.before.before.before.before.before.before in

@@ -19,13 +19,13 @@ loop-holds : tie.Need-loop-holds Inv-loop μ-loop
 loop-holds c = let p = c.before.before.pre in (refl, pass-start p.0 _ _ p.2 p.4)
 
 loop-again : tie.Need-loop-again Inv-loop μ-loop
-loop-again c = let t = c.before.before.before.before.turn.ensures.on (omega arith) in (t.0 ∙ c.before.before.before.before.before.before.before.loop.inv.0, t.1)
+loop-again c = let t = c.before.before.before.before.check-entry.ensures.on (omega arith) in (t.0 ∙ c.before.before.before.before.before.before.before.loop.inv.0, t.1)
 
-unmet-requires : tie.Need-unmet-requires Inv-loop μ-loop
-unmet-requires c κs = let p = c.before.before.before.before.before.pre in let v = c.before.before.loop.inv in
+unmatched-line-requires : tie.Need-unmatched-line-requires Inv-loop μ-loop
+unmatched-line-requires c κs = let p = c.before.before.before.before.before.pre in let v = c.before.before.loop.inv in
     (p.0, pass-end p.0 v.1 (omega arith), omega (arith, p.3, v.0))
 
 pub pass-spec : {M : Type 1} → statement M
 pass-spec = tie.close (tie.spec Inv-loop μ-loop loop-holds (λ c κs. search needs) (λ c. search needs)
-    (λ c. search needs) (λ c. search needs) (λ c. search needs) loop-again unmet-requires (λ c. search needs)
+    (λ c. search needs) (λ c. search needs) (λ c. search needs) loop-again unmatched-line-requires (λ c. search needs)
     (λ c. search pass-judged))

@@ -15,7 +15,7 @@ counts s at t m e f g h = cc
 
 returns : tie.Need-returns
 returns c = let a = c.before.before.before.before.before.args in
-    counts a.s.now a.at c.before.before.tag.result c.before.number.result c.number2.result c.before.before.tag.ensures
+    counts a.bytes.now a.at c.before.before.tag.result c.before.number.result c.number2.result c.before.before.tag.ensures
     c.before.number.ensures c.number2.ensures
 
 pub block-line-spec : {M : Type 1} → statement M

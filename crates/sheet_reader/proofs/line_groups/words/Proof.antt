@@ -2,7 +2,7 @@
 use Prim.Native.Nat.{_-_, _+_, _*_}
 use borrow.Author.Needs.{needs}
 use native.Mathlib.Omega.{arith}
-use Rattle.sheet.specs.Run.{givenVerdict, wordIn, wordsOf}
+use Rattle.sheet.specs.Run.{prescribedVerdict, wordIn, wordsOf}
 use Rattle.sheet_reader.specs.line_verdict.Words.{lineOf}
 use Rattle.sheet_reader.proofs.line_verdict.Runs.{Rows, rows-start, rows-refused, rows-next, rows-room, rows-end}
 use Rattle.sheet_reader.proofs.line_groups.words.Statement.{statement}
@@ -10,7 +10,7 @@ use Rattle.sheet_reader.proofs.line_groups.words.Tie as tie
 
 abbrev Inv-loop : tie.InvT-loop
 Inv-loop s t numbers first step rows d₀ r₀ d r =
-    Rows (lineOf numbers t s) givenVerdict wordIn (λ i. first + step * i) (wordsOf (lineOf numbers t s) (λ i. first + step * i) rows d₀ .past) r rows d
+    Rows (lineOf numbers t s) prescribedVerdict wordIn (λ i. first + step * i) (wordsOf (lineOf numbers t s) (λ i. first + step * i) rows d₀ .past) r rows d
 
 abbrev μ-loop : tie.MeasureT-loop
 μ-loop s t numbers first step rows d₀ r₀ d r = rows - r

@@ -15,7 +15,7 @@ pair t s at o a b w e f g h = cc
 
 returns : tie.Need-returns
 returns c = let a = c.before.before.before.before.before.before.args in
-    pair a.t.now a.s.now a.at c.before.before.before.tag.result c.before.before.number.result c.before.number2.result c.word.result
+    pair a.t.now a.bytes.now a.at c.before.before.before.tag.result c.before.before.number.result c.before.number2.result c.word.result
     c.before.before.before.tag.ensures c.before.before.number.ensures c.before.number2.ensures c.word.ensures
 
 pub pair-line-spec : {M : Type 1} → statement M

@@ -42,7 +42,7 @@ returns c = let t = c.before in let u = t.before.before in let v = u.before.befo
       xy-words = u.words4.ensures;
       yy-words = t.words5.ensures;
     })
-    c.settle.ensures
+    c.reading-at.ensures
 
 pub lines-spec : {M : Type 1} → statement M
 lines-spec = tie.close (tie.spec (λ c κs. search needs) entries-requires (λ c. search needs) words-requires

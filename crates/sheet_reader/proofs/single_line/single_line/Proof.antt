@@ -15,7 +15,7 @@ single t s at o i w e f g = cc
 
 returns : tie.Need-returns
 returns c = let a = c.before.before.before.before.before.args in
-    single a.t.now a.s.now a.at c.before.before.tag.result c.before.number.result c.word.result c.before.before.tag.ensures
+    single a.t.now a.bytes.now a.at c.before.before.tag.result c.before.number.result c.word.result c.before.before.tag.ensures
     c.before.number.ensures c.word.ensures
 
 pub single-line-spec : {M : Type 1} → statement M

@@ -15,7 +15,7 @@ counts s at t n p q k f e₀ e₁ e₂ e₃ e₄ e₅ = cc
 
 returns : tie.Need-returns
 returns c = let a = c.before.before.before.before.before.before.before.before.args in
-    counts a.s.now a.at c.before.before.before.before.before.tag.result c.before.before.before.before.number.result
+    counts a.bytes.now a.at c.before.before.before.before.before.tag.result c.before.before.before.before.number.result
     c.before.before.before.number2.result c.before.before.number3.result c.before.number4.result c.number5.result
     c.before.before.before.before.before.tag.ensures c.before.before.before.before.number.ensures
     c.before.before.before.number2.ensures c.before.before.number3.ensures c.before.number4.ensures c.number5.ensures

@@ -22,7 +22,7 @@ Turn = tie.After-shared-slice-known2 Inv-loop μ-loop
 
 -- the byte that a turn reads
 abbrev byte : Turn → ℕ
-byte c = let a = c.before.before.before.before.before.before.args in getD a.s.now (a.at + c .before .before .loop .k) 0
+byte c = let a = c.before.before.before.before.before.before.args in getD a.bytes.now (a.at + c .before .before .loop .k) 0
 
 is-byte : (c : Turn) → byte c < 256
 is-byte c = let a = c.before.before.before.before.before.before.args in omega (arith, c.shared-slice-known2.given (a.at + c .before .before .loop .k))

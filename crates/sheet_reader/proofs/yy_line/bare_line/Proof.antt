@@ -15,7 +15,7 @@ bare t s at o w e f = cc
 
 returns : tie.Need-returns
 returns c = let a = c.before.before.before.before.args in
-    bare a.t.now a.s.now a.at c.before.tag.result c.word.result c.before.tag.ensures c.word.ensures
+    bare a.t.now a.bytes.now a.at c.before.tag.result c.word.result c.before.tag.ensures c.word.ensures
 
 pub bare-line-spec : {M : Type 1} → statement M
 bare-line-spec = tie.close (tie.spec (λ c κs. search needs) (λ c κs. search needs) returns)

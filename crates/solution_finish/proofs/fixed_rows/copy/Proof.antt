@@ -12,7 +12,7 @@ use Rattle.solution_finish.proofs.fixed_rows.copy.Tie as tie
 
 returns : tie.Need-returns
 returns c = let a = c.before.before.before.before.before.before.args in
-    let f : ℕ → Float = λ i. at a.w.now (a.from + i) in
+    let f : ℕ → Float = λ i. at a.doubles.now (a.from + i) in
     lent-run a.v.now _ a.to (a.to + a .n) 0 a.n f f (omega arith) (omega arith) (λ i l. refl) c.before.before.read.ensures
     ∙ ap (λ (k : ℕ). run k a.n f a.v.now) (add-zero a.to)
 

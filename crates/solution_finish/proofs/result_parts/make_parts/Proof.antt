@@ -1,36 +1,36 @@
 -- `solution_finish::result_parts::make_parts`: beta, u and b.
 use native.Mathlib.Omega.{arith}
-use Rattle.block_places.proofs.block_kinds.Workspace.{fits-lawful}
-use Rattle.solution_finish.proofs.result_parts.Made.{effects-ready, offsets-ready, finished}
+use Rattle.block_places.proofs.block_kinds.Workspace.{fits-valid}
+use Rattle.solution_finish.proofs.result_parts.Made.{beta-ready, u-ready, finished}
 use borrow.Author.Needs.{needs}
 use Rattle.solution_finish.proofs.result_parts.make_parts.Statement.{statement}
 use Rattle.solution_finish.proofs.result_parts.make_parts.Tie as tie
 
-factor-at-requires : tie.Need-factor-at-requires
-factor-at-requires c κs =
-    let s = c.before.before.before in (fits-lawful s.args.h.now s.args.w.now s.args.y s.pre.0 s.pre.1)
+l-x-at-requires : tie.Need-l-x-at-requires
+l-x-at-requires c κs =
+    let s = c.before.before.before in (fits-valid s.args.heading.now s.args.doubles.now s.args.layout s.pre.0 s.pre.1)
 
-solved-at-requires : tie.Need-solved-at-requires
-solved-at-requires c κs =
-    let s = c.before.before.before.before in ((fits-lawful s.args.h.now s.args.w.now s.args.y s.pre.0 s.pre.1), omega arith)
+w-at-requires : tie.Need-w-at-requires
+w-at-requires c κs =
+    let s = c.before.before.before.before in ((fits-valid s.args.heading.now s.args.doubles.now s.args.layout s.pre.0 s.pre.1), omega arith)
 
-solve-effects-requires : tie.Need-solve-effects-requires
-solve-effects-requires c κs = let s = c.before.before.before.before.before.before in
-    effects-ready s.args.y (fits-lawful s.args.h.now s.args.w.now s.args.y s.pre.0 s.pre.1) s.args.v.now s.pre.2.long _ c.before.before.factor-at.ensures
+solve-beta-requires : tie.Need-solve-beta-requires
+solve-beta-requires c κs = let s = c.before.before.before.before.before.before in
+    beta-ready s.args.layout (fits-valid s.args.heading.now s.args.doubles.now s.args.layout s.pre.0 s.pre.1) s.args.v.now s.pre.2.long _ c.before.before.l-x-at.ensures
 
-add-less-columns-2 : tie.Need-add-less-columns-2
-add-less-columns-2 c = let s = c.before.before.before.before.before.before.before.before.before.before in
-    let k = offsets-ready s.args.h.now s.args.w.now s.args.y s.args.v.now _ _ _ c.before.before.before.before.before.before.factor-at.ensures c.before.before.before.before.before.solved-at.ensures s.pre.0 s.pre.2 _ c.before.before.before.solve-effects.ensures in omega (arith, k.3)
+add-write-u-2 : tie.Need-add-write-u-2
+add-write-u-2 c = let s = c.before.before.before.before.before.before.before.before.before.before in
+    let k = u-ready s.args.heading.now s.args.doubles.now s.args.layout s.args.v.now _ _ _ c.before.before.before.before.before.before.l-x-at.ensures c.before.before.before.before.before.w-at.ensures s.pre.0 s.pre.2 _ c.before.before.before.solve-beta.ensures in omega (arith, k.3)
 
-less-columns-requires : tie.Need-less-columns-requires
-less-columns-requires c κs = let s = c.before.before.before.before.before.before.before.before.before.before in
-    offsets-ready s.args.h.now s.args.w.now s.args.y s.args.v.now _ _ _ c.before.before.before.before.before.before.factor-at.ensures c.before.before.before.before.before.solved-at.ensures s.pre.0 s.pre.2 _ c.before.before.before.solve-effects.ensures
+write-u-requires : tie.Need-write-u-requires
+write-u-requires c κs = let s = c.before.before.before.before.before.before.before.before.before.before in
+    u-ready s.args.heading.now s.args.doubles.now s.args.layout s.args.v.now _ _ _ c.before.before.before.before.before.before.l-x-at.ensures c.before.before.before.before.before.w-at.ensures s.pre.0 s.pre.2 _ c.before.before.before.solve-beta.ensures
 
 returns : tie.Need-returns
 returns c =
     let s = c.before.before.before.before.before.before.before.before.before.before.before.before.before.before.before.before.before in
-    finished s.args.h.now s.args.w.now s.args.y s.args.v.now _ _ _ c.before.before.before.before.before.before.before.before.before.before.before.before.before.factor-at.ensures c.before.before.before.before.before.before.before.before.before.before.before.before.solved-at.ensures s.pre.0 (fits-lawful s.args.h.now s.args.w.now s.args.y s.pre.0 s.pre.1) s.pre.2 _ c.before.before.before.before.before.before.before.before.before.before.solve-effects.ensures _ _ c.before.before.before.before.before.before.less-columns.ensures c.before.before.scale-offsets.ensures
+    finished s.args.heading.now s.args.doubles.now s.args.layout s.args.v.now _ _ _ c.before.before.before.before.before.before.before.before.before.before.before.before.before.l-x-at.ensures c.before.before.before.before.before.before.before.before.before.before.before.before.w-at.ensures s.pre.0 (fits-valid s.args.heading.now s.args.doubles.now s.args.layout s.pre.0 s.pre.1) s.pre.2 _ c.before.before.before.before.before.before.before.before.before.before.solve-beta.ensures _ _ c.before.before.before.before.before.before.write-u.ensures c.before.before.write-b.ensures
 
 pub make-parts-spec : {M : Type 1} → statement M
-make-parts-spec = tie.close (tie.spec factor-at-requires solved-at-requires solve-effects-requires (λ c. search needs)
-    add-less-columns-2 less-columns-requires (λ c κs. search needs) (λ c. search needs) returns)
+make-parts-spec = tie.close (tie.spec l-x-at-requires w-at-requires solve-beta-requires (λ c. search needs)
+    add-write-u-2 write-u-requires (λ c κs. search needs) (λ c. search needs) returns)

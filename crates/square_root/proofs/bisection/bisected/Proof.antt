@@ -13,10 +13,10 @@ abbrev μ-loop : tie.MeasureT-loop
 μ-loop m lo₀ hi₀ lo hi = hi - lo
 
 loop-again : tie.Need-loop-again Inv-loop μ-loop
-loop-again c = raised _ _ _ _ c.before.before.before.loop.inv refl c.before.before.loop-test.taken (sym c.before.reaches.ensures ∙ c.if1.taken)
+loop-again c = raised _ _ _ _ c.before.before.before.loop.inv refl c.before.before.loop-test.taken (sym c.before.is-at-least.ensures ∙ c.if1.taken)
 
 loop-again-2 : tie.Need-loop-again-2 Inv-loop μ-loop
-loop-again-2 c = lowered _ _ _ _ c.before.before.before.loop.inv refl c.before.before.loop-test.taken (sym c.before.reaches.ensures ∙ c.if1.left)
+loop-again-2 c = lowered _ _ _ _ c.before.before.before.loop.inv refl c.before.before.loop-test.taken (sym c.before.is-at-least.ensures ∙ c.if1.left)
 
 returns : tie.Need-returns Inv-loop μ-loop
 returns c = narrowed _ _ _ c.before.before.pre.0 c.before.before.pre.1 c.before.loop.inv c.loop-test.left

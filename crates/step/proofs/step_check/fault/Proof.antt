@@ -8,7 +8,7 @@ use Rattle.step.proofs.step_check.fault.Tie as tie
 
 returns-2 : tie.Need-returns-2
 returns-2 c = let s = c.before.before.before in let a = s.args in
-    fault-named a.k a.g (stepOfName a.name) c.before.enum-told2.given.1 refl c.name-fault.ensures
+    fault-named a.k a.progress (stepOfName a.name) c.before.enum-told2.given.1 refl c.name-fault.ensures
 
 pub fault-spec : {M : Type 1} → statement M
 fault-spec = tie.close (tie.spec (λ c. search needs) (λ c. search needs) (λ c κs. search needs) (λ c. search needs)

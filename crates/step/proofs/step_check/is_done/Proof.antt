@@ -15,13 +15,13 @@ stage-requires-3 : tie.Need-stage-requires-3
 stage-requires-3 c κs = let n = solve-named c.before.name3.given.1 c.before.before.before.pre in search needs
 
 returns : tie.Need-returns
-returns c = subtract-done c.before.before.name.given.1 (stageOf c.before.before.before.before.args.g) c.stage.ensures
+returns c = subtract-done c.before.before.name.given.1 (stageOf c.before.before.before.before.args.progress) c.stage.ensures
 
 returns-2 : tie.Need-returns-2
-returns-2 c = factor-done c.before.before.name2.given.1 (stageOf c.before.before.before.before.args.g) c.stage2.ensures
+returns-2 c = factor-done c.before.before.name2.given.1 (stageOf c.before.before.before.before.args.progress) c.stage2.ensures
 
 returns-3 : tie.Need-returns-3
-returns-3 c = solve-done c.before.before.name3.given.1 (stageOf c.before.before.before.before.args.g) c.stage3.ensures
+returns-3 c = solve-done c.before.before.name3.given.1 (stageOf c.before.before.before.before.args.progress) c.stage3.ensures
 
 pub is-done-spec : {M : Type 1} → statement M
 is-done-spec = tie.close (tie.spec (λ c. search needs) stage-requires (λ c. search needs) stage-requires-2

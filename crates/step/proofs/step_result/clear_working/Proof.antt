@@ -17,24 +17,24 @@ abbrev μ-loop : tie.MeasureT-loop
 
 add-n : tie.Need-add-n Inv-loop μ-loop
 add-n c = let s = c.before.before.before in let a = s.args in
-    let b = sum-small a.y s.pre.0 a.w.now s.pre.1 c.before.theta-at.ensures c.sum-at.ensures in omega arith
+    let b = sum-small a.layout s.pre.0 a.doubles.now s.pre.1 c.before.theta-at.ensures c.sum-at.ensures in omega arith
 
 sub-n : tie.Need-sub-n Inv-loop μ-loop
 sub-n c = let s = c.before.before.before in let a = s.args in
-    let b = theta-before a.y s.pre.0 a.w.now s.pre.1 c.before.theta-at.ensures c.sum-at.ensures in omega arith
+    let b = theta-before a.layout s.pre.0 a.doubles.now s.pre.1 c.before.theta-at.ensures c.sum-at.ensures in omega arith
 
 loop-holds : tie.Need-loop-holds Inv-loop μ-loop
 loop-holds c = let s = c.before.before.before in let a = s.args in
-    let b = theta-before a.y s.pre.0 a.w.now s.pre.1 c.before.theta-at.ensures c.sum-at.ensures in
-    let r = working-fit a.y s.pre.0 a.w.now s.pre.1 c.before.theta-at.ensures c.sum-at.ensures in
-    filling-none (λ x. ieee .zero) _ _ a.w.now (omega arith)
+    let b = theta-before a.layout s.pre.0 a.doubles.now s.pre.1 c.before.theta-at.ensures c.sum-at.ensures in
+    let r = working-fit a.layout s.pre.0 a.doubles.now s.pre.1 c.before.theta-at.ensures c.sum-at.ensures in
+    filling-none (λ x. ieee .zero) _ _ a.doubles.now (omega arith)
 
 loop-again : tie.Need-loop-again Inv-loop μ-loop
 loop-again c = filling-more c.before.loop.inv (search needs) refl
 
 returns : tie.Need-returns Inv-loop μ-loop
 returns c = let s = c.before.before.before.before.before in let a = s.args in
-    all-cleared a.y s.pre.0 a.w.now s.pre.1 c.before.before.before.theta-at.ensures c.before.before.sum-at.ensures (filling-done c.before.loop.inv (search needs))
+    all-cleared a.layout s.pre.0 a.doubles.now s.pre.1 c.before.before.before.theta-at.ensures c.before.before.sum-at.ensures (filling-done c.before.loop.inv (search needs))
 
 pub clear-working-spec : {M : Type 1} → statement M
 clear-working-spec = tie.close (tie.spec Inv-loop μ-loop (λ c κs. search needs) (λ c κs. search needs) add-n sub-n

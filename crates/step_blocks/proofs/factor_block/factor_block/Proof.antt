@@ -10,7 +10,7 @@ chol-diagonal-requires c κs = let a = c.before.before.before in
 
 returns : tie.Need-returns
 returns c = let a = c.before.before.before.before.before.before in
-    diagonal-factored a.args.s.diagonal a.args.at a.args.s.rows a.args.w.now _ _ c.before.before.before.before.if1.taken c.before.before.chol-diagonal.ensures
+    diagonal-factored a.args.s.diagonal a.args.at a.args.s.rows a.args.doubles.now _ _ c.before.before.before.before.if1.taken c.before.before.chol-diagonal.ensures
 
 chol-requires : tie.Need-chol-requires
 chol-requires c κs = let a = c.before.before.before in
@@ -18,7 +18,7 @@ chol-requires c κs = let a = c.before.before.before in
 
 returns-2 : tie.Need-returns-2
 returns-2 c = let a = c.before.before.before.before.before.before in
-    triangle-factored a.args.s.diagonal a.args.at a.args.s.rows a.args.w.now _ _ c.before.before.before.before.if1.left c.before.before.chol.ensures
+    triangle-factored a.args.s.diagonal a.args.at a.args.s.rows a.args.doubles.now _ _ c.before.before.before.before.if1.left c.before.before.chol.ensures
 
 pub factor-block-spec : {M : Type 1} → statement M
 factor-block-spec = tie.close (tie.spec chol-diagonal-requires (λ c. search needs) returns chol-requires

@@ -9,7 +9,7 @@ use Rattle.step_blocks.proofs.factor_logs.add_logs.Tie as tie
 
 returns : tie.Need-returns
 returns c = let a = c.before.before.before in
-    sum-kept a.args.y a.args.w.now a.args.j _ a.pre.2 (λ x. logsOf (eqb a.args.j 0) x (pivotsIn a.args.s.diagonal a.args.at a.args.s.rows a.args.w.now) a.args.s.rows) c.if1.taken
+    sum-kept a.args.layout a.args.doubles.now a.args.j _ a.pre.2 (λ x. logsOf (eqb a.args.j 0) x (pivotsIn a.args.s.diagonal a.args.at a.args.s.rows a.args.doubles.now) a.args.s.rows) c.if1.taken
 
 logs-requires : tie.Need-logs-requires
 logs-requires c κs = let a = c.before.before.before.before.before in
@@ -17,7 +17,7 @@ logs-requires c κs = let a = c.before.before.before.before.before in
 
 returns-2 : tie.Need-returns-2
 returns-2 c = let a = c.before.before.before.before.before.before in
-    sum-written a.args.y a.args.w.now a.args.j _ a.pre.2 (λ x. logsOf (eqb a.args.j 0) x (pivotsIn a.args.s.diagonal a.args.at a.args.s.rows a.args.w.now) a.args.s.rows) c.before.before.before.if1.left c.before.before.sum-at.ensures c.logs.ensures
+    sum-written a.args.layout a.args.doubles.now a.args.j _ a.pre.2 (λ x. logsOf (eqb a.args.j 0) x (pivotsIn a.args.s.diagonal a.args.at a.args.s.rows a.args.doubles.now) a.args.s.rows) c.before.before.before.if1.left c.before.before.sum-at.ensures c.logs.ensures
 
 pub add-logs-spec : {M : Type 1} → statement M
 add-logs-spec = tie.close (tie.spec returns (λ c κs. search needs) (λ c. search needs) (λ c. search needs) logs-requires

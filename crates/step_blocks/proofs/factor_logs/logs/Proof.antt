@@ -9,7 +9,7 @@ log-diagonal-requires c κs = let a = c.before.before in
 
 returns : tie.Need-returns
 returns c = let a = c.before.before.before in
-    logs-first a.args.s.diagonal a.args.at a.args.s.rows a.args.w.now a.args.first a.args.x _ c.before.if1.taken (a.pre.2 c.before.if1.taken) c.log-diagonal.ensures
+    logs-first a.args.s.diagonal a.args.at a.args.s.rows a.args.doubles.now a.args.first a.args.x _ c.before.if1.taken (a.pre.2 c.before.if1.taken) c.log-diagonal.ensures
 
 logs-later-diagonal-requires : tie.Need-logs-later-diagonal-requires
 logs-later-diagonal-requires c κs = let a = c.before.before.before in
@@ -17,7 +17,7 @@ logs-later-diagonal-requires c κs = let a = c.before.before.before in
 
 returns-2 : tie.Need-returns-2
 returns-2 c = let a = c.before.before.before.before in
-    logs-later-diagonal a.args.s.diagonal a.args.at a.args.s.rows a.args.w.now a.args.first a.args.x _ c.before.before.if1.left c.before.if2.taken c.logs-later-diagonal.ensures
+    logs-later-diagonal a.args.s.diagonal a.args.at a.args.s.rows a.args.doubles.now a.args.first a.args.x _ c.before.before.if1.left c.before.if2.taken c.logs-later-diagonal.ensures
 
 logs-later-requires : tie.Need-logs-later-requires
 logs-later-requires c κs = let a = c.before.before.before in
@@ -25,7 +25,7 @@ logs-later-requires c κs = let a = c.before.before.before in
 
 returns-3 : tie.Need-returns-3
 returns-3 c = let a = c.before.before.before.before in
-    logs-later-packed a.args.s.diagonal a.args.at a.args.s.rows a.args.w.now a.args.first a.args.x _ c.before.before.if1.left c.before.if2.left c.logs-later.ensures
+    logs-later-packed a.args.s.diagonal a.args.at a.args.s.rows a.args.doubles.now a.args.first a.args.x _ c.before.before.if1.left c.before.if2.left c.logs-later.ensures
 
 pub logs-spec : {M : Type 1} → statement M
 logs-spec = tie.close (tie.spec log-diagonal-requires returns logs-later-diagonal-requires returns-2 logs-later-requires

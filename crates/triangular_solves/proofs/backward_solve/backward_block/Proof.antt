@@ -3,7 +3,7 @@ use borrow.Author.Needs.{needs}
 use Prim.Native.Nat.{_-_}
 use mathlib.Core.Path.{refl}
 use native.Mathlib.Omega.{arith}
-use Rattle.block_places.proofs.block_kinds.Workspace.{fits-lawful}
+use Rattle.block_places.proofs.block_kinds.Workspace.{fits-valid}
 use Rattle.solution_vectors.proofs.solve_laws.Folds.{Backward, backward-start, backward-more, backward-end}
 use Rattle.triangular_solves.proofs.backward_solve.backward_block.Statement.{statement}
 use Rattle.triangular_solves.proofs.backward_solve.backward_block.Tie as tie
@@ -16,11 +16,11 @@ abbrev μ-loop : tie.MeasureT-loop
 
 loop-holds : tie.Need-loop-holds Inv-loop μ-loop
 loop-holds c = let s = c.before.before.before in
-    backward-start _ _ (fits-lawful _ s.args.w.now _ s.pre.0 s.pre.1) s.pre.2 s.pre.3 refl
+    backward-start _ _ (fits-valid _ s.args.doubles.now _ s.pre.0 s.pre.1) s.pre.2 s.pre.3 refl
 
 loop-again : tie.Need-loop-again Inv-loop μ-loop
 loop-again c =
-    backward-more _ _ c.before.before.before.before.before.before.loop.inv c.before.before.before.before.if1.taken c.before.before.less-backward.ensures
+    backward-more _ _ c.before.before.before.before.before.before.loop.inv c.before.before.before.before.if1.taken c.before.before.subtract-backward.ensures
 
 returns : tie.Need-returns Inv-loop μ-loop
 returns c = let s = c.before.before.before.before.before.before.before.before.before.before in

@@ -2,7 +2,7 @@
 use borrow.Author.Needs.{needs}
 use Prim.Native.Nat.{_-_}
 use native.Mathlib.Omega.{arith}
-use Rattle.block_places.proofs.block_kinds.Workspace.{fits-lawful}
+use Rattle.block_places.proofs.block_kinds.Workspace.{fits-valid}
 use Rattle.solution_vectors.proofs.solve_laws.Folds.{Forward, forward-start, forward-more, forward-end}
 use Rattle.triangular_solves.proofs.forward_solve.forward_block.Statement.{statement}
 use Rattle.triangular_solves.proofs.forward_solve.forward_block.Tie as tie
@@ -15,11 +15,11 @@ abbrev μ-loop : tie.MeasureT-loop
 
 loop-holds : tie.Need-loop-holds Inv-loop μ-loop
 loop-holds c = let s = c.before.before.before in
-    forward-start _ _ (fits-lawful _ s.args.w.now _ s.pre.0 s.pre.1) s.pre.2 s.pre.3
+    forward-start _ _ (fits-valid _ s.args.doubles.now _ s.pre.0 s.pre.1) s.pre.2 s.pre.3
 
 loop-again : tie.Need-loop-again Inv-loop μ-loop
 loop-again c =
-    forward-more _ _ c.before.before.before.before.before.loop.inv c.before.before.before.before.loop-test.taken c.before.before.less-forward.ensures
+    forward-more _ _ c.before.before.before.before.before.loop.inv c.before.before.before.before.loop-test.taken c.before.before.subtract-forward.ensures
 
 returns : tie.Need-returns Inv-loop μ-loop
 returns c = let p = c.before.before.before.before.before.before.before.before.before.pre in

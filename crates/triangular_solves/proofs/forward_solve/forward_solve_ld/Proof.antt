@@ -2,7 +2,7 @@
 use borrow.Author.Needs.{needs}
 use Prim.Native.Nat.{_-_}
 use native.Mathlib.Omega.{arith}
-use Rattle.block_places.proofs.block_kinds.Workspace.{fits-lawful}
+use Rattle.block_places.proofs.block_kinds.Workspace.{fits-valid}
 use Rattle.solution_vectors.proofs.solve_laws.Solves.{ForwardTurns, forward-begin, forward-turn, forward-result}
 use Rattle.triangular_solves.proofs.forward_solve.forward_solve_ld.Statement.{statement}
 use Rattle.triangular_solves.proofs.forward_solve.forward_solve_ld.Tie as tie
@@ -15,7 +15,7 @@ abbrev μ-loop : tie.MeasureT-loop
 
 loop-holds : tie.Need-loop-holds Inv-loop μ-loop
 loop-holds c = let s = c.before.before.before in
-    forward-begin _ _ (fits-lawful _ s.args.w.now _ s.pre.0 s.pre.1) s.pre.2
+    forward-begin _ _ (fits-valid _ s.args.doubles.now _ s.pre.0 s.pre.1) s.pre.2
 
 loop-again : tie.Need-loop-again Inv-loop μ-loop
 loop-again c = let s = c.before.before.before.before.before.before.before.before.before.before in

@@ -24,24 +24,24 @@ loop-holds c = let a = c.args in (filling-none _ a.to a.n a.v.now (omega arith),
 
 add-v : tie.Need-add-v Inv-loop μ-loop
 add-v c = let a = c.before.before.args in let l = c.before.loop in
-    omega (arith, column-room a.src a.rows a.n l.c l.column a.w.now (omega arith) l.inv.1 (omega arith))
+    omega (arith, column-room a.src a.rows a.n l.c l.column a.doubles.now (omega arith) l.inv.1 (omega arith))
 
 mul-v : tie.Need-mul-v Inv-loop μ-loop
 mul-v c = let a = c.before.before.args in let l = c.before.loop in
-    omega (arith, column-room a.src a.rows a.n l.c l.column a.w.now (omega arith) l.inv.1 (omega arith))
+    omega (arith, column-room a.src a.rows a.n l.c l.column a.doubles.now (omega arith) l.inv.1 (omega arith))
 
 shared-slice-read-v : tie.Need-shared-slice-read-v Inv-loop μ-loop
 shared-slice-read-v c = let a = c.before.before.before.args in let l = c.before.before.loop in
-    omega (arith, column-room a.src a.rows a.n l.c l.column a.w.now (omega arith) l.inv.1 (omega arith))
+    omega (arith, column-room a.src a.rows a.n l.c l.column a.doubles.now (omega arith) l.inv.1 (omega arith))
 
 add-column : tie.Need-add-column Inv-loop μ-loop
 add-column c = let a = c.before.before.before.args in let l = c.before.before.loop in
-    omega (arith, column-room a.src a.rows a.n l.c l.column a.w.now (omega arith) l.inv.1 (omega arith))
+    omega (arith, column-room a.src a.rows a.n l.c l.column a.doubles.now (omega arith) l.inv.1 (omega arith))
 
 loop-again : tie.Need-loop-again Inv-loop μ-loop
 loop-again c = let a = c.before.before.before.args in let l = c.before.before.loop in (
   filling-more l.inv.0 (omega arith)
-      (ap (fixedCell ieee a.theta) (column-cell a.src a.rows a.n l.c l.column a.w.now (omega arith) l.inv.1 (omega arith) a.r (omega arith))),
+      (ap (fixedCell ieee a.theta) (column-cell a.src a.rows a.n l.c l.column a.doubles.now (omega arith) l.inv.1 (omega arith) a.r (omega arith))),
   omega arith,
 )
 

@@ -1,0 +1,111 @@
+// What a call answers, as the program prints it.
+use float_bits::words;
+use libc::STDOUT_FILENO;
+use profile::Deviance;
+use profile::Solve;
+use refusal::Answer;
+use refusal::Refusal;
+
+// How the answer stands: 0 accepted, 1 refused, 2 a value, 3 a refused pivot, which stands as number 26, 4 no scale, 5 a solution.
+pub struct Reported {
+    pub how: u64,
+    pub refusal: Refusal,
+    pub value: f64,
+}
+
+// No refusal.
+fn none() -> Refusal {
+    Refusal {
+        number: 0,
+        first: 0,
+        second: 0,
+    }
+}
+
+// What a call answers that gives no value.
+pub fn of_answer(a: Answer) -> Reported {
+    match a {
+        Answer::Accepted => Reported {
+            how: 0,
+            refusal: none(),
+            value: 0.0,
+        },
+        Answer::Refused(r) => Reported {
+            how: 1,
+            refusal: r,
+            value: 0.0,
+        },
+    }
+}
+
+// What a call answers that gives a deviance.
+pub fn of_deviance(d: Deviance) -> Reported {
+    match d {
+        Deviance::Value(x) => Reported {
+            how: 2,
+            refusal: none(),
+            value: x,
+        },
+        Deviance::Pivot(block, row) => Reported {
+            how: 3,
+            refusal: Refusal {
+                number: 26,
+                first: block,
+                second: row,
+            },
+            value: 0.0,
+        },
+        Deviance::NoScale => Reported {
+            how: 4,
+            refusal: none(),
+            value: 0.0,
+        },
+        Deviance::Refused(r) => Reported {
+            how: 1,
+            refusal: r,
+            value: 0.0,
+        },
+    }
+}
+
+// A refusal's first place, and 0 where it is one of the lines that the body has from word 10 of the head to before word 11: number 9 may
+// name any of them.
+fn placed(m: &[u64; 65536], first: u64) -> u64 {
+    let end = test_words::size(m[11], 52224);
+    let mut i = test_words::size(m[10], 52224);
+    while i < end {
+        if m[i] == first {
+            return 0;
+        }
+        i += 1;
+    }
+    first
+}
+
+// A line: the call's number in the list's order of kinds, how the answer stands, number and places, the value's word.
+pub fn print(m: &[u64; 65536], t: Reported) {
+    let r = t.refusal;
+    let first = placed(m, r.first);
+    io::print_decimal(STDOUT_FILENO, m[0]);
+    test_words::print_number(t.how);
+    test_words::print_number(r.number);
+    test_words::print_number(first);
+    test_words::print_number(r.second);
+    test_words::print_word(words::word_of(t.value));
+}
+
+// What a solve answers: a line with the deviance, and one with sigma2 behind it.
+pub fn print_solve(m: &[u64; 65536], s: Solve) {
+    match s {
+        Solve::Solved(x) => {
+            let t = Reported {
+                how: 5,
+                refusal: none(),
+                value: x.deviance,
+            };
+            print(m, t);
+            test_words::print_word(words::word_of(x.sigma2));
+        }
+        Solve::Refused(r) => print(m, of_answer(Answer::Refused(r))),
+    }
+}

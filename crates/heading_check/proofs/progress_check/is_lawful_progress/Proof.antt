@@ -1,9 +1,0 @@
--- `heading_check::progress_check::is_lawful_progress`: test after test.
-use Rattle.heading_check.proofs.stage_check.Stages.{not-bounded, all-tests}
-use borrow.Author.Needs.{needs}
-use Rattle.heading_check.proofs.progress_check.is_lawful_progress.Statement.{statement}
-use Rattle.heading_check.proofs.progress_check.is_lawful_progress.Tie as tie
-
-pub is-lawful-progress-spec : {M : Type 1} → statement M
-is-lawful-progress-spec = tie.close (tie.spec (λ c κs. search needs) (λ c κs. search needs) (λ c κs. search needs)
-    (λ c κs. search needs) (λ c κs. search needs) (λ c. search all-tests) (λ c. search not-bounded))

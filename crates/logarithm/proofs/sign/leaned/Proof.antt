@@ -1,9 +1,0 @@
--- `logarithm::sign::leaned` meets its contract.
-use borrow.Author.Needs.{needs}
-use Rattle.logarithm.proofs.sign.Words.{taken, left}
-use Rattle.logarithm.proofs.sign.leaned.Statement.{statement}
-use Rattle.logarithm.proofs.sign.leaned.Tie as tie
-
-pub leaned-spec : {M : Type 1} → statement M
-leaned-spec = tie.close (tie.spec (λ c. search needs) (λ c. search needs) (λ c. taken _ _ _ _ c.if1.taken)
-    (λ c. left _ _ _ _ c.if1.left))
