@@ -6,6 +6,7 @@ use crate::kernel_sizes;
 use cross_block::divide_columns;
 use cross_block::scaling;
 use schur::sparse_schur;
+use storage::Block;
 
 pub fn divide_columns(x: Case, doubles: &mut [f64]) -> u64
     requires { ⌜ Small x ⌝ }
@@ -42,7 +43,22 @@ pub fn subtract_sparse(x: Case, doubles: &mut [f64], heading: &[u32]) -> u64
     {
         return OUT_OF_FORM;
     }
-    sparse_schur::subtract_sparse(doubles, x.p0, x.p1, x.p2, x.p3, x.p4, x.p5, heading, x.p6);
+    let t = Block {
+        at: x.p0,
+        rows: x.p1,
+        cols: x.p2,
+    };
+    let a = Block {
+        at: x.p3,
+        rows: x.p1,
+        cols: x.p5,
+    };
+    let v = Block {
+        at: x.p4,
+        rows: x.p2,
+        cols: x.p5,
+    };
+    sparse_schur::subtract_sparse(doubles, t, a, v, heading, x.p6);
     0
 }
 

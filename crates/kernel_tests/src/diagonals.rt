@@ -5,6 +5,7 @@ use super::case::Case;
 use crate::kernel_sizes;
 use schur::rank_diagonal;
 use schur::rank_diagonal_sparse;
+use storage::Block;
 
 pub fn rank_sub_diagonal(x: Case, doubles: &mut [f64]) -> u64
     requires { ⌜ Small x ⌝ }
@@ -16,7 +17,17 @@ pub fn rank_sub_diagonal(x: Case, doubles: &mut [f64]) -> u64
     {
         return OUT_OF_FORM;
     }
-    rank_diagonal::rank_sub_diagonal(doubles, x.p0, x.p1, x.p2, x.p3, x.p4);
+    let t = Block {
+        at: x.p0,
+        rows: x.p1,
+        cols: x.p1,
+    };
+    let a = Block {
+        at: x.p2,
+        rows: x.p1,
+        cols: x.p3,
+    };
+    rank_diagonal::rank_sub_diagonal(doubles, t, a, x.p4);
     0
 }
 
@@ -29,15 +40,16 @@ pub fn rank_sub_diagonal_sparse(x: Case, doubles: &mut [f64], heading: &[u32]) -
     {
         return OUT_OF_FORM;
     }
-    rank_diagonal_sparse::rank_sub_diagonal_sparse(
-        doubles,
-        x.p0,
-        x.p1,
-        x.p2,
-        x.p3,
-        x.p4,
-        heading,
-        x.p5,
-    );
+    let t = Block {
+        at: x.p0,
+        rows: x.p1,
+        cols: x.p1,
+    };
+    let a = Block {
+        at: x.p2,
+        rows: x.p1,
+        cols: x.p3,
+    };
+    rank_diagonal_sparse::rank_sub_diagonal_sparse(doubles, t, a, x.p4, heading, x.p5);
     0
 }

@@ -6,6 +6,7 @@ use crate::kernel_sizes;
 use schur::dense_triangle;
 use schur::last_triangle;
 use schur::schur_dense;
+use storage::Block;
 
 pub fn subtract_dense(x: Case, doubles: &mut [f64]) -> u64
     requires { ⌜ Small x ⌝ }
@@ -19,7 +20,22 @@ pub fn subtract_dense(x: Case, doubles: &mut [f64]) -> u64
     {
         return OUT_OF_FORM;
     }
-    schur_dense::subtract_dense(doubles, x.p0, x.p1, x.p2, x.p3, x.p4, x.p5);
+    let t = Block {
+        at: x.p0,
+        rows: x.p1,
+        cols: x.p2,
+    };
+    let a = Block {
+        at: x.p3,
+        rows: x.p1,
+        cols: x.p5,
+    };
+    let b = Block {
+        at: x.p4,
+        rows: x.p2,
+        cols: x.p5,
+    };
+    schur_dense::subtract_dense(doubles, t, a, b);
     0
 }
 
@@ -32,10 +48,20 @@ pub fn subtract_square(x: Case, doubles: &mut [f64]) -> u64
     if (x.p1 > kernel_sizes::ROWS) | kernel_sizes::clash(doubles.len(), x.p0, size, x.p2, source) {
         return OUT_OF_FORM;
     }
+    let t = Block {
+        at: x.p0,
+        rows: x.p1,
+        cols: x.p1,
+    };
+    let a = Block {
+        at: x.p2,
+        rows: x.p1,
+        cols: x.p3,
+    };
     if x.kernel == 14 {
-        dense_triangle::rank_sub(doubles, x.p0, x.p1, x.p2, x.p3);
+        dense_triangle::rank_sub(doubles, t, a);
         return 0;
     }
-    last_triangle::subtract_last(doubles, x.p0, x.p1, x.p2, x.p3);
+    last_triangle::subtract_last(doubles, t, a);
     0
 }

@@ -6,8 +6,9 @@ ghost use lib.ListN.{length};
 ghost use Rattle.storage.specs.Runs.{start, triangle};
 ghost use Rattle.storage.specs.Shape.{packed, diagonal, columns, entries, sizeOf};
 ghost use Rattle.block_runs.specs.blocks.Blocks.{EachShape, rowFrom, RowsBelow};
-ghost use Rattle.schur.specs.Schur.{subtractedDense, subtractedRank, subtractedLast};
-ghost use Rattle.cross_block.specs.Blocks.{scaledTwice, dividedColumns, solvedRows, subtractedSparse};
+ghost use Rattle.storage.specs.Placed.{blockOf, asColumns, asTriangle, asEntries, Product, Squares};
+ghost use Rattle.schur.specs.Schur.{subtractedDense, subtractedRank, subtractedLast, subtractedEntries};
+ghost use Rattle.cross_block.specs.Blocks.{scaledTwice, dividedColumns, solvedRows};
 ghost use Rattle.schur.specs.rank_diagonal.Diagonal.{subtractedDiagonal};
 ghost use Rattle.cross_matvec.specs.Products.{subtractedProduct, subtractedProductT, subtractedSparseProductT, subtractedSparseProduct};
 ghost use Rattle.re_lower.specs.Lower.{logsOfTriangle, logsOfDiagonal, rowSolved, backSolved};
@@ -28,6 +29,7 @@ use schur::rank_diagonal;
 use schur::rank_diagonal_sparse;
 use schur::schur_dense;
 use schur::sparse_schur;
+use storage::Block;
 
 // schur::schur_dense::subtract_dense.
 #[no_mangle]
@@ -40,12 +42,27 @@ pub extern "C" fn husk_subtract_dense(
     b: usize,
     inner: usize,
 )
-    requires { ⌜ (rows ≤ 316) × (off + sizeOf (columns rows cols) ≤ length (now doubles)) × (a + sizeOf (columns rows inner) ≤ length (now doubles)) × (b + sizeOf (columns cols inner) ≤ length (now doubles)) ⌝ }
-    requires { ⌜ (off + sizeOf (columns rows cols) ≤ a) ⊎ (a + sizeOf (columns rows inner) ≤ off) ⌝ }
-    requires { ⌜ (off + sizeOf (columns rows cols) ≤ b) ⊎ (b + sizeOf (columns cols inner) ≤ off) ⌝ }
-    ensures { λ _. ⌜ now (doubles .exit) ≡ subtractedDense off rows cols a b inner (now (doubles .entry)) ⌝ }
+    requires { ⌜ (rows ≤ 316) × Product (length (now doubles)) asColumns asColumns (blockOf off rows cols) (blockOf a rows inner) (blockOf b cols inner) ⌝ }
+    ensures { λ _. ⌜ now (doubles .exit) ≡ subtractedDense (blockOf off rows cols) (blockOf a rows inner) (blockOf b cols inner) (now (doubles .entry)) ⌝ }
 {
-    schur_dense::subtract_dense(doubles, off, rows, cols, a, b, inner);
+    schur_dense::subtract_dense(
+        doubles,
+        Block {
+            at: off,
+            rows,
+            cols,
+        },
+        Block {
+            at: a,
+            rows,
+            cols: inner,
+        },
+        Block {
+            at: b,
+            rows: cols,
+            cols: inner,
+        },
+    );
 }
 
 // schur::dense_triangle::rank_sub.
@@ -57,11 +74,22 @@ pub extern "C" fn husk_rank_sub(
     a: usize,
     inner: usize,
 )
-    requires { ⌜ (rows ≤ 316) × (off + sizeOf (packed rows) ≤ length (now doubles)) × (a + sizeOf (columns rows inner) ≤ length (now doubles)) ⌝ }
-    requires { ⌜ (off + sizeOf (packed rows) ≤ a) ⊎ (a + sizeOf (columns rows inner) ≤ off) ⌝ }
-    ensures { λ _. ⌜ now (doubles .exit) ≡ subtractedRank off rows a inner (now (doubles .entry)) ⌝ }
+    requires { ⌜ (rows ≤ 316) × Product (length (now doubles)) asTriangle asColumns (blockOf off rows rows) (blockOf a rows inner) (blockOf a rows inner) ⌝ }
+    ensures { λ _. ⌜ now (doubles .exit) ≡ subtractedRank (blockOf off rows rows) (blockOf a rows inner) (now (doubles .entry)) ⌝ }
 {
-    dense_triangle::rank_sub(doubles, off, rows, a, inner);
+    dense_triangle::rank_sub(
+        doubles,
+        Block {
+            at: off,
+            rows,
+            cols: rows,
+        },
+        Block {
+            at: a,
+            rows,
+            cols: inner,
+        },
+    );
 }
 
 // schur::last_triangle::subtract_last.
@@ -73,11 +101,22 @@ pub extern "C" fn husk_subtract_last(
     a: usize,
     inner: usize,
 )
-    requires { ⌜ (rows ≤ 316) × (off + sizeOf (packed rows) ≤ length (now doubles)) × (a + sizeOf (columns rows inner) ≤ length (now doubles)) ⌝ }
-    requires { ⌜ (off + sizeOf (packed rows) ≤ a) ⊎ (a + sizeOf (columns rows inner) ≤ off) ⌝ }
-    ensures { λ _. ⌜ now (doubles .exit) ≡ subtractedLast off rows a inner (now (doubles .entry)) ⌝ }
+    requires { ⌜ (rows ≤ 316) × Product (length (now doubles)) asTriangle asColumns (blockOf off rows rows) (blockOf a rows inner) (blockOf a rows inner) ⌝ }
+    ensures { λ _. ⌜ now (doubles .exit) ≡ subtractedLast (blockOf off rows rows) (blockOf a rows inner) (now (doubles .entry)) ⌝ }
 {
-    last_triangle::subtract_last(doubles, off, rows, a, inner);
+    last_triangle::subtract_last(
+        doubles,
+        Block {
+            at: off,
+            rows,
+            cols: rows,
+        },
+        Block {
+            at: a,
+            rows,
+            cols: inner,
+        },
+    );
 }
 
 // schur::sparse_schur::subtract_sparse.
@@ -93,13 +132,29 @@ pub extern "C" fn husk_subtract_sparse(
     heading: &[u32],
     first: usize,
 )
-    requires { ⌜ (rows ≤ 316) × (off + sizeOf (columns rows cols) ≤ length (now doubles)) × (a + sizeOf (columns rows inner) ≤ length (now doubles)) × (v + inner ≤ length (now doubles)) × (first + inner ≤ length (now heading)) ⌝ }
-    requires { ⌜ (off + sizeOf (columns rows cols) ≤ a) ⊎ (a + sizeOf (columns rows inner) ≤ off) ⌝ }
-    requires { ⌜ (off + sizeOf (columns rows cols) ≤ v) ⊎ (v + inner ≤ off) ⌝ }
-    requires { ⌜ RowsBelow (now heading) first inner cols ⌝ }
-    ensures { λ _. ⌜ now (doubles .exit) ≡ subtractedSparse off rows cols a v inner (rowFrom (now (heading .entry)) first) (now (doubles .entry)) ⌝ }
+    requires { ⌜ (rows ≤ 316) × Product (length (now doubles)) asColumns (asEntries (rowFrom (now heading) first)) (blockOf off rows cols) (blockOf a rows inner) (blockOf v cols inner) × (first + inner ≤ length (now heading)) × RowsBelow (now heading) first inner cols ⌝ }
+    ensures { λ _. ⌜ now (doubles .exit) ≡ subtractedEntries (rowFrom (now (heading .entry)) first) (blockOf off rows cols) (blockOf a rows inner) (blockOf v cols inner) (now (doubles .entry)) ⌝ }
 {
-    sparse_schur::subtract_sparse(doubles, off, rows, cols, a, v, inner, heading, first);
+    sparse_schur::subtract_sparse(
+        doubles,
+        Block {
+            at: off,
+            rows,
+            cols,
+        },
+        Block {
+            at: a,
+            rows,
+            cols: inner,
+        },
+        Block {
+            at: v,
+            rows: cols,
+            cols: inner,
+        },
+        heading,
+        first,
+    );
 }
 
 // cross_block::divide_columns::divide_columns.
@@ -161,12 +216,23 @@ pub extern "C" fn husk_rank_sub_diagonal(
     inner: usize,
     src: usize,
 )
-    requires { ⌜ (n ≤ 316) × (off + sizeOf (diagonal n) ≤ length (now doubles)) × (a + sizeOf (columns n inner) ≤ length (now doubles)) × (src + sizeOf (columns n inner) ≤ length (now doubles)) ⌝ }
-    requires { ⌜ (off + sizeOf (diagonal n) ≤ a) ⊎ (a + sizeOf (columns n inner) ≤ off) ⌝ }
-    requires { ⌜ (off + sizeOf (diagonal n) ≤ src) ⊎ (src + sizeOf (columns n inner) ≤ off) ⌝ }
-    ensures { λ _. ⌜ now (doubles .exit) ≡ subtractedDiagonal off n (columns n inner) a inner src (now (doubles .entry)) ⌝ }
+    requires { ⌜ (n ≤ 316) × Squares (length (now doubles)) asColumns (blockOf off n n) (blockOf a n inner) src ⌝ }
+    ensures { λ _. ⌜ now (doubles .exit) ≡ subtractedDiagonal asColumns (blockOf off n n) (blockOf a n inner) src (now (doubles .entry)) ⌝ }
 {
-    rank_diagonal::rank_sub_diagonal(doubles, off, n, a, inner, src);
+    rank_diagonal::rank_sub_diagonal(
+        doubles,
+        Block {
+            at: off,
+            rows: n,
+            cols: n,
+        },
+        Block {
+            at: a,
+            rows: n,
+            cols: inner,
+        },
+        src,
+    );
 }
 
 // schur::rank_diagonal_sparse::rank_sub_diagonal_sparse.
@@ -181,12 +247,25 @@ pub extern "C" fn husk_rank_sub_diagonal_sparse(
     heading: &[u32],
     first: usize,
 )
-    requires { ⌜ (off + sizeOf (diagonal n) ≤ length (now doubles)) × (a + inner ≤ length (now doubles)) × (src + inner ≤ length (now doubles)) × (first + inner ≤ length (now heading)) ⌝ }
-    requires { ⌜ (off + sizeOf (diagonal n) ≤ a) ⊎ (a + inner ≤ off) ⌝ }
-    requires { ⌜ (off + sizeOf (diagonal n) ≤ src) ⊎ (src + inner ≤ off) ⌝ }
-    ensures { λ _. ⌜ now (doubles .exit) ≡ subtractedDiagonal off n (entries inner (rowFrom (now (heading .entry)) first)) a inner src (now (doubles .entry)) ⌝ }
+    requires { ⌜ Squares (length (now doubles)) (asEntries (rowFrom (now heading) first)) (blockOf off n n) (blockOf a n inner) src × (first + inner ≤ length (now heading)) ⌝ }
+    ensures { λ _. ⌜ now (doubles .exit) ≡ subtractedDiagonal (asEntries (rowFrom (now (heading .entry)) first)) (blockOf off n n) (blockOf a n inner) src (now (doubles .entry)) ⌝ }
 {
-    rank_diagonal_sparse::rank_sub_diagonal_sparse(doubles, off, n, a, inner, src, heading, first);
+    rank_diagonal_sparse::rank_sub_diagonal_sparse(
+        doubles,
+        Block {
+            at: off,
+            rows: n,
+            cols: n,
+        },
+        Block {
+            at: a,
+            rows: n,
+            cols: inner,
+        },
+        src,
+        heading,
+        first,
+    );
 }
 
 // cross_matvec::matvec_sub.

@@ -1,73 +1,121 @@
--- A run less its sums, or less its products one by one, and one run more of a block of any shape.
+-- A loop that writes the runs of a block, one behind the other, and the runs of the steps S.
 use Prim.Native.Nat.{ℕ, _+_, _≤_, _<_}
-use mathlib.Core.Path.{_≡_, refl, ap, ap₂, _∙_}
+use mathlib.Core.Path.{_≡_, refl, sym, ap, ap₂, _∙_}
 use mathlib.Core.List.{List}
-use mathlib.Core.Logic.{_⊎_}
+use mathlib.Core.Logic.{inl, inr, ⊎-elim}
 use native.Mathlib.Omega.{arith}
+use native.Mathlib.Nat.{add-zero}
 use lib.ListN.{length}
 use lib.Ieee.{Float}
-use Rattle.storage.specs.Runs.{dense}
-use Rattle.storage.specs.Shape.{Shape, columns, sizeOf, runLength, runs, rowAt, columnAt}
+use Rattle.storage.specs.Runs.{start, tab, dense}
+use Rattle.storage.specs.Shape.{Shape, columns, sizeOf, runLength, runs, rowAt, columnAt, cell, fill}
 use Rattle.storage.specs.Part.{store}
-use Rattle.storage.proofs.Starts.{start-dense, start-le}
-use Rattle.storage.proofs.Cells.{tab-ext}
+use Rattle.storage.proofs.Starts.{start-below, start-dense, start-le}
+use Rattle.storage.proofs.Cells.{tab-ext, length-tab}
+use Rattle.storage.proofs.Parts.{part-else}
 use Rattle.rules.specs.Arithmetic.{ieee}
 use Rattle.rules.specs.Sums.{dot, chain}
+use Rattle.storage.specs.declared.Block.{Block}
+use Rattle.storage.specs.Placed.{Placed, asColumns, Lies, Apart, Within, read, put}
 use Rattle.block_runs.specs.blocks.Blocks.{block}
-use Rattle.block_runs.proofs.blocks.Runs.{Writing, writing-same, writing-more, writing-cell}
+use Rattle.block_runs.proofs.blocks.Runs.{Writing, writing-none, writing-same, writing-more, writing-cell, writing-all}
 use Rattle.block_runs.specs.axpy.Axpy.{at, run, along, products}
 use Rattle.block_runs.proofs.axpy.Sums.{sum-along, subtract-along, along-swap, summed}
 use Rattle.schur.specs.Schur.{subtractSums, subtractProducts}
 
--- a cell less its products: of two rows of one block the later comes first in the rule
-pub sums-dot : (n : ℕ) (z : Float) (x y : ℕ → Float) → ieee .minus z (along (ieee .plus) (ieee .zero) x y n) ≡ ieee .minus z (dot ieee x y n)
-sums-dot n z x y = ap (ieee.minus z) (sum-along ieee.zero x y n)
+-- ---- of the runs of block p, j are written by the rule f of row and column, all else is as in w₀, and the next run starts at `to`
+abbrev byRun : Shape → (ℕ → ℕ → Float) → ℕ → ℕ → Float
+byRun s f j i = f (rowAt s j i) (columnAt s j i)
 
-pub sums-swapped : (n : ℕ) (z : Float) (x y : ℕ → Float) → ieee .minus z (along (ieee .plus) (ieee .zero) x y n) ≡ ieee .minus z (dot ieee y x n)
-sums-swapped n z x y = ap (ieee.minus z) (along-swap ieee.plus ieee.zero x y n) ∙ sums-dot n z y x
+pub record Going (p : Placed) (f : ℕ → ℕ → Float) (w₀ : List Float) (j to : ℕ) (w : List Float) : Type 0 where
+  pub within : j ≤ runs (p .shape)
+  pub long : length w ≡ length w₀
+  pub place : to ≡ p .at + start (runLength (p .shape)) j
+  pub so : Writing (p .at) (p .at + sizeOf (p .shape)) (runLength (p .shape)) (runs (p .shape)) (byRun (p .shape) f) w₀ j (start (runLength (p .shape)) j) w
 
-pub products-swapped : (n : ℕ) (z : Float) (x y : ℕ → Float) → along (ieee .minus) z x y n ≡ chain ieee z y x n
-products-swapped n z x y = along-swap ieee.minus z x y n ∙ subtract-along z y x n
+of-writing : (p : Placed) (f : ℕ → ℕ → Float) (w₀ : List Float) (j x to : ℕ) (w : List Float)
+    → Writing (p .at) (p .at + sizeOf (p .shape)) (runLength (p .shape)) (runs (p .shape)) (byRun (p .shape) f) w₀ j x w → to ≡ p .at + x → Going p f w₀ j to w
+of-writing p f w₀ j x to w e h =
+    record { within = e.within; long = e.long; place = omega (arith, e.place); so = rw e.place at e }
 
-module _ (w w′ acc acc₁ acc₂ : List Float) (to n a rows b step r inner : ℕ) (room : n ≤ length acc) where
-  pub sums-subtracted : acc₁ ≡ run 0 n (λ i. ieee .zero) acc → acc₂ ≡ products (ieee .plus) acc₁ n w a rows w b step r inner
-      → w′ ≡ run to n (λ i. ieee .minus (at w (to + i)) (at acc₂ i)) w → w′ ≡ subtractSums to n a rows b step r inner w
-  sums-subtracted first then so =
-      so
-      ∙ ap (λ (l : List Float). store to l w)
-      (tab-ext n _ _
-      (λ i l. ap (ieee.minus (at w (to + i))) (summed ieee.plus n w a rows w b step r inner acc acc₁ acc₂ (λ x. ieee .zero) room first then i l)))
+pub going-none : (p : Placed) (f : ℕ → ℕ → Float) (w₀ : List Float) → Lies (length w₀) p → Going p f w₀ 0 (p .at) w₀
+going-none p f w₀ h = of-writing p f w₀ 0 0 p.at w₀ (writing-none p.at _ (runLength p.shape) (runs p.shape) _ w₀ refl h) (omega arith)
 
-  pub products-put : acc₁ ≡ run 0 n (λ i. at w (to + i)) acc → acc₂ ≡ products (ieee .minus) acc₁ n w a rows w b step r inner
-      → w′ ≡ run to n (at acc₂) w → w′ ≡ subtractProducts to n a rows b step r inner w
-  products-put first then so =
-      so
-      ∙ ap (λ (l : List Float). store to l w)
-      (tab-ext n _ _ (summed ieee.minus n w a rows w b step r inner acc acc₁ acc₂ (λ i. at w (to + i)) room first then))
+module _ {p : Placed} {f : ℕ → ℕ → Float} {w₀ : List Float} {j to : ℕ} {w : List Float} (e : Going p f w₀ j to w) where
+  pub going-all : runs (p .shape) ≤ j → w ≡ put p f w₀
+  unfolding fill
+  going-all h = writing-all e.so h
 
--- cell i of run j of the block at off: G of itself, row i of the block at a and row j of the block at b
-abbrev byRows : (Float → (ℕ → Float) → (ℕ → Float) → Float) → Shape → (off a rows b step inner : ℕ) → List Float → ℕ → ℕ → Float
-byRows G s off a rows b step inner w j i =
-    G (block off s w (rowAt s j i) (columnAt s j i)) (block a (columns rows inner) w i) (block b (columns step inner) w j)
+  -- the next run lies in the block
+  pub going-room : j < runs (p .shape) → Within p to (runLength (p .shape) j)
+  going-room more = (omega (arith, e.place), omega (arith, e.place, start-below (runLength p.shape) j (runs p.shape) more))
 
--- one run more, each cell by F, which is G as the code computes it
-pub turn : {F G : Float → (ℕ → Float) → (ℕ → Float) → Float} {off end : ℕ} {w₀ : List Float} {j to : ℕ} {w w′ : List Float} {to′ : ℕ}
-    → ((z : Float) (x y : ℕ → Float) → F z x y ≡ G z x y) → (s : Shape) (a rows b step inner k : ℕ)
-    → Writing off end (runLength s) (runs s) (byRows G s off a rows b step inner w₀) w₀ j to w
-    → j < runs s → (off + sizeOf s ≤ a) ⊎ (a + sizeOf (columns rows inner) ≤ off) → (off + sizeOf s ≤ b) ⊎ (b + sizeOf (columns step inner) ≤ off)
-    → k ≡ runLength s j → to′ ≡ to + k
-    → w′ ≡ run (off + to) k (λ i. F (at w (off + to + i)) (block a (columns rows inner) w i) (block b (columns step inner) w j)) w
-    → Writing off end (runLength s) (runs s) (byRows G s off a rows b step inner w₀) w₀ (j + 1) to′ w′
-turn {F} {G} {off} {end} {w₀} {j} {to} {w} same s a rows b step inner k e more apart apart′ d next then =
-    writing-more e more (off + to) k _ refl d next
+-- one run more: its cells by F of the cell itself, a row of block a and a row of block b, which lie apart
+pub turn : {p : Placed} {f : ℕ → ℕ → Float} {w₀ : List Float} {j to : ℕ} {w w′ : List Float} {to′ : ℕ} (F : Float → (ℕ → Float) → (ℕ → Float) → Float) (a b : Placed) (k : ℕ)
+    → Going p f w₀ j to w → j < runs (p .shape) → Apart p a → Apart p b
+    → ((i : ℕ) → F (read p w₀ (rowAt (p .shape) j i) (columnAt (p .shape) j i)) (read a w₀ i) (read b w₀ j) ≡ f (rowAt (p .shape) j i) (columnAt (p .shape) j i))
+    → k ≡ runLength (p .shape) j → to′ ≡ to + k → w′ ≡ run to k (λ i. F (at w (to + i)) (read a w i) (read b w j)) w → Going p f w₀ (j + 1) to′ w′
+turn {p} {f} {w₀} {j} {to} {w} {w′} {to′} F a b k e more apart apart′ same d next then =
+    let s = p.shape in
+    let x : ℕ = start (runLength s) j in
+    of-writing p f w₀ (j + 1) (x + k) to′ w′
+    (writing-more e.so more to k _ e.place d refl
     (λ i l.
-    same (at w (off + to + i)) (block a (columns rows inner) w i) (block b (columns step inner) w j)
-    ∙ ap₂ (λ (x y : ℕ → ℕ → Float). G (at w (off + to + i)) (x i) (y j)) (writing-same e more a (columns rows inner) apart) (writing-same e more b (columns step inner) apart′)
-    ∙ ap (λ (z : Float). G z (block a (columns rows inner) w₀ i) (block b (columns step inner) w₀ j)) (writing-cell s e more i l))
-    then
+    ap₂ (λ (g h : ℕ → ℕ → Float). F (at w (to + i)) (g i) (h j)) (writing-same e.so more a.at a.shape apart) (writing-same e.so more b.at b.shape apart′)
+    ∙ ap (λ (z : Float). F z (read a w₀ i) (read b w₀ j)) (ap (λ (m : ℕ). at w (m + i)) e.place ∙ writing-cell s e.so more i l)
+    ∙ same i)
+    then)
+    (omega (arith, e.place))
+
+-- a block of as many columns lies there too
+pub lies-as : (n m : ℕ) (b : Block) → b .cols ≡ m → Lies n (asColumns b) → b .at + sizeOf (columns (b .rows) m) ≤ n
+lies-as n m b e h = rw e at h
 
 -- there is room for two runs more of one length
-pub room-for-two : {off end rows n : ℕ} {b : ℕ → ℕ → Float} {w₀ : List Float} {j to : ℕ} {w : List Float} → Writing off end (dense rows) n b w₀ j to w → j + 2 ≤ n
-    → off + (to + rows + rows) ≤ end
-room-for-two {rows = rows} {n = n} {j = j} e more =
-    omega (arith, e.place, e.ends, start-dense rows j, start-dense rows (j + 2), start-le (dense rows) (j + 2) n more)
+pub room-for-two : {t : Block} {f : ℕ → ℕ → Float} {w₀ : List Float} {j to : ℕ} {w : List Float} → Going (asColumns t) f w₀ j to w → j + 2 ≤ t .cols
+    → Within (asColumns t) to (t .rows + t .rows)
+room-for-two {t = t} {j = j} e more =
+    (omega (arith, e.place), omega (arith, e.place, start-dense t.rows j, start-dense t.rows (j + 2), start-le (dense t.rows) (j + 2) t.cols more))
+
+-- what lies apart from a block is read as it was when a run of the block is written
+pub same-apart : (p q : Placed) (to n : ℕ) (g : ℕ → Float) (w : List Float) → Within p to n → Lies (length w) p → Apart p q → read q (run to n g w) ≡ read q w
+same-apart p q to n g w (low, high) fits apart =
+    ap (cell ieee.zero q.shape)
+    (part-else to (tab n g) w (omega (arith, length-tab n g)) q.at (sizeOf q.shape)
+    (⊎-elim (λ h. inr (omega (arith, length-tab n g))) (λ h. inl (omega arith)) apart))
+
+-- ---- a cell less its products: of two rows of one block the later comes first in the rule
+abbrev pub subtractSum : ℕ → Float → (ℕ → Float) → (ℕ → Float) → Float
+subtractSum n z x y = ieee .minus z (along (ieee .plus) (ieee .zero) x y n)
+
+abbrev pub subtractEach : ℕ → Float → (ℕ → Float) → (ℕ → Float) → Float
+subtractEach n z x y = along (ieee .minus) z x y n
+
+pub sums-dot : (n : ℕ) (z : Float) (x y : ℕ → Float) → subtractSum n z x y ≡ ieee .minus z (dot ieee x y n)
+sums-dot n z x y = ap (ieee.minus z) (sum-along ieee.zero x y n)
+
+pub sums-swapped : (n : ℕ) (z : Float) (x y : ℕ → Float) → subtractSum n z x y ≡ ieee .minus z (dot ieee y x n)
+sums-swapped n z x y = ap (ieee.minus z) (along-swap ieee.plus ieee.zero x y n) ∙ sums-dot n z y x
+
+pub products-swapped : (n : ℕ) (z : Float) (x y : ℕ → Float) → subtractEach n z x y ≡ chain ieee z y x n
+products-swapped n z x y = along-swap ieee.minus z x y n ∙ subtract-along z y x n
+
+-- a run, as the functions of single runs make it
+module _ (w w′ acc acc₁ acc₂ : List Float) (to n : ℕ) (a b : Block) (r : ℕ) (room : n ≤ length acc) (e : b .cols ≡ a .cols) where
+  taken : (f : Float → Float → Float) (z : ℕ → Float) → acc₁ ≡ run 0 n z acc → acc₂ ≡ products f acc₁ n w (a .at) (a .rows) w (b .at) (b .rows) r (a .cols)
+      → (i : ℕ) → i < n → at acc₂ i ≡ along f (z i) (read (asColumns a) w i) (read (asColumns b) w r) (a .cols)
+  taken f z first then i l =
+      summed f n w a.at a.rows w b.at b.rows r a.cols acc acc₁ acc₂ z room first then i l
+      ∙ ap (λ (x : ℕ). along f (z i) (read (asColumns a) w i) (block b.at (columns b.rows x) w r) a.cols) (sym e)
+
+  pub sums-subtracted : acc₁ ≡ run 0 n (λ i. ieee .zero) acc → acc₂ ≡ products (ieee .plus) acc₁ n w (a .at) (a .rows) w (b .at) (b .rows) r (a .cols)
+      → w′ ≡ run (to + 0) n (λ i. ieee .minus (at w (to + 0 + i)) (at acc₂ i)) w → w′ ≡ subtractSums to n a b r w
+  sums-subtracted first then so =
+      so
+      ∙ ap (λ (x : ℕ). run x n (λ i. ieee .minus (at w (x + i)) (at acc₂ i)) w) (add-zero to)
+      ∙ ap (λ (l : List Float). store to l w) (tab-ext n _ _ (λ i l. ap (ieee.minus (at w (to + i))) (taken ieee.plus (λ x. ieee .zero) first then i l)))
+
+  pub products-put : acc₁ ≡ run 0 n (λ i. at w (to + i)) acc → acc₂ ≡ products (ieee .minus) acc₁ n w (a .at) (a .rows) w (b .at) (b .rows) r (a .cols)
+      → w′ ≡ run (to + 0) n (at acc₂) w → w′ ≡ subtractProducts to n a b r w
+  products-put first then so =
+      so ∙ ap₂ (λ (x : ℕ) (l : List Float). store x l w) (add-zero to) (tab-ext n _ _ (taken ieee.minus (λ i. at w (to + i)) first then))

@@ -3,58 +3,51 @@
 use Prim.Native.Nat.{ℕ, _+_}
 use mathlib.Core.List.{List}
 use lib.Ieee.{Float}
-use Rattle.storage.specs.Shape.{packed, columns, fill}
-use Rattle.storage.specs.Part.{store}
 use Rattle.rules.specs.Arithmetic.{ieee}
 use Rattle.rules.specs.Steps.{subtractDense, subtractLast}
-use Rattle.block_runs.specs.blocks.Blocks.{block}
+use Rattle.storage.specs.declared.Block.{Block}
+use Rattle.storage.specs.Placed.{asColumns, asTriangle, read, put}
+use Rattle.cross_block.specs.Blocks.{subtractedSparse}
 use Rattle.block_runs.specs.axpy.Axpy.{at, run, along}
 
+-- ---- the target's cells, by the rule
+-- a dense S
+abbrev pub subtractDots : (t a b : Block) → List Float → ℕ → ℕ → Float
+subtractDots t a b w = subtractDense ieee (read (asColumns t) w) (read (asColumns a) w) (read (asColumns b) w) (a .cols)
+
+-- a triangle's S
+abbrev pub subtractSquares : (t a : Block) → List Float → ℕ → ℕ → Float
+subtractSquares t a w = subtractDense ieee (read (asTriangle t) w) (read (asColumns a) w) (read (asColumns a) w) (a .cols)
+
+-- the last triangle's S
+abbrev pub subtractLastCell : (t a : Block) → List Float → ℕ → ℕ → Float
+subtractLastCell t a w = subtractLast ieee (read (asTriangle t) w) (read (asColumns a) w) (a .cols)
+
 -- S of a dense block: less block a times block b transposed
-abbrev pub subtractedDense : (off rows cols a b inner : ℕ) → List Float → List Float
-subtractedDense off rows cols a b inner w =
-    store off
-    (fill (columns rows cols)
-    (subtractDense ieee (block off (columns rows cols) w) (block a (columns rows inner) w) (block b (columns cols inner) w) inner))
-    w
+abbrev pub subtractedDense : (t a b : Block) → List Float → List Float
+subtractedDense t a b w = put (asColumns t) (subtractDots t a b w) w
 
 -- S of a triangle: less block a times itself transposed
-abbrev pub subtractedRank : (off rows a inner : ℕ) → List Float → List Float
-subtractedRank off rows a inner w =
-    store off
-    (fill (packed rows)
-    (subtractDense ieee (block off (packed rows) w) (block a (columns rows inner) w) (block a (columns rows inner) w) inner))
-    w
+abbrev pub subtractedRank : (t a : Block) → List Float → List Float
+subtractedRank t a w = put (asTriangle t) (subtractSquares t a w) w
 
 -- S(k,k,h): the same, product by product
-abbrev pub subtractedLast : (off rows a inner : ℕ) → List Float → List Float
-subtractedLast off rows a inner w =
-    store off (fill (packed rows) (subtractLast ieee (block off (packed rows) w) (block a (columns rows inner) w) inner)) w
+abbrev pub subtractedLast : (t a : Block) → List Float → List Float
+subtractedLast t a w = put (asTriangle t) (subtractLastCell t a w) w
+
+-- S(k,1,0) of fixed rows t with a sparse block v, whose column x has its entry in row `row` of x
+abbrev pub subtractedEntries : (row : ℕ → ℕ) (t a v : Block) → List Float → List Float
+subtractedEntries row t a v = subtractedSparse (t .at) (t .rows) (t .cols) (a .at) (v .at) (a .cols) row
 
 -- ---- one run of n doubles, from `to` on: a column of a dense block, a row of a triangle
 -- less the sums of the products of rows 0 to n - 1 of block a and row r of block b
-abbrev pub subtractSums : (to n a rows b step r inner : ℕ) → List Float → List Float
-subtractSums to n a rows b step r inner w =
+abbrev pub subtractSums : (to n : ℕ) (a b : Block) (r : ℕ) → List Float → List Float
+subtractSums to n a b r w =
     run to n
-    (λ i. ieee .minus (at w (to + i)) (along (ieee .plus) (ieee .zero) (block a (columns rows inner) w i) (block b (columns step inner) w r) inner))
+    (λ i. ieee .minus (at w (to + i)) (along (ieee .plus) (ieee .zero) (read (asColumns a) w i) (read (asColumns b) w r) (a .cols)))
     w
 
 -- less those products, one by one
-abbrev pub subtractProducts : (to n a rows b step r inner : ℕ) → List Float → List Float
-subtractProducts to n a rows b step r inner w =
-    run to n (λ i. along (ieee .minus) (at w (to + i)) (block a (columns rows inner) w i) (block b (columns step inner) w r) inner) w
-
--- ---- cell i of run j of each target, by the rule
--- cell r of column c of a dense S
-abbrev pub subtractDots : (off rows cols a b inner : ℕ) → List Float → ℕ → ℕ → Float
-subtractDots off rows cols a b inner w c r =
-    subtractDense ieee (block off (columns rows cols) w) (block a (columns rows inner) w) (block b (columns cols inner) w) inner r c
-
--- cell c of row r of a triangle's S
-abbrev pub subtractSquares : (off rows a inner : ℕ) → List Float → ℕ → ℕ → Float
-subtractSquares off rows a inner w =
-    subtractDense ieee (block off (packed rows) w) (block a (columns rows inner) w) (block a (columns rows inner) w) inner
-
--- cell c of row r of the last triangle's S
-abbrev pub subtractLastCell : (off rows a inner : ℕ) → List Float → ℕ → ℕ → Float
-subtractLastCell off rows a inner w = subtractLast ieee (block off (packed rows) w) (block a (columns rows inner) w) inner
+abbrev pub subtractProducts : (to n : ℕ) (a b : Block) (r : ℕ) → List Float → List Float
+subtractProducts to n a b r w =
+    run to n (λ i. along (ieee .minus) (at w (to + i)) (read (asColumns a) w i) (read (asColumns b) w r) (a .cols)) w

@@ -6,33 +6,32 @@ ghost use lib.ListN.{length};
 ghost use Rattle.storage.specs.Runs.{dense, cells};
 ghost use Rattle.storage.specs.Shape.{columns, sizeOf};
 ghost use Rattle.storage.specs.Part.{store};
+ghost use Rattle.storage.specs.Placed.{Lies, Product, asColumns};
 ghost use Rattle.block_runs.specs.axpy.Axpy.{run};
 ghost use Rattle.schur.specs.Schur.{subtractedDense};
 ghost use Rattle.schur.specs.few_rows.Few.{rowSums, subtractSum, subtractSums};
 use block_runs::axpy_pair;
 use block_runs::axpy_products;
 use block_runs::run_copies;
+use storage::Block;
 
-// The n doubles of t from `from` on become the sums of the products of rows 0 to n - 1 of block b and row r of block a.
+// The doubles of t from `from` on become the sums of the products of the rows of block b and row r of block a.
 fn sum_row(
     t: &mut [f64],
     acc: &mut [f64],
     from: usize,
-    n: usize,
     doubles: &[f64],
-    a: usize,
-    rows: usize,
-    b: usize,
+    a: Block,
+    b: Block,
     r: usize,
-    inner: usize,
 )
-    requires { ⌜ (from + n ≤ length (now t)) × (n ≤ length (now acc)) × (r < rows) × (a + sizeOf (columns rows inner) ≤ length (now doubles)) × (b + sizeOf (columns n inner) ≤ length (now doubles)) ⌝ }
-    ensures { λ _. ⌜ now (t .exit) ≡ run from n (rowSums a rows b n inner (now (doubles .entry)) r) (now (t .entry)) ⌝ }
+    requires { ⌜ (from + b .rows ≤ length (now t)) × (b .rows ≤ length (now acc)) × (r < a .rows) × (b .cols ≡ a .cols) × Lies (length (now doubles)) (asColumns a) × Lies (length (now doubles)) (asColumns b) ⌝ }
+    ensures { λ _. ⌜ now (t .exit) ≡ run from (b .rows) (rowSums a b (now (doubles .entry)) r) (now (t .entry)) ⌝ }
 {
-    let end = from + n;
+    let n = b.rows;
     run_copies::clear(acc, n);
-    axpy_products::add_products(acc, n, doubles, b, n, doubles, a, rows, r, inner);
-    run_copies::put(t, 0, end, from, n, acc);
+    axpy_products::add_products(acc, n, doubles, b.at, n, doubles, a.at, a.rows, r, a.cols);
+    run_copies::put(t, from, from + n, 0, n, acc);
 }
 
 // The same of row r, and of row r + 1 behind them: block b is loaded once for both.
@@ -41,62 +40,50 @@ fn sum_two_rows(
     acc: &mut [f64],
     acc2: &mut [f64],
     from: usize,
-    n: usize,
     doubles: &[f64],
-    a: usize,
-    rows: usize,
-    b: usize,
+    a: Block,
+    b: Block,
     r: usize,
-    inner: usize,
 )
-    requires { ⌜ (from + n + n ≤ length (now t)) × (n ≤ length (now acc)) × (n ≤ length (now acc2)) × (r + 1 < rows) × (a + sizeOf (columns rows inner) ≤ length (now doubles)) × (b + sizeOf (columns n inner) ≤ length (now doubles)) ⌝ }
-    ensures { λ _. ⌜ now (t .exit) ≡ run (from + n) n (rowSums a rows b n inner (now (doubles .entry)) (r + 1)) (run from n (rowSums a rows b n inner (now (doubles .entry)) r) (now (t .entry))) ⌝ }
+    requires { ⌜ (from + b .rows + b .rows ≤ length (now t)) × (b .rows ≤ length (now acc)) × (b .rows ≤ length (now acc2)) × (r + 1 < a .rows) × (b .cols ≡ a .cols) × Lies (length (now doubles)) (asColumns a) × Lies (length (now doubles)) (asColumns b) ⌝ }
+    ensures { λ _. ⌜ now (t .exit) ≡ run (from + b .rows) (b .rows) (rowSums a b (now (doubles .entry)) (r + 1)) (run from (b .rows) (rowSums a b (now (doubles .entry)) r) (now (t .entry))) ⌝ }
 {
-    let mid = from + n;
-    let end = mid + n;
+    let n = b.rows;
     run_copies::clear(acc, n);
     run_copies::clear(acc2, n);
-    axpy_pair::add_products_pair(acc, acc2, n, doubles, b, n, doubles, a, rows, r, inner);
-    run_copies::put(t, 0, end, from, n, acc);
-    run_copies::put(t, 0, end, mid, n, acc2);
+    axpy_pair::add_products_pair(
+        acc,
+        acc2,
+        n,
+        doubles,
+        b.at,
+        n,
+        doubles,
+        a.at,
+        a.rows,
+        r,
+        a.cols,
+    );
+    run_copies::put(t, from, from + n, 0, n, acc);
+    run_copies::put(t, from + n, from + n + n, 0, n, acc2);
 }
 
-// The sums of every row, one row behind the other.
-fn sum_rows(
-    t: &mut [f64],
-    rows: usize,
-    cols: usize,
-    doubles: &[f64],
-    a: usize,
-    b: usize,
-    inner: usize,
-)
-    requires { ⌜ (cols ≤ 316) × (sizeOf (columns cols rows) ≤ length (now t)) × (a + sizeOf (columns rows inner) ≤ length (now doubles)) × (b + sizeOf (columns cols inner) ≤ length (now doubles)) ⌝ }
-    ensures { λ _. ⌜ now (t .exit) ≡ store 0 (cells (dense cols) rows (rowSums a rows b cols inner (now (doubles .entry)))) (now (t .entry)) ⌝ }
+// The sums of every row of block a, one row behind the other.
+fn sum_rows(t: &mut [f64], doubles: &[f64], a: Block, b: Block)
+    requires { ⌜ (b .rows ≤ 316) × (sizeOf (columns (b .rows) (a .rows)) ≤ length (now t)) × (b .cols ≡ a .cols) × Lies (length (now doubles)) (asColumns a) × Lies (length (now doubles)) (asColumns b) ⌝ }
+    ensures { λ _. ⌜ now (t .exit) ≡ store 0 (cells (dense (b .rows)) (a .rows) (rowSums a b (now (doubles .entry)))) (now (t .entry)) ⌝ }
 {
     let mut acc = [0.0; 316];
     let mut acc2 = [0.0; 316];
     let mut r = 0;
     let mut from = 0;
-    while rows - r >= 2 {
-        sum_two_rows(
-            t,
-            &mut acc,
-            &mut acc2,
-            from,
-            cols,
-            doubles,
-            a,
-            rows,
-            b,
-            r,
-            inner,
-        );
+    while a.rows - r >= 2 {
+        sum_two_rows(t, &mut acc, &mut acc2, from, doubles, a, b, r);
         r += 2;
-        from += 2 * cols;
+        from += 2 * b.rows;
     }
-    if r < rows {
-        sum_row(t, &mut acc, from, cols, doubles, a, rows, b, r, inner);
+    if r < a.rows {
+        sum_row(t, &mut acc, from, doubles, a, b, r);
     }
 }
 
@@ -128,21 +115,14 @@ fn subtract_columns(t: &mut [f64], rows: usize, cols: usize, sums: &[f64])
     }
 }
 
-// S of the dense block at off, of at most 12 rows: less block a times block b transposed.
-pub fn subtract_few(
-    doubles: &mut [f64],
-    off: usize,
-    rows: usize,
-    cols: usize,
-    a: usize,
-    b: usize,
-    inner: usize,
-)
-    requires { ⌜ (rows ≤ 12) × (cols ≤ 316) × (off + sizeOf (columns rows cols) ≤ length (now doubles)) × (a + sizeOf (columns rows inner) ≤ length (now doubles)) × (b + sizeOf (columns cols inner) ≤ length (now doubles)) ⌝ }
-    ensures { λ _. ⌜ now (doubles .exit) ≡ subtractedDense off rows cols a b inner (now (doubles .entry)) ⌝ }
+// S of the dense block t, of at most 12 rows: less block a times block b transposed.
+pub fn subtract_few(doubles: &mut [f64], t: Block, a: Block, b: Block)
+    requires { ⌜ (t .rows ≤ 12) × (t .cols ≤ 316) × Product (length (now doubles)) asColumns asColumns t a b ⌝ }
+    ensures { λ _. ⌜ now (doubles .exit) ≡ subtractedDense t a b (now (doubles .entry)) ⌝ }
 {
-    let end = off + cols * rows;
+    let off = t.at;
+    let end = off + t.cols * t.rows;
     let mut sums = [0.0; 3792];
-    sum_rows(&mut sums, rows, cols, doubles, a, b, inner);
-    subtract_columns(&mut doubles[off..end], rows, cols, &sums);
+    sum_rows(&mut sums, doubles, a, b);
+    subtract_columns(&mut doubles[off..end], t.rows, t.cols, &sums);
 }

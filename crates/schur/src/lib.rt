@@ -13,31 +13,38 @@ pub mod sparse_schur;
 ghost use mathlib.Core.Path.{_≡_};
 ghost use Prim.Native.Nat.{_+_, _≤_, _<_};
 ghost use lib.ListN.{length};
-ghost use Rattle.storage.specs.Shape.{columns, sizeOf};
+ghost use Rattle.storage.specs.Placed.{Lies, asColumns};
 ghost use Rattle.schur.specs.Schur.{subtractSums};
 use block_runs::axpy_products;
 use block_runs::run_copies;
 use block_runs::run_differences;
+use storage::Block;
 
-// n doubles of the block at off, from `to` on within it: less the sums of the products of rows 0 to n - 1 of block a and row r of block b.
+// n doubles from `to` on: less the sums of the products of rows 0 to n - 1 of block a and row r of block b.
 pub fn subtract_run(
     doubles: &mut [f64],
     acc: &mut [f64],
-    off: usize,
-    end: usize,
     to: usize,
     n: usize,
-    a: usize,
-    rows: usize,
-    b: usize,
-    step: usize,
+    a: Block,
+    b: Block,
     r: usize,
-    inner: usize,
 )
-    requires { ⌜ (n ≤ rows) × (n ≤ length (now acc)) × (r < step) × (off + (to + n) ≤ end) × (end ≤ length (now doubles)) × (a + sizeOf (columns rows inner) ≤ length (now doubles)) × (b + sizeOf (columns step inner) ≤ length (now doubles)) ⌝ }
-    ensures { λ _. ⌜ now (doubles .exit) ≡ subtractSums (off + to) n a rows b step r inner (now (doubles .entry)) ⌝ }
+    requires { ⌜ (n ≤ a .rows) × (n ≤ length (now acc)) × (r < b .rows) × (b .cols ≡ a .cols) × (to + n ≤ length (now doubles)) × Lies (length (now doubles)) (asColumns a) × Lies (length (now doubles)) (asColumns b) ⌝ }
+    ensures { λ _. ⌜ now (doubles .exit) ≡ subtractSums to n a b r (now (doubles .entry)) ⌝ }
 {
     run_copies::clear(acc, n);
-    axpy_products::add_products(acc, n, doubles, a, rows, doubles, b, step, r, inner);
-    run_differences::subtract(doubles, off, end, to, n, acc);
+    axpy_products::add_products(
+        acc,
+        n,
+        doubles,
+        a.at,
+        a.rows,
+        doubles,
+        b.at,
+        b.rows,
+        r,
+        a.cols,
+    );
+    run_differences::subtract(doubles, to, to + n, 0, n, acc);
 }

@@ -1,15 +1,16 @@
 // S of a block that is stored as a diagonal (document 01, Record 4), on the whole list of doubles. Each row's sum, over the cells that were loaded
 // non-zero, is taken in an array beside the list and subtracted once; it is never skipped (docs/DIFFERENCES.md).
 ghost use mathlib.Core.Path.{_≡_};
-ghost use mathlib.Core.Logic.{_⊎_};
 ghost use mathlib.Core.Bool.{true};
 ghost use Prim.Native.Nat.{_+_, _≤_, _<_};
 ghost use lib.ListN.{length};
 ghost use Rattle.storage.specs.Runs.{start, dense};
-ghost use Rattle.storage.specs.Shape.{diagonal, columns, sizeOf};
+ghost use Rattle.storage.specs.Shape.{columns, sizeOf};
+ghost use Rattle.storage.specs.Placed.{Squares, asColumns};
 ghost use Rattle.schur.specs.rank_diagonal.Diagonal.{subtractedDiagonal};
 ghost use Rattle.schur.specs.rank_diagonal.Rows.{plusSquare, Zeros, Summed, Added, subtractEach};
 use block_runs::run_differences;
+use storage::Block;
 
 // y plus the square of v, unless the loaded cell is ±0.
 pub fn plus_square(cell: f64, v: f64, y: f64) -> f64
@@ -71,21 +72,12 @@ fn sum_columns(sums: &mut [f64], doubles: &[f64], n: usize, a: usize, inner: usi
     }
 }
 
-// S of the diagonal of n pivots at off, with a dense cross block at a that was loaded from src.
-pub fn rank_sub_diagonal(
-    doubles: &mut [f64],
-    off: usize,
-    n: usize,
-    a: usize,
-    inner: usize,
-    src: usize,
-)
-    requires { ⌜ (n ≤ 316) × (off + sizeOf (diagonal n) ≤ length (now doubles)) × (a + sizeOf (columns n inner) ≤ length (now doubles)) × (src + sizeOf (columns n inner) ≤ length (now doubles)) ⌝ }
-    requires { ⌜ (off + sizeOf (diagonal n) ≤ a) ⊎ (a + sizeOf (columns n inner) ≤ off) ⌝ }
-    requires { ⌜ (off + sizeOf (diagonal n) ≤ src) ⊎ (src + sizeOf (columns n inner) ≤ off) ⌝ }
-    ensures { λ _. ⌜ now (doubles .exit) ≡ subtractedDiagonal off n (columns n inner) a inner src (now (doubles .entry)) ⌝ }
+// S of the diagonal t, with a dense cross block a that was loaded from src.
+pub fn rank_sub_diagonal(doubles: &mut [f64], t: Block, a: Block, src: usize)
+    requires { ⌜ (t .rows ≤ 316) × Squares (length (now doubles)) asColumns t a src ⌝ }
+    ensures { λ _. ⌜ now (doubles .exit) ≡ subtractedDiagonal asColumns t a src (now (doubles .entry)) ⌝ }
 {
     let mut sums = [0.0; 316];
-    sum_columns(&mut sums, doubles, n, a, inner, src);
-    subtract_sums(doubles, off, n, &sums);
+    sum_columns(&mut sums, doubles, a.rows, a.at, a.cols, src);
+    subtract_sums(doubles, t.at, t.rows, &sums);
 }

@@ -1,13 +1,14 @@
 // S of a diagonal by a sparse cross block (document 01, Record 4; the Rust's `rank_sub_diagonal`), on the whole list of doubles.
 ghost use mathlib.Core.Path.{_≡_};
-ghost use mathlib.Core.Logic.{_⊎_};
 ghost use Prim.Native.Nat.{_+_, _≤_, _<_};
 ghost use lib.ListN.{length};
-ghost use Rattle.storage.specs.Shape.{diagonal, entries, sizeOf};
+ghost use Rattle.storage.specs.Shape.{entries};
+ghost use Rattle.storage.specs.Placed.{Squares, asEntries};
 ghost use Rattle.block_runs.specs.blocks.Blocks.{rowFrom};
 ghost use Rattle.schur.specs.rank_diagonal.Diagonal.{subtractedDiagonal};
 ghost use Rattle.schur.specs.rank_diagonal.Rows.{Zeros, Summed, AddedEntry, subtractRows};
 use crate::rank_diagonal;
+use storage::Block;
 
 // A row's number as an index.
 fn wide(x: u32) -> usize
@@ -88,26 +89,22 @@ fn chunk(left: usize) -> usize
     8192
 }
 
-// S of the diagonal of n pivots at off, with a sparse cross block at a that was loaded from src.
+// S of the diagonal t, with a sparse cross block a that was loaded from src.
 pub fn rank_sub_diagonal_sparse(
     doubles: &mut [f64],
-    off: usize,
-    n: usize,
-    a: usize,
-    inner: usize,
+    t: Block,
+    a: Block,
     src: usize,
     heading: &[u32],
     first: usize,
 )
-    requires { ⌜ (off + sizeOf (diagonal n) ≤ length (now doubles)) × (a + inner ≤ length (now doubles)) × (src + inner ≤ length (now doubles)) × (first + inner ≤ length (now heading)) ⌝ }
-    requires { ⌜ (off + sizeOf (diagonal n) ≤ a) ⊎ (a + inner ≤ off) ⌝ }
-    requires { ⌜ (off + sizeOf (diagonal n) ≤ src) ⊎ (src + inner ≤ off) ⌝ }
-    ensures { λ _. ⌜ now (doubles .exit) ≡ subtractedDiagonal off n (entries inner (rowFrom (now (heading .entry)) first)) a inner src (now (doubles .entry)) ⌝ }
+    requires { ⌜ Squares (length (now doubles)) (asEntries (rowFrom (now heading) first)) t a src × (first + a .cols ≤ length (now heading)) ⌝ }
+    ensures { λ _. ⌜ now (doubles .exit) ≡ subtractedDiagonal (asEntries (rowFrom (now (heading .entry)) first)) t a src (now (doubles .entry)) ⌝ }
 {
     let mut from = 0;
-    while from < n {
-        let m = chunk(n - from);
-        subtract_rows(doubles, off, from, m, a, inner, src, heading, first);
+    while from < t.rows {
+        let m = chunk(t.rows - from);
+        subtract_rows(doubles, t.at, from, m, a.at, a.cols, src, heading, first);
         from += m;
     }
 }

@@ -1,13 +1,14 @@
 // S of fixed rows with a sparse block of one entry a column (document 01, Record 4; the Rust's `schur_sub_xy_re`), on the whole list of doubles.
 ghost use mathlib.Core.Path.{_≡_};
-ghost use mathlib.Core.Logic.{_⊎_};
 ghost use Prim.Native.Nat.{_+_, _≤_};
 ghost use lib.ListN.{length};
-ghost use Rattle.storage.specs.Shape.{columns, sizeOf};
+ghost use Rattle.storage.specs.Placed.{Product, asColumns, asEntries};
 ghost use Rattle.block_runs.specs.blocks.Blocks.{rowFrom, RowsBelow};
-ghost use Rattle.cross_block.specs.Blocks.{subtractedSparse, subtractColumn};
+ghost use Rattle.cross_block.specs.Blocks.{subtractColumn};
+ghost use Rattle.schur.specs.Schur.{subtractedEntries};
 use block_runs::run_copies;
 use block_runs::run_products;
+use storage::Block;
 
 // A row's number as an index.
 fn wide(x: u32) -> usize
@@ -16,51 +17,35 @@ fn wide(x: u32) -> usize
     x as usize
 }
 
-// A column of the block at off, from `to` on within it, less f times the one at ax.
-fn subtract_column(
-    doubles: &mut [f64],
-    acc: &mut [f64],
-    off: usize,
-    end: usize,
-    to: usize,
-    rows: usize,
-    ax: usize,
-    f: f64,
-)
-    requires { ⌜ (rows ≤ length (now acc)) × (off + (to + rows) ≤ end) × (end ≤ length (now doubles)) × (ax + rows ≤ length (now doubles)) ⌝ }
-    ensures { λ _. ⌜ now (doubles .exit) ≡ subtractColumn (off + to) rows ax f (now (doubles .entry)) ⌝ }
+// A column of `rows` doubles, from `to` on, less f times the one at ax.
+fn subtract_column(doubles: &mut [f64], acc: &mut [f64], to: usize, rows: usize, ax: usize, f: f64)
+    requires { ⌜ (rows ≤ length (now acc)) × (to + rows ≤ length (now doubles)) × (ax + rows ≤ length (now doubles)) ⌝ }
+    ensures { λ _. ⌜ now (doubles .exit) ≡ subtractColumn to rows ax f (now (doubles .entry)) ⌝ }
 {
     run_copies::read(acc, rows, doubles, ax);
-    run_products::subtract_times(doubles, off, end, to, rows, acc, f);
+    run_products::subtract_times(doubles, to, to + rows, 0, rows, acc, f);
 }
 
-// S(k,1,0) of the fixed rows at off with a sparse block whose entries are at v: product by product.
+// S(k,1,0) of the fixed rows t with a sparse block v: product by product.
 pub fn subtract_sparse(
     doubles: &mut [f64],
-    off: usize,
-    rows: usize,
-    cols: usize,
-    a: usize,
-    v: usize,
-    inner: usize,
+    t: Block,
+    a: Block,
+    v: Block,
     heading: &[u32],
     first: usize,
 )
-    requires { ⌜ (rows ≤ 316) × (off + sizeOf (columns rows cols) ≤ length (now doubles)) × (a + sizeOf (columns rows inner) ≤ length (now doubles)) × (v + inner ≤ length (now doubles)) × (first + inner ≤ length (now heading)) ⌝ }
-    requires { ⌜ (off + sizeOf (columns rows cols) ≤ a) ⊎ (a + sizeOf (columns rows inner) ≤ off) ⌝ }
-    requires { ⌜ (off + sizeOf (columns rows cols) ≤ v) ⊎ (v + inner ≤ off) ⌝ }
-    requires { ⌜ RowsBelow (now heading) first inner cols ⌝ }
-    ensures { λ _. ⌜ now (doubles .exit) ≡ subtractedSparse off rows cols a v inner (rowFrom (now (heading .entry)) first) (now (doubles .entry)) ⌝ }
+    requires { ⌜ (t .rows ≤ 316) × Product (length (now doubles)) asColumns (asEntries (rowFrom (now heading) first)) t a v × (first + v .cols ≤ length (now heading)) × RowsBelow (now heading) first (v .cols) (t .cols) ⌝ }
+    ensures { λ _. ⌜ now (doubles .exit) ≡ subtractedEntries (rowFrom (now (heading .entry)) first) t a v (now (doubles .entry)) ⌝ }
 {
-    let end = off + cols * rows;
     let mut acc = [0.0; 316];
     let mut x = 0;
-    let mut ax = a;
-    while x < inner {
+    let mut ax = a.at;
+    while x < a.cols {
         let c = wide(heading[first + x]);
-        let f = doubles[v + x];
-        subtract_column(doubles, &mut acc, off, end, c * rows, rows, ax, f);
+        let f = doubles[v.at + x];
+        subtract_column(doubles, &mut acc, t.at + c * t.rows, t.rows, ax, f);
         x += 1;
-        ax += rows;
+        ax += t.rows;
     }
 }

@@ -4,15 +4,14 @@ ghost use mathlib.Core.Bool.{true, false, _&&_};
 ghost use Prim.Native.Nat.{_+_, _≤_, _<_};
 ghost use lib.Dec.{eqb};
 ghost use lib.ListN.{length};
-ghost use Rattle.storage.specs.Shape.{columns, entries};
-ghost use Rattle.layout.specs.Shapes.{loadedAt, workingAt, doublesNeeded};
+ghost use Rattle.storage.specs.Placed.{asColumns, asEntries};
+ghost use Rattle.layout.specs.Shapes.{loadedAt, doublesNeeded};
 ghost use Rattle.heading_format.specs.Heading.{validLayout};
 ghost use Rattle.block_runs.specs.blocks.Blocks.{rowFrom, RowsBelow};
 ghost use Rattle.schur.specs.rank_diagonal.Diagonal.{subtractedDiagonal};
-ghost use Rattle.schur.specs.Schur.{subtractedRank};
-ghost use Rattle.cross_block.specs.Blocks.{subtractedSparse};
+ghost use Rattle.schur.specs.Schur.{subtractedRank, subtractedEntries};
 ghost use Rattle.block_places.specs.block_kinds.Rows.{rowsOf};
-use block_places::block_kinds;
+ghost use Rattle.block_places.specs.Working.{working};
 use block_places::places;
 use layout::Layout;
 use schur::dense_triangle;
@@ -23,51 +22,42 @@ use schur::sparse_schur;
 // S(j, j, x) of a triangle: less block (j, x) times itself.
 pub fn subtract_triangle_block(layout: Layout, doubles: &mut [f64], j: u64, x: u64)
     requires { ⌜ (validLayout layout ≡ true) × (doublesNeeded layout ≤ length (now doubles)) × (x < j) × (j < layout .k) × ((layout .diagonal && eqb j 1) ≡ false) ⌝ }
-    ensures { λ _. ⌜ now (doubles .exit) ≡ subtractedRank (workingAt layout j j) (rowsOf layout j) (workingAt layout j x) (rowsOf layout x) (now (doubles .entry)) ⌝ }
+    ensures { λ _. ⌜ now (doubles .exit) ≡ subtractedRank (working layout j j) (working layout j x) (now (doubles .entry)) ⌝ }
 {
-    let off = places::working_at(layout, j, j);
-    let a = places::working_at(layout, j, x);
-    let rows = block_kinds::rows_of(layout, j);
-    let inner = block_kinds::rows_of(layout, x);
-    dense_triangle::rank_sub(doubles, off, rows, a, inner);
+    let t = block_places::block(layout, j, j);
+    let a = block_places::block(layout, j, x);
+    dense_triangle::rank_sub(doubles, t, a);
 }
 
 // S(1, 1, 0) of a diagonal whose pair is dense: over the cells that were loaded.
 pub fn subtract_diagonal_block(layout: Layout, doubles: &mut [f64])
     requires { ⌜ (validLayout layout ≡ true) × (doublesNeeded layout ≤ length (now doubles)) × (1 < layout .k) × (layout .diagonal ≡ true) × (layout .sparse ≡ false) ⌝ }
-    ensures { λ _. ⌜ now (doubles .exit) ≡ subtractedDiagonal (workingAt layout 1 1) (rowsOf layout 1) (columns (rowsOf layout 1) (rowsOf layout 0)) (workingAt layout 1 0) (rowsOf layout 0) (loadedAt layout 1 0) (now (doubles .entry)) ⌝ }
+    ensures { λ _. ⌜ now (doubles .exit) ≡ subtractedDiagonal asColumns (working layout 1 1) (working layout 1 0) (loadedAt layout 1 0) (now (doubles .entry)) ⌝ }
 {
-    let off = places::working_at(layout, 1, 1);
-    let a = places::working_at(layout, 1, 0);
+    let t = block_places::block(layout, 1, 1);
+    let a = block_places::block(layout, 1, 0);
     let src = places::loaded_at(layout, 1, 0);
-    let rows = block_kinds::rows_of(layout, 1);
-    let inner = block_kinds::rows_of(layout, 0);
-    rank_diagonal::rank_sub_diagonal(doubles, off, rows, a, inner, src);
+    rank_diagonal::rank_sub_diagonal(doubles, t, a, src);
 }
 
 // S(1, 1, 0) of a diagonal whose pair is sparse: over the entries that were loaded.
 pub fn subtract_diagonal_sparse_block(layout: Layout, heading: &[u32], doubles: &mut [f64])
     requires { ⌜ (validLayout layout ≡ true) × (doublesNeeded layout ≤ length (now doubles)) × (layout .sparse ≡ true) × (layout .k ≡ 2) × (128 + rowsOf layout 0 ≤ length (now heading)) ⌝ }
-    ensures { λ _. ⌜ now (doubles .exit) ≡ subtractedDiagonal (workingAt layout 1 1) (rowsOf layout 1) (entries (rowsOf layout 0) (rowFrom (now (heading .entry)) 128)) (workingAt layout 1 0) (rowsOf layout 0) (loadedAt layout 1 0) (now (doubles .entry)) ⌝ }
+    ensures { λ _. ⌜ now (doubles .exit) ≡ subtractedDiagonal (asEntries (rowFrom (now (heading .entry)) 128)) (working layout 1 1) (working layout 1 0) (loadedAt layout 1 0) (now (doubles .entry)) ⌝ }
 {
-    let off = places::working_at(layout, 1, 1);
-    let a = places::working_at(layout, 1, 0);
+    let t = block_places::block(layout, 1, 1);
+    let a = block_places::block(layout, 1, 0);
     let src = places::loaded_at(layout, 1, 0);
-    let rows = block_kinds::rows_of(layout, 1);
-    let inner = block_kinds::rows_of(layout, 0);
-    rank_diagonal_sparse::rank_sub_diagonal_sparse(doubles, off, rows, a, inner, src, heading, 128);
+    rank_diagonal_sparse::rank_sub_diagonal_sparse(doubles, t, a, src, heading, 128);
 }
 
 // S(2, 1, 0) of fixed rows where the pair is sparse: less the fixed rows of factor 0 times its entries.
 pub fn subtract_sparse_block(layout: Layout, heading: &[u32], doubles: &mut [f64])
     requires { ⌜ (validLayout layout ≡ true) × (doublesNeeded layout ≤ length (now doubles)) × (layout .sparse ≡ true) × (layout .k ≡ 2) × (128 + rowsOf layout 0 ≤ length (now heading)) × RowsBelow (now heading) 128 (rowsOf layout 0) (rowsOf layout 1) ⌝ }
-    ensures { λ _. ⌜ now (doubles .exit) ≡ subtractedSparse (workingAt layout 2 1) (rowsOf layout 2) (rowsOf layout 1) (workingAt layout 2 0) (workingAt layout 1 0) (rowsOf layout 0) (rowFrom (now (heading .entry)) 128) (now (doubles .entry)) ⌝ }
+    ensures { λ _. ⌜ now (doubles .exit) ≡ subtractedEntries (rowFrom (now (heading .entry)) 128) (working layout 2 1) (working layout 2 0) (working layout 1 0) (now (doubles .entry)) ⌝ }
 {
-    let off = places::working_at(layout, 2, 1);
-    let a = places::working_at(layout, 2, 0);
-    let v = places::working_at(layout, 1, 0);
-    let rows = block_kinds::rows_of(layout, 2);
-    let cols = block_kinds::rows_of(layout, 1);
-    let inner = block_kinds::rows_of(layout, 0);
-    sparse_schur::subtract_sparse(doubles, off, rows, cols, a, v, inner, heading, 128);
+    let t = block_places::block(layout, 2, 1);
+    let a = block_places::block(layout, 2, 0);
+    let v = block_places::block(layout, 1, 0);
+    sparse_schur::subtract_sparse(doubles, t, a, v, heading, 128);
 }

@@ -1,3 +1,4 @@
 pub mod Runs
 pub mod Shape
 pub mod Part
+pub mod Placed

@@ -19,7 +19,7 @@ use Rattle.rules.specs.Arithmetic.{ieee}
 use Rattle.rules.specs.Sums.{sumFrom}
 use Rattle.block_runs.specs.blocks.Blocks.{block}
 use Rattle.block_runs.proofs.blocks.Laws.{read-block, has-diagonal}
-use Rattle.schur.specs.rank_diagonal.Diagonal.{subtractedDiagonal}
+use Rattle.schur.specs.rank_diagonal.Diagonal.{withDiagonalSubtracted}
 use Rattle.schur.specs.rank_diagonal.Rows.{Summed, subtractEach, subtractRows, pivot, doneRows}
 
 -- n cells and m more
@@ -42,7 +42,7 @@ module _ (off n : ℕ) (s : Shape) (a inner src : ℕ) (w₀ : List Float) where
   unfolding tab
   rows-none = sym (store-nil off w₀)
 
-  pub rows-all : (w : List Float) → w ≡ doneRows off n s a inner src n w₀ → w ≡ subtractedDiagonal off n s a inner src w₀
+  pub rows-all : (w : List Float) → w ≡ doneRows off n s a inner src n w₀ → w ≡ withDiagonalSubtracted off n s a inner src w₀
   rows-all w h =
       h ∙ ap (λ (l : List Float). store off l w₀) (sym (fill-diagonal n _))
 
@@ -86,7 +86,7 @@ module _ (off n : ℕ) (s : Shape) (a inner src : ℕ) (w₀ : List Float) (fits
         ∙ ap (λ (l : List Float). store off l w₀) (tab-add from m new)
 
   -- all rows at once
-  pub rows-once : (t : List Float) → Summed s a src w₀ 0 n inner t → (w : List Float) → w ≡ subtractEach off n t w₀ → w ≡ subtractedDiagonal off n s a inner src w₀
+  pub rows-once : (t : List Float) → Summed s a src w₀ 0 n inner t → (w : List Float) → w ≡ subtractEach off n t w₀ → w ≡ withDiagonalSubtracted off n s a inner src w₀
   rows-once t so w e =
       rows-all off n s a inner src w₀ w
       (subst (λ (k : ℕ). w ≡ doneRows off n s a inner src k w₀) (zero-add n)

@@ -3,14 +3,14 @@ use Prim.Native.Nat.{ℕ, _+_}
 use mathlib.Core.List.{List}
 use lib.Ieee.{Float}
 use Rattle.storage.specs.Runs.{start, dense}
-use Rattle.storage.specs.Shape.{columns}
 use Rattle.rules.specs.Arithmetic.{ieee}
-use Rattle.block_runs.specs.blocks.Blocks.{block}
+use Rattle.storage.specs.declared.Block.{Block}
+use Rattle.storage.specs.Placed.{asColumns, read}
 use Rattle.block_runs.specs.axpy.Axpy.{at, along}
 
 -- sum c of row r: the products of row c of block b and row r of block a
-abbrev pub rowSums : (a rows b cols inner : ℕ) → List Float → ℕ → ℕ → Float
-rowSums a rows b cols inner w r c = along (ieee .plus) (ieee .zero) (block b (columns cols inner) w c) (block a (columns rows inner) w r) inner
+abbrev pub rowSums : (a b : Block) → List Float → ℕ → ℕ → Float
+rowSums a b w r c = along (ieee .plus) (ieee .zero) (read (asColumns b) w c) (read (asColumns a) w r) (a .cols)
 
 -- cell i of column c, which starts at `to`: less sum c of row i
 abbrev pub subtractSum : (to cols : ℕ) → List Float → (c : ℕ) → List Float → ℕ → Float

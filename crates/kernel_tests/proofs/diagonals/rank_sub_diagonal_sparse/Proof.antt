@@ -9,9 +9,9 @@ use Rattle.kernel_tests.proofs.diagonals.rank_sub_diagonal_sparse.Tie a
 
 rank-sub-diagonal-sparse-requires : tie.Need-rank-sub-diagonal-sparse-requires
 rank-sub-diagonal-sparse-requires c κs = let p = neither _ _ c.before.if1.left in let q = neither _ _ p.0 in
-    let n = sym (size-diagonal _) in let h = clear-at n refl (c.before.before.before.clash.ensures q.1) in
-    let l = clear-at n refl (c.before.before.clash2.ensures p.1) in
-    ((h.first, h.second, l.second, ltb-false _ _ q.0), (h.apart, l.apart))
+    let n = sym (size-diagonal _) in let one = sym (size-diagonal _) in let h = clear-at n one (c.before.before.before.clash.ensures q.1) in
+    let l = clear-at n one (c.before.before.clash2.ensures p.1) in
+    (record { rows = refl; target = h.first; left = h.second; source = l.second; off-left = h.apart; off-source = l.apart }, ltb-false _ _ q.0)
 
 pub rank-sub-diagonal-sparse-spec : {M : Type 1} → statement M
 rank-sub-diagonal-sparse-spec = tie.close (tie.spec (λ c. search needs) (λ c κs. search needs) (λ c κs. search needs)

@@ -1,10 +1,13 @@
 -- `schur::rank_diagonal::rank_sub_diagonal`: the sums start at 0.0, and are over all columns where they are subtracted.
+use Prim.Native.Nat.{ℕ}
+use mathlib.Core.Path.{subst}
 use lib.ListN.{getD-replicate}
 use lib.Ieee.{nan}
 use native.Mathlib.Omega.{arith}
 use Rattle.storage.specs.Shape.{columns}
 use Rattle.storage.proofs.Starts.{start-single}
 use Rattle.rules.specs.Arithmetic.{ieee}
+use Rattle.schur.specs.rank_diagonal.Rows.{Summed}
 use Rattle.schur.proofs.rank_diagonal.Chunks.{rows-once}
 use borrow.Author.Needs.{needs}
 use Rattle.schur.proofs.rank_diagonal.rank_sub_diagonal.Statement.{statement}
@@ -14,13 +17,13 @@ sum-columns-requires : tie.Need-sum-columns-requires
 sum-columns-requires c κs = (search needs, λ i h. getD-replicate 316 i ieee.zero nan (omega arith))
 
 subtract-sums-requires : tie.Need-subtract-sums-requires
-subtract-sums-requires c κs = omega (arith, start-single c.before.before.before.before.before.before.before.args.n)
+subtract-sums-requires c κs = omega (arith, start-single c.before.before.before.before.before.before.before.args.t.rows)
 
 returns : tie.Need-returns
-returns c = let p = c.before.before.before.before.before.before.before.before.before.before in let a = p.args in
-    let sums = c.before.before.before.before.before.before.sum-columns in
-    rows-once a.off a.n (columns a.n a.inner) a.a a.inner a.src a.doubles.now (omega arith) p.pre.1.0 p.pre.1.1
-    sums.last.0 sums.ensures c.before.before.subtract-sums.last.0 c.before.before.subtract-sums.ensures
+returns c = let s = c.before.before.before.before.before.before.before.before.before.before in let a = s.args in let P = s.pre.1 in let sums = c.before.before.before.before.before.before.sum-columns in
+    rows-once a.t.at a.t.rows (columns a.a.rows a.a.cols) a.a.at a.a.cols a.src a.doubles.now P.target P.off-left P.off-source sums.last.0
+    (subst (λ (n : ℕ). Summed (columns a.a.rows a.a.cols) a.a.at a.src a.doubles.now 0 n a.a.cols sums.last.0) P.rows sums.ensures)
+    c.before.before.subtract-sums.last.0 c.before.before.subtract-sums.ensures
 
 pub rank-sub-diagonal-spec : {M : Type 1} → statement M
 rank-sub-diagonal-spec = tie.close (tie.spec (λ c. search needs) sum-columns-requires (λ c. search needs)

@@ -12,36 +12,35 @@ use Rattle.schur.proofs.rank_diagonal_sparse.rank_sub_diagonal_sparse.S
 use Rattle.schur.proofs.rank_diagonal_sparse.rank_sub_diagonal_sparse.Tie as tie
 
 abbrev Inv-loop : tie.InvT-loop
-Inv-loop w₀ off n a inner src h first from₀ w from =
-    (from ≤ n) × (length w ≡ length w₀) × (w ≡ doneRows off n (entries inner (rowFrom h first)) a inner src from w₀)
+Inv-loop w₀ t a src h first from₀ w from =
+    (from ≤ t .rows) × (length w ≡ length w₀) × (w ≡ doneRows (t .at) (t .rows) (entries (a .cols) (rowFrom h first)) (a .at) (a .cols) src from w₀)
 
 abbrev μ-loop : tie.MeasureT-loop
-μ-loop w₀ off n a inner src h first from₀ w from = n - from
+μ-loop w₀ t a src h first from₀ w from = t .rows - from
 
 loop-holds : tie.Need-loop-holds Inv-loop μ-loop
 loop-holds c = let a = c.before.before.args in
-    (omega arith, refl, rows-none a.off a.n (entries a.inner (rowFrom a.heading.now a.first)) a.a a.inner a.src a.doubles.now)
+    (omega arith, refl, rows-none a.t.at a.t.rows (entries a.a.cols (rowFrom a.heading.now a.first)) a.a.at a.a.cols a.src a.doubles.now)
 
 subtract-rows-requires : tie.Need-subtract-rows-requires Inv-loop μ-loop
-subtract-rows-requires c κs = omega (arith, start-single c.before.before.before.before.before.before.args.n)
+subtract-rows-requires c κs = let a = c.before.before.before.before.before.before.before.before.args in omega (arith, start-single a.t.rows, start-single a.a.cols)
 
 loop-less : tie.Need-loop-less Inv-loop μ-loop
 loop-less c = let q = c.before.before.before.before.chunk.ensures.2 (omega arith) in omega arith
 
 loop-again : tie.Need-loop-again Inv-loop μ-loop
-loop-again c = let p = c.before.before.before.before.before.before.before.before.before in let a = p.args in
-    let l = c.before.before.before.before.before.before.loop in let t = c.before.before.subtract-rows in (
+loop-again c = let s = c.before.before.before.before.before.before.before.before.before.before.before in let a = s.args in let P = s.pre.0 in
+    let l = c.before.before.before.before.before.before.before.before.loop in let t = c.before.before.subtract-rows in (
       omega arith,
       omega arith,
-      rows-more a.off a.n (entries a.inner (rowFrom a.heading.now a.first)) a.a a.inner a.src a.doubles.now (omega arith)
-          (rw (start-single a.inner) p.pre.1.0) (rw (start-single a.inner) p.pre.1.1)
+      rows-more a.t.at a.t.rows (entries a.a.cols (rowFrom a.heading.now a.first)) a.a.at a.a.cols a.src a.doubles.now P.target P.off-left P.off-source
           l.from c.before.before.before.before.chunk.result (omega arith) l.doubles l.inv.2 t.last.0 t.ensures,
     )
 
 returns : tie.Need-returns Inv-loop μ-loop
-returns c = let a = c.before.before.before.before.args in let l = c.before.loop in
-    let e : l .from ≡ a .n = omega arith in
-    rows-all a.off a.n (entries a.inner (rowFrom a.heading.now a.first)) a.a a.inner a.src a.doubles.now l.doubles (rw e at l.inv.2)
+returns c = let a = c.before.before.before.before.before.args in let l = c.before.before.loop in
+    let e : l .from ≡ a .t .rows = omega arith in
+    rows-all a.t.at a.t.rows (entries a.a.cols (rowFrom a.heading.now a.first)) a.a.at a.a.cols a.src a.doubles.now l.doubles (rw e at l.inv.2)
 
 pub rank-sub-diagonal-sparse-spec : {M : Type 1} → statement M
 rank-sub-diagonal-sparse-spec = tie.close (tie.spec Inv-loop μ-loop loop-holds (λ c. omega arith) (λ c κs. tt)
