@@ -1,4 +1,4 @@
-// The kernels of schur_dense, rank_dense and schur_last.
+// The kernels of schur: schur_dense, dense_triangle and last_triangle.
 ghost use Rattle.kernel_tests.specs.Cases.{Small};
 use super::answer::OUT_OF_FORM;
 use super::case::Case;

@@ -1,4 +1,4 @@
--- `calls_c::tell` meets its contract.
+-- `calls_c::report` meets its contract.
 use mathlib.Core.Path.{sym, ap}
 use Prim.{tt}
 use lib.Ieee.{nanBits}

@@ -1,4 +1,4 @@
--- `calls_c::tell_solve` meets its contract.
+-- `calls_c::report_solve` meets its contract.
 use mathlib.Core.Path.{sym, ap}
 use Rattle.profile.specs.declared.Solve.{Solve}
 use Rattle.profile.specs.Finish.{refusalOf as solveRefusal}

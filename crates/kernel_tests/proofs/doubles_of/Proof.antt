@@ -1,4 +1,4 @@
--- `kernel_tests::doubles` meets its contract.
+-- `kernel_tests::doubles_of` meets its contract.
 use borrow.Author.Needs.{needs}
 use Prim.Native.Nat.{_-_}
 use Rattle.kernel_tests.proofs.doubles_of.Statement.{statement}

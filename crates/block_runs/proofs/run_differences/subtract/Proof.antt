@@ -1,4 +1,4 @@
--- `block_runs::run_differences::less`: the block is lent.
+-- `block_runs::run_differences::subtract`: the block is lent.
 use mathlib.Core.Path.{ap}
 use Prim.Native.Nat.{_+_, _-_}
 use native.Mathlib.Omega.{arith}

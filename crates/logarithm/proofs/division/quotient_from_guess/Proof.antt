@@ -1,4 +1,4 @@
--- `logarithm::division::refined` meets its contract.
+-- `logarithm::division::quotient_from_guess` meets its contract.
 use mathlib.Core.Path.{refl}
 use native.Mathlib.Omega.{arith}
 use Rattle.logarithm.proofs.division.Words.{high-small, quotient-is, shift-fits, below-pos, sum-fits}

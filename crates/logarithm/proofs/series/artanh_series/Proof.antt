@@ -1,4 +1,4 @@
--- `logarithm::series::summed` meets its contract. The invariant: s is the series from the term k on. The measure is k.
+-- `logarithm::series::artanh_series` meets its contract. The invariant: s is the series from the term k on. The measure is k.
 use Prim.Native.Nat.{_+_, _-_, _*_}
 use native.Mathlib.Nat.{div-le-self}
 use native.Mathlib.Omega.{arith}

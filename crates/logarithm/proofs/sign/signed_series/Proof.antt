@@ -1,4 +1,4 @@
--- `logarithm::sign::leaned` meets its contract.
+-- `logarithm::sign::signed_series` meets its contract.
 use borrow.Author.Needs.{needs}
 use Rattle.logarithm.proofs.sign.Words.{taken, left}
 use Rattle.logarithm.proofs.sign.signed_series.Statement.{statement}

@@ -1,4 +1,4 @@
--- `logarithm::split::joined` meets its contract.
+-- `logarithm::split::sum_of_parts` meets its contract.
 use borrow.Author.Needs.{needs}
 use Rattle.logarithm.proofs.split.Together.{y-small, sum-is}
 use Rattle.logarithm.proofs.split.sum_of_parts.Statement.{statement}

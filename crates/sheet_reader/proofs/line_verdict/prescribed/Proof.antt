@@ -1,4 +1,4 @@
--- `sheet_reader::line_verdict::given`: by the parts of its verdict.
+-- `sheet_reader::line_verdict::prescribed`: by the parts of its verdict.
 use borrow.Author.Needs.{needs}
 use Rattle.sheet_reader.proofs.line_verdict.Runs.{prescribed-passed}
 use Rattle.sheet_reader.proofs.line_verdict.prescribed.Statement.{statement}

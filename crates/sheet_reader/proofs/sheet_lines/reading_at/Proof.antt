@@ -1,4 +1,4 @@
--- `sheet_reader::sheet_lines::settle`: as defined, by the cursor's number.
+-- `sheet_reader::sheet_lines::reading_at`: as defined, by the cursor's number.
 use borrow.Author.Tests.{eq-eqb, ne-eqb}
 use Rattle.sheet_reader.proofs.sheet_lines.reading_at.Statement.{statement}
 use Rattle.sheet_reader.proofs.sheet_lines.reading_at.Tie as tie

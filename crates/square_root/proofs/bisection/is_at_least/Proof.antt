@@ -1,4 +1,4 @@
--- `square_root::bisection::reaches` meets its contract.
+-- `square_root::bisection::is_at_least` meets its contract.
 use borrow.Author.Needs.{needs}
 use Rattle.square_root.proofs.bisection.Words.{equal-words, other-words}
 use Rattle.square_root.proofs.bisection.is_at_least.Statement.{statement}
