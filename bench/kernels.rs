@@ -31,8 +31,8 @@ mod husk {
         fn husk_rank_sub_diagonal_sparse(w: *mut f64, m: usize, off: usize, n: usize, a: usize, inner: usize, src: usize, h: *const u32, k: usize, first: usize);
         fn husk_matvec_sub(v: *mut f64, n: usize, off: usize, rows: usize, z: usize, cols: usize, w: *const f64, m: usize, a: usize);
         fn husk_matvec_t_sub(v: *mut f64, n: usize, off: usize, cols: usize, z: usize, rows: usize, w: *const f64, m: usize, a: usize);
-        fn husk_sparse_matvec_sub(v: *mut f64, n: usize, off: usize, rows: usize, z: usize, cols: usize, w: *const f64, m: usize, x: usize, h: *const u32, k: usize, first: usize);
-        fn husk_sparse_matvec_t_sub(v: *mut f64, n: usize, off: usize, cols: usize, z: usize, rows: usize, w: *const f64, m: usize, x: usize, h: *const u32, k: usize, first: usize);
+        fn husk_sparse_matvec_sub(v: *mut f64, n: usize, off: usize, rows: usize, z: usize, cols: usize, w: *const f64, m: usize, x: usize, h: *const u32, k: usize);
+        fn husk_sparse_matvec_t_sub(v: *mut f64, n: usize, off: usize, cols: usize, z: usize, rows: usize, w: *const f64, m: usize, x: usize, h: *const u32, k: usize);
         fn husk_chol(t: *mut f64, m: usize, n: usize) -> usize;
         fn husk_chol_diagonal(t: *mut f64, m: usize, n: usize) -> usize;
         fn husk_log_pivots(t: *const f64, m: usize, n: usize, s: f64) -> f64;
@@ -122,13 +122,13 @@ mod husk {
     pub fn sparse_matvec_sub(v: &mut [f64], rows: usize, w: &[f64], h: &Rows) {
         let cols = h.rows.len();
         assert!(v.len() == rows + cols && w.len() == cols && h.below <= rows);
-        unsafe { husk_sparse_matvec_sub(v.as_mut_ptr(), v.len(), 0, rows, rows, cols, w.as_ptr(), w.len(), 0, h.rows.as_ptr(), cols, 0) }
+        unsafe { husk_sparse_matvec_sub(v.as_mut_ptr(), v.len(), 0, rows, rows, cols, w.as_ptr(), w.len(), 0, h.rows.as_ptr(), cols) }
     }
 
     pub fn sparse_matvec_t_sub(v: &mut [f64], rows: usize, w: &[f64], h: &Rows) {
         let cols = h.rows.len();
         assert!(v.len() == rows + cols && w.len() == cols && h.below <= rows);
-        unsafe { husk_sparse_matvec_t_sub(v.as_mut_ptr(), v.len(), 0, cols, cols, rows, w.as_ptr(), w.len(), 0, h.rows.as_ptr(), cols, 0) }
+        unsafe { husk_sparse_matvec_t_sub(v.as_mut_ptr(), v.len(), 0, cols, cols, rows, w.as_ptr(), w.len(), 0, h.rows.as_ptr(), cols) }
     }
 
     /// The factor and the sum of the logarithms of its pivots.

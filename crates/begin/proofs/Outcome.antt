@@ -13,18 +13,19 @@ use Rattle.refusal.specs.Numbers.{refusal}
 use Rattle.storage.specs.Part.{store}
 use Rattle.rules.specs.Arithmetic.{ieee}
 use Rattle.layout.specs.declared.Layout.{Layout}
-use Rattle.layout.specs.Shapes.{sumAt, doublesNeeded}
-use Rattle.heading_format.specs.Heading.{layoutOf, entryRow, validLayout, underWay, validHeading}
+use Rattle.layout.specs.Shapes.{sumAt, thetaLength}
+use Rattle.heading_format.specs.Heading.{layoutOf, entryRow, underWay, validHeading}
 use Rattle.workspace.specs.Memory.{headingWith}
 use Rattle.workspace.specs.Answers.{workspace, accept, firstInfinite}
-use Rattle.heading_format.proofs.Fits.{fits}
+use Rattle.heading_format.proofs.Fits.{fits, read-fits, room-of}
 use Rattle.heading.specs.writer.Small.{SmallProgress}
 use Rattle.heading.proofs.writer.Idle.{idle-small}
 use Rattle.replace_response.specs.finite.Found.{foundAt}
 use Rattle.update.specs.Calls.{begun, beginOf}
-use Rattle.begin.specs.scaled_blocks.Scaled.{sortedTheta}
 use Rattle.begin.specs.write_begin.Begun.{DoublesBegun}
 use Rattle.begin.proofs.write_begin.Stored.{blocks-stored}
+use Rattle.heading_format.specs.Parts.{headingLength}
+use Rattle.heading_format.specs.Fits.{Room}
 
 -- ---- an update just begun fits the heading
 
@@ -58,10 +59,8 @@ module _ (h : List ℕ) (w theta : List Float) where
           rw (ok, eq-eqb (length theta) (layoutOf h .k) same-long, e, q) refl
 
       -- what is written to
-      pub ready : (128 ≤ length h) × (validLayout y ≡ true) × (length theta ≡ y .k) × (doublesNeeded y ≤ length w)
-      ready =
-          let k = fits h (length w) ok in
-          (k.long, rw is k.layout, long, rw is k.room)
+      pub ready : (headingLength ≤ length h) × Room y (length w) × (length theta ≡ thetaLength y)
+      ready = let k = read-fits is (fits h (length w) ok) in (k.long, room-of k, long)
 
       -- begun
       pub accepted : length theta ≤ i → (h′ : List ℕ) (w′ : List Float) → (h′ ≡ headingWith h (underWay (y .k))) × DoublesBegun y theta w w′
@@ -72,6 +71,6 @@ module _ (h : List ℕ) (w theta : List Float) where
           let d : DoublesBegun (layoutOf h) theta w w′ = rw is at p.1 in
           let v : w′ ≡ begun h w theta .doubles =
           d (entryRow h)
-          ∙ ap (store (sumAt (layoutOf h)) (ieee.zero ∷ [])) (sym (blocks-stored h w (sortedTheta (layoutOf h) theta) theta (fits h (length w) ok .room) same-long)) in
+          ∙ ap (store (sumAt (layoutOf h)) (ieee.zero ∷ [])) (sym (blocks-stored h w theta (fits h (length w) ok .room) same-long)) in
           ap₂ accept (rw is at p.0) v
           ∙ rw (ok, eq-eqb (length theta) (layoutOf h .k) same-long, e) refl

@@ -4,24 +4,17 @@ ghost use mathlib.Core.Bool.{true};
 ghost use Prim.Native.Nat.{_+_, _≤_, _<_};
 ghost use lib.ListN.{length};
 ghost use Rattle.storage.specs.Part.{part, store};
-ghost use Rattle.layout.specs.Shapes.{levels, factors, across, pairs, targets, doublesNeeded};
-ghost use Rattle.heading_format.specs.Heading.{validLayout};
-ghost use Rattle.begin.specs.scaled_blocks.Scaled.{sortedTheta, BlockScaled, BlocksScaled};
+ghost use Rattle.layout.specs.Shapes.{factors, across, pairs, targets, thetaLength};
+ghost use Rattle.begin.specs.scaled_blocks.Scaled.{BlockScaled, BlocksScaled};
+ghost use Rattle.heading_format.specs.Fits.{Room};
 use crate::scaled_blocks;
 use block_places::block_kinds;
 use block_places::block_sizes;
 use block_places::places;
+use layout::FactorKind;
 use layout::Layout;
 use re_factor::diagonal_init;
 use re_factor::triangle_init;
-
-// The levels of sorted block j.
-fn levels_of(layout: Layout, j: u64) -> usize
-    requires { ⌜ j < 8 ⌝ }
-    ensures { λ r. ⌜ r ≡ levels layout j ⌝ }
-{
-    layout.m[j as usize] as usize
-}
 
 // The n doubles at src are copied to off.
 fn copy(doubles: &mut [f64], off: usize, src: usize, n: usize)
@@ -37,24 +30,22 @@ fn copy(doubles: &mut [f64], off: usize, src: usize, n: usize)
 
 // Factor j, scaled: (t·t)·a + 1 on its diagonal, 0 off it.
 fn init_factor(layout: Layout, doubles: &mut [f64], theta: &[f64], j: u64)
-    requires { ⌜ (validLayout layout ≡ true) × (length (now theta) ≡ layout .k) × (doublesNeeded layout ≤ length (now doubles)) × (j < layout .k) ⌝ }
-    ensures { λ _. ⌜ BlockScaled layout (sortedTheta layout (now (theta .entry))) j j (now (doubles .entry)) (now (doubles .exit)) ⌝ }
+    requires { ⌜ Room layout (length (now doubles)) × (length (now theta) ≡ thetaLength layout) × (j < layout .k) ⌝ }
+    ensures { λ _. ⌜ BlockScaled layout (now (theta .entry)) j j (now (doubles .entry)) (now (doubles .exit)) ⌝ }
 {
-    let off = places::working_at(layout, j, j);
+    let b = block_places::block(layout, j, j);
     let src = places::loaded_at(layout, j, j);
-    let n = levels_of(layout, j);
     let t = scaled_blocks::theta_of(layout, theta, j);
-    if block_kinds::is_diagonal(layout, j) {
-        diagonal_init::init_diagonal(doubles, off, n, src, t);
-        return;
+    match block_kinds::factor_kind(layout, j) {
+        FactorKind::Diagonal => diagonal_init::init_diagonal(doubles, b, src, t),
+        FactorKind::Packed => triangle_init::init(doubles, b, src, t),
     }
-    triangle_init::init(doubles, off, n, src, t);
 }
 
 // The last triangle: as it was loaded.
 fn init_last(layout: Layout, doubles: &mut [f64], theta: &[f64])
-    requires { ⌜ (validLayout layout ≡ true) × (doublesNeeded layout ≤ length (now doubles)) ⌝ }
-    ensures { λ _. ⌜ BlockScaled layout (sortedTheta layout (now (theta .entry))) (layout .k) (layout .k) (now (doubles .entry)) (now (doubles .exit)) ⌝ }
+    requires { ⌜ Room layout (length (now doubles)) ⌝ }
+    ensures { λ _. ⌜ BlockScaled layout (now (theta .entry)) (layout .k) (layout .k) (now (doubles .entry)) (now (doubles .exit)) ⌝ }
 {
     let off = places::working_at(layout, layout.k, layout.k);
     let src = places::loaded_at(layout, layout.k, layout.k);
@@ -64,8 +55,8 @@ fn init_last(layout: Layout, doubles: &mut [f64], theta: &[f64])
 
 // All factors, scaled.
 fn init_factors(layout: Layout, doubles: &mut [f64], theta: &[f64])
-    requires { ⌜ (validLayout layout ≡ true) × (length (now theta) ≡ layout .k) × (doublesNeeded layout ≤ length (now doubles)) ⌝ }
-    ensures { λ _. ⌜ BlocksScaled layout (sortedTheta layout (now (theta .entry))) (factors (layout .k)) (now (doubles .entry)) (now (doubles .exit)) ⌝ }
+    requires { ⌜ Room layout (length (now doubles)) × (length (now theta) ≡ thetaLength layout) ⌝ }
+    ensures { λ _. ⌜ BlocksScaled layout (now (theta .entry)) (factors (layout .k)) (now (doubles .entry)) (now (doubles .exit)) ⌝ }
 {
     let k = layout.k;
     let mut j: u64 = 0;
@@ -77,8 +68,8 @@ fn init_factors(layout: Layout, doubles: &mut [f64], theta: &[f64])
 
 // The blocks of row i left of its factor, scaled.
 fn init_row(layout: Layout, doubles: &mut [f64], theta: &[f64], i: u64)
-    requires { ⌜ (validLayout layout ≡ true) × (length (now theta) ≡ layout .k) × (doublesNeeded layout ≤ length (now doubles)) × (i ≤ layout .k) ⌝ }
-    ensures { λ _. ⌜ BlocksScaled layout (sortedTheta layout (now (theta .entry))) (across i i) (now (doubles .entry)) (now (doubles .exit)) ⌝ }
+    requires { ⌜ Room layout (length (now doubles)) × (length (now theta) ≡ thetaLength layout) × (i ≤ layout .k) ⌝ }
+    ensures { λ _. ⌜ BlocksScaled layout (now (theta .entry)) (across i i) (now (doubles .entry)) (now (doubles .exit)) ⌝ }
 {
     let mut j: u64 = 0;
     while j < i {
@@ -89,8 +80,8 @@ fn init_row(layout: Layout, doubles: &mut [f64], theta: &[f64], i: u64)
 
 // All pairs, scaled.
 fn init_pairs(layout: Layout, doubles: &mut [f64], theta: &[f64])
-    requires { ⌜ (validLayout layout ≡ true) × (length (now theta) ≡ layout .k) × (doublesNeeded layout ≤ length (now doubles)) ⌝ }
-    ensures { λ _. ⌜ BlocksScaled layout (sortedTheta layout (now (theta .entry))) (pairs (layout .k)) (now (doubles .entry)) (now (doubles .exit)) ⌝ }
+    requires { ⌜ Room layout (length (now doubles)) × (length (now theta) ≡ thetaLength layout) ⌝ }
+    ensures { λ _. ⌜ BlocksScaled layout (now (theta .entry)) (pairs (layout .k)) (now (doubles .entry)) (now (doubles .exit)) ⌝ }
 {
     let k = layout.k;
     let mut i: u64 = 0;
@@ -102,8 +93,8 @@ fn init_pairs(layout: Layout, doubles: &mut [f64], theta: &[f64])
 
 // Every working block, scaled; no other double is touched.
 pub fn init_blocks(layout: Layout, doubles: &mut [f64], theta: &[f64])
-    requires { ⌜ (validLayout layout ≡ true) × (length (now theta) ≡ layout .k) × (doublesNeeded layout ≤ length (now doubles)) ⌝ }
-    ensures { λ _. ⌜ BlocksScaled layout (sortedTheta layout (now (theta .entry))) (targets (layout .k)) (now (doubles .entry)) (now (doubles .exit)) ⌝ }
+    requires { ⌜ Room layout (length (now doubles)) × (length (now theta) ≡ thetaLength layout) ⌝ }
+    ensures { λ _. ⌜ BlocksScaled layout (now (theta .entry)) (targets (layout .k)) (now (doubles .entry)) (now (doubles .exit)) ⌝ }
 {
     init_factors(layout, doubles, theta);
     init_pairs(layout, doubles, theta);

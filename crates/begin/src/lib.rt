@@ -8,13 +8,16 @@ ghost use mathlib.Core.Path.{_≡_};
 ghost use mathlib.Core.Bool.{true};
 ghost use Prim.Native.Nat.{_≤_};
 ghost use lib.ListN.{length};
-ghost use Rattle.layout.specs.Shapes.{doublesNeeded};
-ghost use Rattle.heading_format.specs.Heading.{validLayout, underWay, validHeading};
+ghost use Rattle.layout.specs.Shapes.{thetaLength};
+ghost use Rattle.heading_format.specs.Heading.{underWay, validHeading};
 ghost use Rattle.refusal.specs.Numbers.{refusal};
 ghost use Rattle.workspace.specs.Memory.{headingWith};
 ghost use Rattle.workspace.specs.Answers.{workspace};
 ghost use Rattle.update.specs.Calls.{beginOf};
 ghost use Rattle.begin.specs.write_begin.Begun.{DoublesBegun};
+ghost use Rattle.heading_format.specs.Parts.{headingLength};
+ghost use Rattle.heading_format.specs.Fits.{Room};
+use block_places::places;
 use heading::writer;
 use layout::Layout;
 use refusal::Answer;
@@ -34,21 +37,20 @@ fn refused(number: u64, first: u64, second: u64) -> Refusal
 
 // The doubles, and the progress of an update just begun.
 fn write(layout: Layout, heading: &mut [u32], doubles: &mut [f64], theta: &[f64])
-    requires { ⌜ (128 ≤ length (now heading)) × (validLayout layout ≡ true) × (length (now theta) ≡ layout .k) × (doublesNeeded layout ≤ length (now doubles)) ⌝ }
+    requires { ⌜ (headingLength ≤ length (now heading)) × Room layout (length (now doubles)) × (length (now theta) ≡ thetaLength layout) ⌝ }
     ensures { λ _. ⌜ (now (heading .exit) ≡ headingWith (now (heading .entry)) (underWay (layout .k))) × DoublesBegun layout (now (theta .entry)) (now (doubles .entry)) (now (doubles .exit)) ⌝ }
 {
     write_begin::write_doubles(layout, doubles, theta);
     writer::write_progress(heading, write_begin::under_way(layout.k));
 }
 
-// Begin in a workspace: 13 where theta has another length than there are blocks, 14 where one is infinite or NaN; else all is written.
+// Begin in a workspace: 13 where theta has another length than the layout says, 14 where one is infinite or NaN; else all is written.
 fn begin_valid(heading: &mut [u32], doubles: &mut [f64], theta: &[f64]) -> Answer
     requires { ⌜ validHeading (now heading) (length (now doubles)) ≡ true ⌝ }
     ensures { λ r. ⌜ record { answer = r; left = workspace (now (heading .exit)) (now (doubles .exit)) } ≡ beginOf (now (heading .entry)) (now (doubles .entry)) (now (theta .entry)) ⌝ }
 {
     let layout = heading::layout(heading);
-    let k = layout.k;
-    if theta.len() as u64 != k {
+    if theta.len() != places::theta_length(layout) {
         return Answer::Refused(refused(13, 0, 0));
     }
     let i = finite::first_infinite(theta);

@@ -1,11 +1,11 @@
 // What begin writes to the doubles and to progress (document 01, Records 4 and 5).
 ghost use mathlib.Core.Path.{_≡_};
-ghost use mathlib.Core.Bool.{true};
 ghost use Prim.Native.Nat.{_≤_};
 ghost use lib.ListN.{length};
-ghost use Rattle.layout.specs.Shapes.{doublesNeeded};
-ghost use Rattle.heading_format.specs.Heading.{validLayout, underWay};
+ghost use Rattle.layout.specs.Shapes.{thetaLength};
+ghost use Rattle.heading_format.specs.Heading.{underWay};
 ghost use Rattle.begin.specs.write_begin.Begun.{DoublesBegun};
+ghost use Rattle.heading_format.specs.Fits.{Room};
 use crate::init_blocks;
 use block_places::places;
 use block_runs::run_copies;
@@ -19,17 +19,12 @@ pub fn under_way(k: u64) -> Progress
     requires { ⌜ k ≤ 8 ⌝ }
     ensures { λ r. ⌜ r ≡ underWay k ⌝ }
 {
-    let left = idle_progress::step_count(k);
-    Progress {
-        state: State::UnderWay,
-        left,
-        stages: [0; 45],
-    }
+    heading_format::undone(State::UnderWay, idle_progress::step_count(k))
 }
 
 // Theta, the working blocks and the sum.
 pub fn write_doubles(layout: Layout, doubles: &mut [f64], theta: &[f64])
-    requires { ⌜ (validLayout layout ≡ true) × (length (now theta) ≡ layout .k) × (doublesNeeded layout ≤ length (now doubles)) ⌝ }
+    requires { ⌜ Room layout (length (now doubles)) × (length (now theta) ≡ thetaLength layout) ⌝ }
     ensures { λ _. ⌜ DoublesBegun layout (now (theta .entry)) (now (doubles .entry)) (now (doubles .exit)) ⌝ }
 {
     let at = places::theta_at(layout);

@@ -1,19 +1,21 @@
 -- The blocks of a valid layout, each in the form that is its shape; they lie within its doubles and apart from each other.
 use Prim.Native.Nat.{ℕ, _≤_, _<_}
 use mathlib.Core.Path.{_≡_, refl, subst, ap, _∙_}
-use mathlib.Core.Bool.{true, false, _&&_}
+use mathlib.Core.Bool.{true, false}
 use mathlib.Core.Logic.{_⊎_, inl, inr, ⊎-elim}
 use native.Mathlib.Omega.{arith}
-use lib.Dec.{eqb}
+use borrow.Author.Tests.{eq-eqb, lt-ltb}
 use Rattle.storage.specs.Shape.{Shape}
 use Rattle.layout.specs.declared.Layout.{Layout}
-use Rattle.layout.specs.Shapes.{workingAt, loadedAt, doublesNeeded}
+use Rattle.layout.specs.declared.FactorKind.{FactorKind}
+use Rattle.layout.specs.Shapes.{factorKind, workingAt, loadedShape, loadedAt, doublesNeeded}
 use Rattle.layout.proofs.Places.{size-working, size-loaded, working-inside, working-behind, working-apart, loaded-inside}
+use Rattle.heading_format.specs.Heading.{validLayout}
 use Rattle.storage.specs.declared.Block.{Block}
-use Rattle.storage.specs.Placed.{Placed, blockOf, asColumns, asTriangle, asDiagonal, asEntries, Lies, Apart, Product, Squares}
+use Rattle.storage.specs.Placed.{Placed, blockOf, asColumns, asDiagonal, asEntries, Lies, Apart, Product, Squares}
 use Rattle.block_places.specs.block_kinds.Rows.{rowsOf}
-use Rattle.block_places.proofs.block_kinds.Shapes.{second-shape, triangle-shape, last-shape, dense-shape, sparse-shape, loaded-pair}
-use Rattle.block_places.specs.Working.{working, placed, placedLoaded}
+use Rattle.block_places.proofs.block_kinds.Shapes.{rows-level, own-shape, dense-shape, sparse-shape, loaded-pair}
+use Rattle.block_places.specs.Working.{working, asFactor, placed, placedLoaded}
 
 abbrev placedAt : ℕ → Shape → Placed
 placedAt at s = record { at = at; shape = s }
@@ -23,16 +25,14 @@ module _ (y : Layout) (row : ℕ → ℕ) where
   pub is-columns : (i j : ℕ) → j < i → i ≤ y .k → (i ≡ y .k) ⊎ (y .sparse ≡ false) → placed y row i j ≡ asColumns (working y i j)
   is-columns i j h g why = ap (placedAt (workingAt y i j)) (dense-shape y row i j h g why)
 
-  -- a factor is a triangle, and so is the last block
-  pub is-triangle : (j : ℕ) → 0 < j → j < y .k → (y .diagonal && eqb j 1) ≡ false → placed y row j j ≡ asTriangle (working y j j)
-  is-triangle j h g d = ap (placedAt (workingAt y j j)) (triangle-shape y row j h g d)
+  -- a factor by its kind, block k too
+  pub is-factor : validLayout y ≡ true → (j : ℕ) → j ≤ y .k → {d : FactorKind} → factorKind y j ≡ d → placed y row j j ≡ asFactor d (working y j j)
+  is-factor ok j h e = ap (placedAt (workingAt y j j)) (own-shape y ok row j h e)
 
-  pub is-last : placed y row (y .k) (y .k) ≡ asTriangle (working y (y .k) (y .k))
-  is-last = ap (placedAt (workingAt y y.k y.k)) (last-shape y row y.k y.k refl refl)
-
-  -- the second factor is a diagonal where block 1 is
-  pub is-second : 1 < y .k → y .diagonal ≡ true → placed y row 1 1 ≡ asDiagonal (working y 1 1)
-  is-second h d = ap (placedAt (workingAt y 1 1)) (second-shape y row h d)
+  -- of which the diagonal alone is loaded
+  pub is-loaded-factor : (j : ℕ) → j < y .k → placedLoaded y row j j ≡ asDiagonal (blockOf (loadedAt y j j) (rowsOf y j) (rowsOf y j))
+  unfolding loadedShape
+  is-loaded-factor j h = rw (eq-eqb j j refl, lt-ltb j y.k h, rows-level y j h) refl
 
   -- a sparse pair has one entry a column
   pub is-entries : y .k ≡ 2 → y .sparse ≡ true → placed y row 1 0 ≡ asEntries row (working y 1 0)

@@ -5,6 +5,8 @@ ghost use Prim.Native.Nat.{_≤_, _<_};
 ghost use Rattle.layout.specs.Shapes.{levels, factors, across, pairs, targets, cellsOf, before};
 ghost use Rattle.heading_format.specs.Heading.{validLayout};
 ghost use Rattle.block_places.specs.block_sizes.Kind.{sizesOf};
+use crate::block_kinds;
+use layout::FactorKind;
 use layout::Layout;
 
 // Levels of sorted block j.
@@ -16,7 +18,7 @@ fn levels_of(layout: Layout, j: u64) -> u64
     layout.m[t]
 }
 
-// The cells of factor j: a diagonal where it is loaded, where it is the first, and where block 1 is diagonal; else a triangle.
+// The cells of factor j, of which the diagonal alone is loaded.
 fn factor_size(layout: Layout, loaded: bool, j: u64) -> u64
     requires { ⌜ (validLayout layout ≡ true) × (j < layout .k) ⌝ }
     ensures { λ r. ⌜ r ≡ sizesOf layout loaded j j ⌝ }
@@ -25,15 +27,10 @@ fn factor_size(layout: Layout, loaded: bool, j: u64) -> u64
     if loaded {
         return m;
     }
-    if j == 0 {
-        return m;
+    match block_kinds::factor_kind(layout, j) {
+        FactorKind::Diagonal => m,
+        FactorKind::Packed => m * (m + 1) / 2,
     }
-    if layout.diagonal {
-        if j == 1 {
-            return m;
-        }
-    }
-    m * (m + 1) / 2
 }
 
 // The cells of pair (i, j): one for each column where it is sparse, else rows times columns.
@@ -52,10 +49,11 @@ fn fixed_size(layout: Layout, loaded: bool, j: u64) -> u64
     requires { ⌜ (validLayout layout ≡ true) × (j ≤ layout .k) ⌝ }
     ensures { λ r. ⌜ r ≡ sizesOf layout loaded (layout .k) j ⌝ }
 {
+    let rows = block_kinds::last_rows(layout);
     if j == layout.k {
-        return (layout.p + 1) * (layout.p + 2) / 2;
+        return rows * (rows + 1) / 2;
     }
-    (layout.p + 1) * levels_of(layout, j)
+    rows * levels_of(layout, j)
 }
 
 // The cells of block (i, j).

@@ -6,7 +6,7 @@ ghost use Prim.Native.Nat.{ℕ, _+_, _*_, _≤_, _<_};
 ghost use Rattle.layout.specs.Shapes.{loadedAt};
 ghost use Rattle.heading_format.specs.Heading.{validLayout};
 ghost use Rattle.workspace.specs.Loaded.{rowStart};
-ghost use Rattle.block_places.specs.sheet_rows.Blocks.{blockOf, FirstRows, Maps};
+ghost use Rattle.block_places.specs.sheet_rows.Blocks.{blockOfRow, FirstRows, Maps};
 use crate::places;
 use crate::sheet_rows;
 use crate::sheet_rows::Map;
@@ -72,7 +72,7 @@ pub fn map_of(layout: Layout) -> Map
 // each line of a sheet took a fifth of the time of a load.
 pub fn block_of<'a>(layout: Layout, counts: &'a [u64; 8], first: &'a [u64; 8], x: u64) -> u64
     requires { ⌜ (validLayout layout ≡ true) × (now counts ≡ layout .m) × FirstRows layout (now first) ⌝ }
-    ensures { λ r. ⌜ r ≡ blockOf layout (layout .k) x ⌝ }
+    ensures { λ r. ⌜ r ≡ blockOfRow layout (layout .k) x ⌝ }
 {
     let k = layout.k as usize;
     let mut b = layout.k;

@@ -13,7 +13,7 @@ use Rattle.heading_format.specs.declared.State.the-variants.{Finished}
 use Rattle.heading_format.specs.Heading.{progressOf}
 use Rattle.workspace.specs.Memory.{Workspace}
 use Rattle.workspace.specs.Load.{loadSheet}
-use Rattle.workspace.specs.Response.{replaceOf}
+use Rattle.workspace.specs.Response.{response, replaceOf}
 use Rattle.update.specs.Calls.{beginOf, stepOf, runOf}
 use Rattle.profile.specs.declared.Deviance.the-variants.{Value}
 use Rattle.profile.specs.Deviance.{profileOf}
@@ -22,11 +22,13 @@ use Rattle.update.specs.Compute.{steps}
 use Rattle.book.specs.Calls as Calls
 use Rattle.book.specs.Calls.{Call, begin, step, replaceResponse, profileDeviance, Reply, deviance, refusalOf, replies, leftBy}
 use Rattle.book.specs.Book.{Book, entered, opened, bookReplies, bookAfter, bookLeft, bookState}
+use Rattle.heading_format.specs.Parts.{headingLength}
+use Rattle.sheet.proofs.Made.{countsWith}
 
 abbrev sheet : Sheet
 sheet =
     record {
-      counts = record { n = 3; p = 1; q = 1; k = 1; flag = 1 };
+      counts = countsWith 3 1 1 1 1;
       blocks = record { m = 1; e = 1 } ∷ [];
       zz = record { line = 3; col = 0; row = 0; word = 0x4008000000000000 } ∷ [];
       zx = 0x4000000000000000 ∷ [];
@@ -55,8 +57,8 @@ calls =
     ∷ step (C 0)
     ∷ step (C 0)
     ∷ step (T 1 0)
-    ∷ replaceResponse (one ∷ []) (one ∷ []) (inf true ∷ [])
-    ∷ replaceResponse (word 0x4010000000000000 ∷ []) (word 0x4018000000000000 ∷ []) (one ∷ [])
+    ∷ replaceResponse (response (one ∷ []) (one ∷ []) (inf true ∷ []))
+    ∷ replaceResponse (response (word 0x4010000000000000 ∷ []) (word 0x4018000000000000 ∷ []) (one ∷ []))
     ∷ step (S 1 1 0)
     ∷ profileDeviance (one ∷ []) true
     ∷ step (C 0)
@@ -71,7 +73,7 @@ expected = 22 ∷ 13 ∷ 14 ∷ 0 ∷ 21 ∷ 24 ∷ 0 ∷ 23 ∷ 0 ∷ 14 ∷ 0 
 
 unfoldable loaded : Workspace
 unfolding steps loadSheet
-loaded = loadSheet sheet (replicate 128 0) (replicate 16 (inf false)) .left
+loaded = loadSheet sheet (replicate headingLength 0) (replicate 16 (inf false)) .left
 
 unfoldable called : List ℕ
 unfolding steps ℕ-discrete loaded numbers replies beginOf stepOf replaceOf profileOf

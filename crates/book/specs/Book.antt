@@ -4,11 +4,10 @@ use mathlib.Core.Bool.{Bool, false, _&&_}
 use mathlib.Core.List.{List, [], _∷_, _++_}
 use mathlib.Core.Option.{Option, none, some}
 use lib.Dec.{eqb}
-use lib.ListN.{length, getD}
+use lib.ListN.{length}
 use lib.Ieee.{Float}
 use Rattle.step_order.specs.Steps.{Step, S, C, T, isStep, forerunners, rustOrder}
 use Rattle.step_order.specs.Progress.{all, join, stepsLeft}
-use Rattle.rules.specs.Arithmetic.{ieee}
 use Rattle.sheet.specs.Sheet.{Sheet}
 use Rattle.layout.specs.declared.Layout.{Layout}
 use Rattle.heading_format.specs.declared.State.{State}
@@ -16,12 +15,12 @@ use Rattle.heading_format.specs.declared.State.the-variants.{Idle, UnderWay, Fi
 use Rattle.refusal.specs.declared.Answer.{Answer}
 use Rattle.refusal.specs.declared.Answer.the-variants.{Accepted, Refused}
 use Rattle.refusal.specs.Numbers.{noRefusal, refuse}
-use Rattle.layout.specs.Shapes.{pick}
+use Rattle.layout.specs.Shapes.{pick, thetaLength}
 use Rattle.workspace.specs.Memory.{Workspace, zeros}
-use Rattle.workspace.specs.Answers.{Outcome, workspace, firstInfinite, unlessAt}
+use Rattle.workspace.specs.Answers.{Outcome, workspace, firstInfinite, unlessAt, listFault, unlessRefused}
 use Rattle.workspace.specs.Loaded.{layoutOfSheet, loadedNumbers}
 use Rattle.workspace.specs.Load.{headingOf}
-use Rattle.workspace.specs.Response.{responded}
+use Rattle.workspace.specs.Response.{Response, listsOf, responseLengths, responded}
 use Rattle.update.specs.Calls.{beginOf, runOf}
 use Rattle.profile.specs.Deviance.{profileOf}
 use Rattle.profile.specs.declared.Deviance.{Deviance}
@@ -34,8 +33,23 @@ pub record Book : Type 0 where
   pub theta : List Float
   pub done : Option (Step → Bool)
 
+-- a sheet just loaded: Record 3, none
+abbrev pub bookOf : List Float → Book
+bookOf loaded = record { loaded = loaded; theta = []; done = none }
+
+-- the book with another set or none, with another theta, with other loaded numbers
+abbrev pub withDone : Option (Step → Bool) → Book → Book
+withDone d b = record { loaded = b .loaded; theta = b .theta; done = d }
+
+abbrev pub withTheta : List Float → Book → Book
+withTheta theta b = record { loaded = b .loaded; theta = theta; done = b .done }
+
+abbrev pub withLoaded : List Float → Book → Book
+withLoaded loaded b = record { loaded = loaded; theta = b .theta; done = b .done }
+
+-- a book by all that it holds
 abbrev pub book : List Float → List Float → Option (Step → Bool) → Book
-book loaded theta d = record { loaded = loaded; theta = theta; done = d }
+book loaded theta d = withDone d (withTheta theta (bookOf loaded))
 
 -- what is written in it next
 pub record Entry : Type 0 where
@@ -73,9 +87,9 @@ module _ (sheet : Sheet) where
   inStep (C j) (Refused r) = pick (eqb (r .number) 26 && eqb (r .first) j) (Refused r) Accepted
   inStep (T i j) (Refused r) = Accepted
 
-  -- ---- load: Record 3, none
+  -- ---- load
   abbrev pub opened : Book
-  opened = book (loadedNumbers sheet layout) [] none
+  opened = bookOf (loadedNumbers sheet layout)
 
   -- ---- 13 and 14 change nothing
   abbrev pub onList : ℕ → ℕ → List Float → (Answer → Entry) → Entry → Entry
@@ -84,28 +98,20 @@ module _ (sheet : Sheet) where
 
   -- begin: its theta, the empty set
   abbrev pub onBegin : List Float → Book → Entry
-  onBegin theta b = onList 0 last theta (λ a. entry (plain a) b) (entry (plain Accepted) (book (b .loaded) theta (some nothing)))
+  onBegin theta b = onList 0 (thetaLength layout) theta (λ a. entry (plain a) b) (entry (plain Accepted) (withDone (some nothing) (withTheta theta b)))
 
-  -- `replace_response`: its response for the old, none. Every length comes before any word.
-  abbrev pub onResponse : List Float → List Float → List Float → Book → Entry
-  onResponse zy xy yy b =
-      let no : Answer → Entry = λ a. entry (plain a) b in
-      let new = responded (headingOf sheet layout) (b .loaded) zy xy (getD yy 0 (ieee .zero)) .left .doubles in
-      let good = entry (plain Accepted) (book new (b .theta) none) in
-      pick (eqb (length zy) (layout .q))
-      (pick (eqb (length xy) (layout .p))
-      (pick (eqb (length yy) 1)
-      (unlessAt (firstInfinite 0 zy) (λ i. no (refuse 14 0 i))
-      (unlessAt (firstInfinite 0 xy) (λ i. no (refuse 14 1 i)) (unlessAt (firstInfinite 0 yy) (λ i. no (refuse 14 2 i)) good)))
-      (no (refuse 13 2 0)))
-      (no (refuse 13 1 0)))
-      (no (refuse 13 0 0))
+  -- `replace_response`: its response for the old, none
+  abbrev pub onResponse : Response → Book → Entry
+  onResponse r b =
+      let new = responded (headingOf sheet layout) (b .loaded) r .left .doubles in
+      let good = entry (plain Accepted) (withDone none (withLoaded new b)) in
+      unlessRefused (listFault (responseLengths layout) (listsOf r)) (λ f. entry (plain (Refused f)) b) good
 
   -- A step: 22 with none or all done, 21, 23 in the set, 24 where a forerunner is not. Any other is ready: it refuses the pivot that the Rust's order
   -- refuses in it, and the book has none; else it joins the set.
   abbrev pub onReady : Answer → Step → (Step → Bool) → Book → Entry
-  onReady Accepted s d b = entry (plain Accepted) (book (b .loaded) (b .theta) (some (join d s)))
-  onReady (Refused r) s d b = entry (plain (Refused r)) (book (b .loaded) (b .theta) none)
+  onReady Accepted s d b = entry (plain Accepted) (withDone (some (join d s)) b)
+  onReady (Refused r) s d b = entry (plain (Refused r)) (withDone none b)
 
   abbrev pub onSet : Step → Option (Step → Bool) → Book → Entry
   onSet s none b = entry (plain (refuse 22 0 0)) b
@@ -124,8 +130,8 @@ module _ (sheet : Sheet) where
   abbrev pub onProfile : List Float → Bool → Book → Entry
   onProfile theta reml b =
       let v = fresh (b .loaded) in
-      onList 0 last theta (λ a. entry (deviance (refusedWith a)) b)
-      (entry (deviance (profileOf (v .heading) (v .doubles) theta reml .answer)) (book (b .loaded) theta (afterAll (rust (b .loaded) theta .answer))))
+      onList 0 (thetaLength layout) theta (λ a. entry (deviance (refusedWith a)) b)
+      (entry (deviance (profileOf (v .heading) (v .doubles) theta reml .answer)) (withDone (afterAll (rust (b .loaded) theta .answer)) (withTheta theta b)))
     where
       refusedWith : Answer → Deviance
       refusedWith Accepted = Denied noRefusal
@@ -134,7 +140,7 @@ module _ (sheet : Sheet) where
   abbrev pub entered : Call → Book → Entry
   entered (begin theta) b = onBegin theta b
   entered (step s) b = onSet s (b .done) b
-  entered (replaceResponse zy xy yy) b = onResponse zy xy yy b
+  entered (replaceResponse r) b = onResponse r b
   entered (profileDeviance theta reml) b = onProfile theta reml b
 
   -- the book's replies to a list of calls, and the book after it

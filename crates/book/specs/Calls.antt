@@ -8,7 +8,7 @@ use Rattle.refusal.specs.declared.Answer.{Answer}
 use Rattle.workspace.specs.Memory.{Workspace}
 use Rattle.refusal.specs.Numbers as Numbers
 use Rattle.workspace.specs.Answers.{Outcome}
-use Rattle.workspace.specs.Response.{replaceOf}
+use Rattle.workspace.specs.Response.{Response, replaceOf}
 use Rattle.update.specs.Calls.{beginOf, stepOf}
 use Rattle.profile.specs.declared.Deviance.{Deviance}
 use Rattle.profile.specs.Deviance as Deviances
@@ -18,8 +18,7 @@ use Rattle.profile.specs.Deviance.{Profiled, profileOf}
 pub data Call : Type 0 where
   begin : List Float → Call
   step : Step → Call
-  -- Z'y, X'y, y'y
-  replaceResponse : List Float → List Float → List Float → Call
+  replaceResponse : Response → Call
   -- theta, and whether the mode is REML
   profileDeviance : List Float → Bool → Call
 
@@ -47,7 +46,7 @@ profiled o = record { reply = deviance (o .answer); left = o .left }
 abbrev pub called : Call → Workspace → Called
 called (begin theta) v = outcome (beginOf (v .heading) (v .doubles) theta)
 called (step s) v = outcome (stepOf (v .heading) (v .doubles) s)
-called (replaceResponse zy xy yy) v = outcome (replaceOf (v .heading) (v .doubles) zy xy yy)
+called (replaceResponse r) v = outcome (replaceOf (v .heading) (v .doubles) r)
 called (profileDeviance theta reml) v = profiled (profileOf (v .heading) (v .doubles) theta reml)
 
 -- the replies of a list of calls, and what the last one leaves

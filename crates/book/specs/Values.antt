@@ -2,10 +2,8 @@
 use Prim.Native.Nat.{ℕ}
 use mathlib.Core.List.{List}
 use mathlib.Core.Option.{Option}
-use lib.ListN.{getD}
 use lib.Ieee.{Float}
 use Rattle.step_order.specs.Elimination.{Rules, value, final, total, refusedAt}
-use Rattle.rules.specs.Arithmetic.{ieee}
 use Rattle.sheet.specs.Sheet.{Sheet}
 use Rattle.heading_format.specs.Heading.{layoutOf, entryRow}
 use Rattle.workspace.specs.Memory.{loadedBlock, loadedSome}
@@ -22,8 +20,7 @@ module _ (sheet : Sheet) (loaded theta : List Float) where
   abbrev pub startHere : ℕ → ℕ → List Float
   startHere i j =
       let v = fresh sheet loaded in
-      let t : ℕ → Float = λ b. getD theta (getD (layoutOf (v .heading) .order) b 0) (ieee .zero) in
-      scaled (layoutOf (v .heading)) (entryRow (v .heading)) (loadedSome (v .heading) (v .doubles)) t i j (loadedBlock (v .heading) (v .doubles) i j)
+      scaled (layoutOf (v .heading)) (entryRow (v .heading)) (loadedSome (v .heading) (v .doubles)) theta i j (loadedBlock (v .heading) (v .doubles) i j)
 
   -- block (i, j) after n of its steps, and after all of them; the logarithms' sum after C(0), .., C(n - 1); the pivot that the Rust's order refuses
   abbrev pub valueAt : ℕ → ℕ → ℕ → List Float

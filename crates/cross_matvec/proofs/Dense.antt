@@ -2,13 +2,15 @@
 use Prim.Native.Nat.{ℕ, suc, _+_, _≤_, _<_}
 use mathlib.Core.Path.{_≡_, refl, sym, ap, ap₂, _∙_}
 use mathlib.Core.List.{List}
-use mathlib.Core.Logic.{_⊎_, inr}
+use mathlib.Core.Logic.{inr, ⊎-swap}
 use native.Mathlib.Omega.{arith}
 use lib.ListN.{length, set}
 use lib.Ieee.{Float, nan}
 use Rattle.storage.specs.Runs.{start, dense}
 use Rattle.storage.specs.Shape.{columns, sizeOf}
 use Rattle.storage.specs.Part.{store}
+use Rattle.storage.specs.declared.Block.{Block}
+use Rattle.storage.specs.Placed.{Lies, asColumns, read}
 use Rattle.storage.proofs.Starts.{start-dense, start-below}
 use Rattle.storage.proofs.Cells.{tab-ext}
 use Rattle.storage.proofs.Filling.{Filling, filling-none, filling-done, filling-else, filling-apart, filling-next, filling-run}
@@ -18,7 +20,7 @@ use Rattle.block_runs.specs.blocks.Blocks.{block, entry}
 use Rattle.block_runs.proofs.blocks.Laws.{read-block, has-dense}
 use Rattle.block_runs.specs.axpy.Axpy.{at, run, along, products}
 use Rattle.block_runs.proofs.axpy.Sums.{sum-along, along-ext, start-add, summed}
-use Rattle.cross_matvec.specs.Products.{subtractedProduct, subtractedProductT, columnSum, minusColumn, subtractColumns}
+use Rattle.cross_matvec.specs.Products.{Sides, subtractedProduct, subtractedProductT, columnSum, minusColumn, subtractColumns}
 use Rattle.cross_matvec.proofs.Vectors.{read-entry}
 
 -- the vector at z is the one row of a block
@@ -28,19 +30,19 @@ one-row z n v fits x l =
     ∙ read-entry z n v x l fits
 
 -- ---- going forward
-module _ (off rows z cols a : ℕ) (w v v′ acc acc₁ acc₂ : List Float) (room : rows ≤ length acc) (fits : off + rows ≤ length v) (fits-z : z + cols ≤ length v) where
-  pub sums-subtracted : acc₁ ≡ run 0 rows (λ i. ieee .zero) acc → acc₂ ≡ products (ieee .plus) acc₁ rows w a rows v z 1 0 cols
-      → (to : ℕ) → to ≡ off → v′ ≡ run to rows (λ i. ieee .minus (at v (to + i)) (at acc₂ i)) v → v′ ≡ subtractedProduct off rows z cols a w v
-  sums-subtracted first then to e so =
+module _ (to z : ℕ) (a : Block) (w v v′ acc acc₁ acc₂ : List Float) (room : a .rows ≤ length acc) (sides : Sides (length v) to z a) where
+  pub sums-subtracted : acc₁ ≡ run 0 (a .rows) (λ i. ieee .zero) acc → acc₂ ≡ products (ieee .plus) acc₁ (a .rows) w (a .at) (a .rows) v z 1 0 (a .cols)
+      → (k : ℕ) → k ≡ to → v′ ≡ run k (a .rows) (λ i. ieee .minus (at v (k + i)) (at acc₂ i)) v → v′ ≡ subtractedProduct to z a w v
+  sums-subtracted first then k e so =
       so
-      ∙ ap (λ (k : ℕ). run k rows (λ i. ieee .minus (at v (k + i)) (at acc₂ i)) v) e
-      ∙ ap (λ (l : List Float). store off l v)
-      (tab-ext rows _ _
+      ∙ ap (λ (x : ℕ). run x a.rows (λ i. ieee .minus (at v (x + i)) (at acc₂ i)) v) e
+      ∙ ap (λ (l : List Float). store to l v)
+      (tab-ext a.rows _ _
       (λ i l.
-      ap₂ ieee.minus (read-entry off rows v i l fits)
-      (summed ieee.plus rows w a rows v z 1 0 cols acc acc₁ acc₂ (λ x. ieee .zero) room first then i l
-      ∙ along-ext ieee.plus _ _ _ _ _ _ cols refl (λ x m. refl) (one-row z cols v fits-z)
-      ∙ sum-along ieee.zero (block a (columns rows cols) w i) (entry z cols v) cols)))
+      ap₂ ieee.minus (read-entry to a.rows v i l sides.rows)
+      (summed ieee.plus a.rows w a.at a.rows v z 1 0 a.cols acc acc₁ acc₂ (λ x. ieee .zero) room first then i l
+      ∙ along-ext ieee.plus _ _ _ _ _ _ a.cols refl (λ x m. refl) (one-row z a.cols v sides.cols)
+      ∙ sum-along ieee.zero (read (asColumns a) w i) (entry z a.cols v) a.cols)))
 
 -- a column times a vector is the rule's sum of what they hold
 pub column-sum : (w : List Float) (p : ℕ) (v : List Float) (z n : ℕ) (a b : ℕ → Float) → ((i : ℕ) → i < n → at w (p + i) ≡ a i) → ((i : ℕ) → i < n → at v (z + i) ≡ b i)
@@ -82,29 +84,29 @@ four-subtracted to p rows z w v v′ s s1 s2 s3 is is1 is2 is3 so =
     place : {x y : ℕ} → x ≡ y → columnSum w x v z rows ≡ columnSum w y v z rows
     place e = ap (λ (x : ℕ). columnSum w x v z rows) e
 
-module _ (off cols z rows a : ℕ) (w v₀ : List Float) (fits : off + cols ≤ length v₀) where
+module _ (to z : ℕ) (a : Block) (w v₀ : List Float) (sides : Sides (length v₀) z to a) where
   -- c columns and k more; the block may lie in the list that is written, if it stays as it was
-  pub columns-more : {c : ℕ} {v₁ v₂ : List Float} (w₁ : List Float) (k : ℕ) → Filling (minusColumn off a rows z w v₀) off cols v₀ v₁ c → c + k ≤ cols
-      → (off + cols ≤ z) ⊎ (z + rows ≤ off) → ((i : ℕ) → i < sizeOf (columns rows cols) → at w₁ (a + i) ≡ at w (a + i))
-      → (to p : ℕ) → to ≡ off + c → p ≡ a + start (dense rows) c → v₂ ≡ subtractColumns to k p rows z w₁ v₁
-      → Filling (minusColumn off a rows z w v₀) off cols v₀ v₂ (c + k)
-  columns-more {c} {v₁} {v₂} w₁ k h top apart same to p e d then =
-      filling-run h k (minusColumn to p rows z w₁ v₁) to v₂ e top
+  pub columns-more : {c : ℕ} {v₁ v₂ : List Float} (w₁ : List Float) (k : ℕ) → Filling (minusColumn to (a .at) (a .rows) z w v₀) to (a .cols) v₀ v₁ c → c + k ≤ a .cols
+      → ((i : ℕ) → i < sizeOf (columns (a .rows) (a .cols)) → at w₁ (a .at + i) ≡ at w (a .at + i))
+      → (p : ℕ) → p ≡ a .at + start (dense (a .rows)) c → v₂ ≡ subtractColumns (to + c) k p (a .rows) z w₁ v₁
+      → Filling (minusColumn to (a .at) (a .rows) z w v₀) to (a .cols) v₀ v₂ (c + k)
+  columns-more {c} {v₁} {v₂} w₁ k h top same p d then =
+      filling-run h k (minusColumn (to + c) p a.rows z w₁ v₁) (to + c) v₂ refl top
       (λ i l.
-      ap₂ ieee.minus (filling-else h nan (to + i) (inr (omega arith)) ∙ ap (at v₀) (omega arith))
-      (along-ext ieee.plus _ _ _ _ _ _ rows refl
-      (λ r m. ap (at w₁) (omega (arith, start-add rows c i)) ∙ same (start (dense rows) (c + i) + r) (omega (arith, start-below (dense rows) (c + i) cols (omega arith)))
-      ∙ ap (at w) (omega arith))
-      (filling-apart h nan z rows apart)))
+      ap₂ ieee.minus (filling-else h nan (to + c + i) (inr (omega arith)) ∙ ap (at v₀) (omega arith))
+      (along-ext ieee.plus _ _ _ _ _ _ a.rows refl
+      (λ r m. ap (at w₁) (omega (arith, start-add a.rows c i))
+      ∙ same (start (dense a.rows) (c + i) + r) (omega (arith, start-below (dense a.rows) (c + i) a.cols (omega arith))) ∙ ap (at w) (omega arith))
+      (filling-apart h nan z a.rows (⊎-swap sides.apart))))
       then
 
   -- each entry is the rule's
-  pub columns-done : a + sizeOf (columns rows cols) ≤ length w → z + rows ≤ length v₀ → subtractColumns off cols a rows z w v₀ ≡ subtractedProductT off cols z rows a w v₀
-  columns-done room fits-z =
-      ap (λ (l : List Float). store off l v₀)
-      (tab-ext cols _ _
+  pub columns-done : Lies (length w) (asColumns a) → subtractColumns to (a .cols) (a .at) (a .rows) z w v₀ ≡ subtractedProductT to z a w v₀
+  columns-done room =
+      ap (λ (l : List Float). store to l v₀)
+      (tab-ext a.cols _ _
       (λ c l.
-      ap₂ ieee.minus (read-entry off cols v₀ c l fits)
-      (column-sum w (a + start (dense rows) c) v₀ z rows (λ r. block a (columns rows cols) w r c) (entry z rows v₀)
-      (λ r m. read-block (columns rows cols) a w r c (a + start (dense rows) c + r) (has-dense rows cols r c m l) room (omega arith))
-      (λ r m. read-entry z rows v₀ r m fits-z))))
+      ap₂ ieee.minus (read-entry to a.cols v₀ c l sides.cols)
+      (column-sum w (a.at + start (dense (a .rows)) c) v₀ z a.rows (λ r. read (asColumns a) w r c) (entry z a.rows v₀)
+      (λ r m. read-block (columns a.rows a.cols) a.at w r c (a.at + start (dense (a .rows)) c + r) (has-dense a.rows a.cols r c m l) room (omega arith))
+      (λ r m. read-entry z a.rows v₀ r m sides.rows))))

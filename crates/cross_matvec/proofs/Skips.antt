@@ -21,8 +21,9 @@ use Rattle.rules.specs.Solves.{sparseMatvecSub}
 use Rattle.block_runs.specs.blocks.Blocks.{entry}
 use Rattle.block_runs.specs.axpy.Axpy.{at, run}
 use Rattle.block_runs.proofs.axpy.Sums.{read-run}
-use Rattle.cross_matvec.specs.Products.{subtractEntry}
-use Rattle.cross_matvec.proofs.Vectors.{run-else, same-entry}
+use Rattle.storage.specs.declared.Block.{Block}
+use Rattle.cross_matvec.specs.Products.{Sides, subtractEntry}
+use Rattle.cross_matvec.proofs.Vectors.{read-entry, run-else, same-entry}
 
 -- one cell of a run written anew
 module _ (to n : ℕ) (f f′ : ℕ → Float) (w : List Float) (fits : to + n ≤ length w) (r : ℕ) (here : r < n)
@@ -56,50 +57,53 @@ skipped : (b : Bool) (p q : Float) → cond (b && not true) p q ≡ q
 skipped true p q = refl
 skipped false p q = refl
 
-module _ (off rows z cols : ℕ) (row : ℕ → ℕ) (X : ℕ → Float) (w₀ : List Float)
-    (fits : off + rows ≤ length w₀) (fits-z : z + cols ≤ length w₀) (apart : (off + rows ≤ z) ⊎ (z + cols ≤ off)) where
+module _ (to z : ℕ) (a : Block) (row : ℕ → ℕ) (w v₀ : List Float) (sides : Sides (length v₀) to z a) where
   abbrev rule : ℕ → ℕ → Float
-  rule c = sparseMatvecSub ieee row X (entry z cols w₀) (entry off rows w₀) c
+  rule c = sparseMatvecSub ieee row (entry a.at a.cols w) (entry z a.cols v₀) (entry to a.rows v₀) c
 
-  pub skip-none : w₀ ≡ run off rows (rule 0) w₀
+  pub skip-none : v₀ ≡ run to (a .rows) (rule 0) v₀
   unfolding subtractFrom
   skip-none =
+      let long = length-part to a.rows v₀ sides.rows in
       sym
-      (ap (λ (l : List Float). store off l w₀)
+      (ap (λ (l : List Float). store to l v₀)
       (sym
-      (sym (take-all rows (part off rows w₀) (omega (arith, length-part off rows w₀ fits)))
-      ∙ take-tab ieee.zero rows (entry off rows w₀) (part off rows w₀) (omega (arith, length-part off rows w₀ fits)) (λ i p. refl)))
-      ∙ store-part off rows w₀ fits)
+      (sym (take-all a.rows (part to a.rows v₀) (omega arith))
+      ∙ take-tab ieee.zero a.rows (entry to a.rows v₀) (part to a.rows v₀) (omega arith) (λ i p. refl)))
+      ∙ store-part to a.rows v₀ sides.rows)
 
-  module _ (c : ℕ) (more : c < cols) (w : List Float) (so : w ≡ run off rows (rule c) w₀) (r : ℕ) (here : r < rows) (e : r ≡ row c) where
-    -- the source, and entry i after c products when the product counts there if b is true
+  module _ (c : ℕ) (more : c < a .cols) (v : List Float) (so : v ≡ run to (a .rows) (rule c) v₀) (r : ℕ) (here : r < a .rows) (e : r ≡ row c) where
+    -- the entry of column c times its source, and entry i after c products when this one counts there if b is true
     abbrev source : Float
-    source = entry z cols w₀ c
+    source = entry z a.cols v₀ c
+
+    abbrev product : Float
+    product = ieee.times (entry a.at a.cols w c) source
 
     abbrev less : Bool → ℕ → Float
-    less b i = cond b (ieee.minus (rule c i) (ieee.times (X c) source)) (rule c i)
+    less b i = cond b (ieee.minus (rule c i) product) (rule c i)
 
     -- what the turn makes of the list, by whether the source is ±0
-    made : (b : Bool) → ieee .null source ≡ b
-        → cond b w (set w (off + r) (ieee .minus (at w (off + r)) (ieee .times (X c) source))) ≡ run off rows (rule (suc c)) w₀
+    made : (b : Bool) → ieee .null source ≡ b → cond b v (set v (to + r) (ieee .minus (at v (to + r)) product)) ≡ run to (a .rows) (rule (suc c)) v₀
     unfolding subtractFrom
     made true h =
         so
-        ∙ ap (λ (l : List Float). store off l w₀)
-        (tab-ext rows (rule c) (rule (suc c))
-        (λ i p. sym (ap (λ (b : Bool). less (eqb (row c) i && not b) i) h ∙ skipped (eqb (row c) i) (ieee.minus (rule c i) (ieee.times (X c) source)) (rule c i))))
+        ∙ ap (λ (l : List Float). store to l v₀)
+        (tab-ext a.rows (rule c) (rule (suc c))
+        (λ i p. sym (ap (λ (b : Bool). less (eqb (row c) i && not b) i) h ∙ skipped (eqb (row c) i) (ieee.minus (rule c i) product) (rule c i))))
     made false h =
-        ap (λ (l : List Float). set l (off + r) (ieee.minus (at l (off + r)) (ieee.times (X c) source))) so
-        ∙ cell-anew off rows (rule c) (rule (suc c)) w₀ fits r here
+        ap (λ (l : List Float). set l (to + r) (ieee.minus (at l (to + r)) product)) so
+        ∙ cell-anew to a.rows (rule c) (rule (suc c)) v₀ sides.rows r here
         (λ i p. ap (λ (b : Bool). less (b && not (ieee.null source)) i) (sym (ne-eqb (row c) i (λ k. p (sym k ∙ sym e)))))
         _
-        (ap (λ (x : Float). ieee .minus x (ieee.times (X c) source)) (read-run off rows (rule c) w₀ fits r (off + r) here refl)
+        (ap (λ (x : Float). ieee .minus x product) (read-run to a.rows (rule c) v₀ sides.rows r (to + r) here refl)
         ∙ ap₂ (λ (b d : Bool). less (b && not d) r) (sym (eq-eqb (row c) r (sym e))) (sym h))
 
-    pub skip-more : (x : Float) → x ≡ X c → (w′ : List Float) → w′ ≡ subtractEntry (off + r) x (at w (z + c)) w → w′ ≡ run off rows (rule (suc c)) w₀
-    skip-more x f w′ g =
+    pub skip-more : a .at + a .cols ≤ length w → (v′ : List Float) → v′ ≡ subtractEntry (to + r) (at w (a .at + c)) (at v (z + c)) v → v′ ≡ run to (a .rows) (rule (suc c)) v₀
+    skip-more fits v′ g =
         g
-        ∙ ap₂ (λ (y s : Float). subtractEntry (off + r) y s w) f (same-entry off rows (rule c) w₀ fits rows (omega arith) w so z cols apart c more fits-z)
+        ∙ ap₂ (λ (y s : Float). subtractEntry (to + r) y s v) (read-entry a.at a.cols w c more fits)
+        (same-entry to a.rows (rule c) v₀ sides.rows a.rows (omega arith) v so z a.cols sides.apart c more sides.cols)
         ∙ made (ieee.null source) refl
 
 -- the test of the code is the rule's

@@ -2,7 +2,7 @@
 use Prim.Native.Nat.{ℕ, _+_, _≤_, _<_}
 use mathlib.Core.Path.{_≡_, refl, sym, ap, ap₂, _∙_}
 use mathlib.Core.List.{List}
-use mathlib.Core.Logic.{_⊎_, inl, inr, ⊎-elim}
+use mathlib.Core.Logic.{_⊎_, inl, inr, ⊎-elim, ⊎-swap}
 use native.Mathlib.Omega.{arith}
 use lib.ListN.{length, set}
 use lib.Ieee.{Float, nan}
@@ -14,6 +14,8 @@ use Rattle.rules.specs.Arithmetic.{ieee}
 use Rattle.rules.specs.Solves.{sparseMatvecTSub}
 use Rattle.block_runs.specs.blocks.Blocks.{entry}
 use Rattle.block_runs.specs.axpy.Axpy.{at, run}
+use Rattle.storage.specs.declared.Block.{Block}
+use Rattle.cross_matvec.specs.Products.{Sides}
 
 -- a double read at its place is the vector's entry
 pub read-entry : (off n : ℕ) (w : List Float) (i : ℕ) → i < n → off + n ≤ length w → at w (off + i) ≡ entry off n w i
@@ -37,15 +39,14 @@ module _ (off n : ℕ) (g : ℕ → Float) (w₀ : List Float) (fits : off + n �
   same-entry room = same-read ∙ read-entry z m w₀ j l room
 
 -- one entry more less the transpose of a sparse block
-module _ (off cols z rows x : ℕ) (row : ℕ → ℕ) (w v₀ : List Float) (fits : off + cols ≤ length v₀) (fits-z : z + rows ≤ length v₀)
-    (fits-x : x + cols ≤ length w) (apart : (off + cols ≤ z) ⊎ (z + rows ≤ off)) where
+module _ (to z : ℕ) (a : Block) (row : ℕ → ℕ) (w v₀ : List Float) (sides : Sides (length v₀) z to a) (fits : a .at + a .cols ≤ length w) where
   abbrev rule : ℕ → Float
-  rule = sparseMatvecTSub ieee row (entry x cols w) (entry z rows v₀) (entry off cols v₀)
+  rule = sparseMatvecTSub ieee row (entry a.at a.cols w) (entry z a.rows v₀) (entry to a.cols v₀)
 
-  pub sparse-subtracted : {c : ℕ} {v : List Float} → Filling rule off cols v₀ v c → c < cols → (r : ℕ) → r < rows → r ≡ row c
-      → Filling rule off cols v₀ (set v (off + c) (ieee .minus (at v (off + c)) (ieee .plus (ieee .zero) (ieee .times (at w (x + c)) (at v (z + r)))))) (c + 1)
+  pub sparse-subtracted : {c : ℕ} {v : List Float} → Filling rule to (a .cols) v₀ v c → c < a .cols → (r : ℕ) → r < a .rows → r ≡ row c
+      → Filling rule to (a .cols) v₀ (set v (to + c) (ieee .minus (at v (to + c)) (ieee .plus (ieee .zero) (ieee .times (at w (a .at + c)) (at v (z + r)))))) (c + 1)
   sparse-subtracted {c} {v} h more r below e =
-      filling-next h (λ (s : Float). ieee .minus s (ieee.plus ieee.zero (ieee.times (at w (x + c)) (at v (z + r))))) nan refl more
-      (ap₂ (λ (s t : Float). ieee .minus s (ieee.plus ieee.zero t)) (read-entry off cols v₀ c more fits)
-      (ap₂ ieee.times (read-entry x cols w c more fits-x)
-      (filling-apart h nan z rows apart r below ∙ read-entry z rows v₀ r below fits-z ∙ ap (entry z rows v₀) e)))
+      filling-next h (λ (s : Float). ieee .minus s (ieee.plus ieee.zero (ieee.times (at w (a.at + c)) (at v (z + r))))) nan refl more
+      (ap₂ (λ (s t : Float). ieee .minus s (ieee.plus ieee.zero t)) (read-entry to a.cols v₀ c more sides.cols)
+      (ap₂ ieee.times (read-entry a.at a.cols w c more fits)
+      (filling-apart h nan z a.rows (⊎-swap sides.apart) r below ∙ read-entry z a.rows v₀ r below sides.rows ∙ ap (entry z a.rows v₀) e)))

@@ -1,37 +1,57 @@
--- A vector less a block times a vector (document 01, Record 7). The vectors lie in the list v, the blocks in w: the target's entries become the
+-- A vector less a block times a vector (document 01, Record 7). The vectors lie in the list v, the block a in w: the entries from `to` on become the
 -- rule's, and every other double stays.
-use Prim.Native.Nat.{ℕ, _+_}
+use Prim.Native.Nat.{ℕ, _+_, _≤_, _<_}
 use mathlib.Core.Bool.{cond}
 use mathlib.Core.List.{List}
-use lib.ListN.{set}
+use mathlib.Core.Logic.{_⊎_}
+use lib.ListN.{length, getD, set}
 use lib.Ieee.{Float}
-use Rattle.storage.specs.Runs.{start, dense, tab}
-use Rattle.storage.specs.Shape.{columns}
-use Rattle.storage.specs.Part.{store}
+use Rattle.storage.specs.Runs.{start, dense}
+use Rattle.storage.specs.Shape.{columns, sizeOf}
+use Rattle.storage.specs.declared.Block.{Block}
+use Rattle.storage.specs.Placed.{asColumns, read}
 use Rattle.rules.specs.Arithmetic.{ieee}
 use Rattle.rules.specs.Solves.{matvecSub, sparseMatvecSub, matvecTSub, sparseMatvecTSub}
-use Rattle.block_runs.specs.blocks.Blocks.{block, entry}
+use Rattle.block_runs.specs.blocks.Blocks.{entry}
 use Rattle.block_runs.specs.axpy.Axpy.{at, run, along}
 
--- v of `rows` entries at off less the dense block at a times the `cols` entries at z
-abbrev pub subtractedProduct : (off rows z cols a : ℕ) → List Float → List Float → List Float
-subtractedProduct off rows z cols a w v =
-    store off (tab rows (matvecSub ieee (block a (columns rows cols) w) (entry z cols v) (entry off rows v) cols)) v
+-- a vector from r on with an entry for each row of block a, and one from c on with an entry for each of its columns: within n doubles, and apart
+pub record Sides (n r c : ℕ) (a : Block) : Type 0 where
+  pub rows : r + a .rows ≤ n
+  pub cols : c + a .cols ≤ n
+  pub apart : (r + a .rows ≤ c) ⊎ (c + a .cols ≤ r)
 
--- v of `cols` entries at off less the transpose of the dense block at a times the `rows` entries at z
-abbrev pub subtractedProductT : (off cols z rows a : ℕ) → List Float → List Float → List Float
-subtractedProductT off cols z rows a w v =
-    store off (tab cols (matvecTSub ieee (block a (columns rows cols) w) (entry z rows v) (entry off cols v) rows)) v
+-- block a by columns, and a vector from c on with an entry for each of them: apart
+abbrev pub Clear : (c : ℕ) → Block → Type 0
+Clear c a = (c + a .cols ≤ a .at) ⊎ (a .at + sizeOf (columns (a .rows) (a .cols)) ≤ c)
 
--- v of `cols` entries at off less the transpose of the sparse block at x times the `rows` entries at z
-abbrev pub subtractedSparseProductT : (off cols z rows x : ℕ) (row : ℕ → ℕ) → List Float → List Float → List Float
-subtractedSparseProductT off cols z rows x row w v =
-    store off (tab cols (sparseMatvecTSub ieee row (entry x cols w) (entry z rows v) (entry off cols v))) v
+-- the row of the entry in column c of a sparse block, by the list of these rows
+abbrev pub rowIn : List ℕ → ℕ → ℕ
+rowIn rows c = getD rows c 0
 
--- v of `rows` entries at off less the sparse block at x times the `cols` entries at z, where a source of ±0 is skipped
-abbrev pub subtractedSparseProduct : (off rows z cols x : ℕ) (row : ℕ → ℕ) → List Float → List Float → List Float
-subtractedSparseProduct off rows z cols x row w v =
-    store off (tab rows (sparseMatvecSub ieee row (entry x cols w) (entry z cols v) (entry off rows v) cols)) v
+-- it has one for each column of block a, which is one of its rows
+abbrev pub HasRows : List ℕ → Block → Type 0
+HasRows rows a = (a .cols ≤ length rows) × ((c : ℕ) → c < a .cols → rowIn rows c < a .rows)
+
+-- forward: less the dense block a times the vector at z
+abbrev pub subtractedProduct : (to z : ℕ) → Block → List Float → List Float → List Float
+subtractedProduct to z a w v =
+    run to (a .rows) (matvecSub ieee (read (asColumns a) w) (entry z (a .cols) v) (entry to (a .rows) v) (a .cols)) v
+
+-- backward: less its transpose times the vector at z
+abbrev pub subtractedProductT : (to z : ℕ) → Block → List Float → List Float → List Float
+subtractedProductT to z a w v =
+    run to (a .cols) (matvecTSub ieee (read (asColumns a) w) (entry z (a .rows) v) (entry to (a .cols) v) (a .rows)) v
+
+-- forward: less the sparse block a, whose column c has its entry in row `row c`, times the vector at z, where a source of ±0 is skipped
+abbrev pub subtractedSparseProduct : (row : ℕ → ℕ) (to z : ℕ) → Block → List Float → List Float → List Float
+subtractedSparseProduct row to z a w v =
+    run to (a .rows) (sparseMatvecSub ieee row (entry (a .at) (a .cols) w) (entry z (a .cols) v) (entry to (a .rows) v) (a .cols)) v
+
+-- backward: less its transpose times the vector at z
+abbrev pub subtractedSparseProductT : (row : ℕ → ℕ) (to z : ℕ) → Block → List Float → List Float → List Float
+subtractedSparseProductT row to z a w v =
+    run to (a .cols) (sparseMatvecTSub ieee row (entry (a .at) (a .cols) w) (entry z (a .rows) v) (entry to (a .cols) v)) v
 
 -- ---- what the loops leave, double by double
 -- the sum of the products of n doubles from p on in w with those from z on in v

@@ -1,34 +1,28 @@
 // A sparse cross block going backward (document 01, Record 7): sums from 0.0, subtracted once.
 ghost use mathlib.Core.Path.{_≡_};
-ghost use mathlib.Core.Logic.{_⊎_};
-ghost use Prim.Native.Nat.{_+_, _≤_, _<_};
 ghost use lib.ListN.{length};
-ghost use Rattle.block_runs.specs.blocks.Blocks.{rowFrom, RowsBelow};
-ghost use Rattle.cross_matvec.specs.Products.{subtractedSparseProductT};
+ghost use Rattle.storage.specs.Placed.{Lies, asEntries};
+ghost use Rattle.cross_matvec.specs.Products.{HasRows, Sides, rowIn, subtractedSparseProductT};
 use crate::sparse_matvec;
+use storage::Block;
 
-// Going backward: the vector at off less the transpose of a sparse block, whose entries are at x of `doubles`, times the vector at z.
+// Going backward: the vector at `to` less the transpose of a sparse block, the rows of whose entries are in `rows`, times the vector at z.
 pub fn sparse_matvec_t_sub(
     v: &mut [f64],
-    off: usize,
-    cols: usize,
+    to: usize,
     z: usize,
-    rows: usize,
     doubles: &[f64],
-    x: usize,
-    heading: &[u32],
-    first: usize,
+    a: Block,
+    rows: &[u32],
 )
-    requires { ⌜ (off + cols ≤ length (now v)) × (z + rows ≤ length (now v)) × (x + cols ≤ length (now doubles)) × (first + cols ≤ length (now heading)) ⌝ }
-    requires { ⌜ (off + cols ≤ z) ⊎ (z + rows ≤ off) ⌝ }
-    requires { ⌜ RowsBelow (now heading) first cols rows ⌝ }
-    ensures { λ _. ⌜ now (v .exit) ≡ subtractedSparseProductT off cols z rows x (rowFrom (now (heading .entry)) first) (now (doubles .entry)) (now (v .entry)) ⌝ }
+    requires { ⌜ Sides (length (now v)) z to a × Lies (length (now doubles)) (asEntries (rowIn (now rows)) a) × HasRows (now rows) a ⌝ }
+    ensures { λ _. ⌜ now (v .exit) ≡ subtractedSparseProductT (rowIn (now (rows .entry))) to z a (now (doubles .entry)) (now (v .entry)) ⌝ }
 {
     let mut c = 0;
-    while c < cols {
-        let r = sparse_matvec::wide(heading[first + c]);
-        let s = 0.0 + doubles[x + c] * v[z + r];
-        v[off + c] = v[off + c] - s;
+    while c < a.cols {
+        let r = sparse_matvec::wide(rows[c]);
+        let s = 0.0 + doubles[a.at + c] * v[z + r];
+        v[to + c] = v[to + c] - s;
         c += 1;
     }
 }

@@ -18,20 +18,16 @@ use Rattle.workspace.specs.Memory.{Workspace}
 use Rattle.book.specs.Book.{Book, last, bookLeft, bookState, bookSet}
 use Rattle.demand3.specs.Demand.{Agrees}
 use Rattle.update.proofs.progress_laws.Moves.{stays-valid}
-use Rattle.demand3.proofs.invariant.Invariant.{Site, Begun, Updating, Invariant}
-use Rattle.demand3.proofs.invariant.Site.{layout-of, progress-of, heading-behind, heading-many}
+use Rattle.demand3.proofs.invariant.Invariant.{Site, Updating, Invariant}
+use Rattle.demand3.proofs.invariant.Site.{layout-of, progress-of, unused-kept, heading-behind, heading-many}
 use Rattle.storage.proofs.Cells.{default-at}
+use Rattle.heading_format.specs.Parts.{mostTargets}
 
 -- with none, no step is done
 idle-undone : (k : ℕ) (s : Step) → done (stageOf (idle k)) s ≡ false
-idle-undone k s = le-ltb (index s) (stageOf (idle k) (row s) (col s)) (omega (arith, default-at {A = ℕ} 0 45 (start triangle (row s) + col s)))
+idle-undone k s = le-ltb (index s) (stageOf (idle k) (row s) (col s)) (omega (arith, default-at {A = ℕ} 0 mostTargets (start triangle (row s) + col s)))
 
 module _ (sheet : Sheet) where
-  -- an update with its set, taken apart
-  pub begun-of : (b : Book) (o : Option (Step → Bool)) (g : Progress) (v : Workspace) (d : Step → Bool) → o ≡ some d → Updating sheet b o g v
-      → (g .state ≡ bookState sheet (some d)) × Begun sheet (b .loaded) (b .theta) d g v
-  begun-of b o g v d e u = subst (λ (x : Option (Step → Bool)). Updating sheet b x g v) e u
-
   module _ (b : Book) (g : Progress) (v : Workspace) where
     state-said : (o : Option (Step → Bool)) → Updating sheet b o g v → g .state ≡ bookState sheet o
     state-said none u = ap (λ (x : Progress). x .state) u
@@ -56,8 +52,9 @@ module _ (sheet : Sheet) where
         left = ap (λ (x : Progress). x .left) p ∙ left-said b g v b.done (stays-valid (last sheet) g s.valid-progress .left) s.updating;
         set = λ x n. ap (λ (z : Progress). done (stageOf z) x) p ∙ set-said b g v b.done s.updating x n;
         doubles-behind = s.unwritten;
+        unused-kept = unused-kept sheet h w here b v s;
         heading-behind = heading-behind sheet h w here b v s;
-        theta-kept = λ d e. begun-of b b.done g v d e s.updating .1 .theta-kept;
+        theta-kept = λ d e. subst (λ (o : Option (Step → Bool)). Updating sheet b o g v) e s.updating .1 .theta-kept;
         doubles-many = s.many;
         numbers-many = heading-many sheet h w here b v s;
       }

@@ -18,7 +18,7 @@ module _ (sheet : Sheet) (h : List ℕ) (w : List Float) (here : Site sheet h w)
   pub follows : (b : Book) (v : Workspace) → Invariant sheet h w b v → (c : Call) → Follows sheet h w b v c
   follows b v s (begin theta) = begin-follows sheet h w here b v s theta
   follows b v s (step x) = step-follows sheet h w here b v s x
-  follows b v s (replaceResponse zy xy yy) = response-follows sheet h w here b v s zy xy yy
+  follows b v s (replaceResponse r) = response-follows sheet h w here b v s r
   follows b v s (profileDeviance theta reml) = profile-follows sheet h w here b v s theta reml
 
   -- a list of them: what it leaves

@@ -8,121 +8,63 @@ use mathlib.Core.Option.{Option, none, some}
 use native.Mathlib.Omega.{arith}
 use lib.Dec.{eqb}
 use lib.Ieee.{Float}
-use borrow.Author.Tests.{eqb-true, eq-eqb, ltb-true, lt-ltb}
-use Rattle.storage.specs.Shape.{Shape, packed}
+use borrow.Author.Tests.{eqb-true, eq-eqb, ltb-true}
+use Rattle.storage.specs.Shape.{Shape}
 use Rattle.step_order.specs.Steps.{Step, C}
 use Rattle.step_order.specs.Elimination.{value}
-use Rattle.step_order.specs.Progress.{State, done, stepsLeft}
-use Rattle.step_order.proofs.Invariant.{Held, held-done}
-use Rattle.step_order.proofs.Left.{left-represents, all-finished}
-use Rattle.step_order.proofs.Refusal.{none-refused}
+use Rattle.step_order.specs.Progress.{stepsLeft}
+use Rattle.step_order.proofs.Left.{none-left}
 use Rattle.rules.specs.Arithmetic.{ieee}
 use Rattle.sheet.specs.Sheet.{Sheet}
 use Rattle.layout.specs.declared.Layout.{Layout}
-use Rattle.heading_format.specs.declared.State as States
-use Rattle.heading_format.specs.declared.State.the-variants.{Idle, UnderWay, Finished}
-use Rattle.layout.specs.Shapes.{pick, shape}
+use Rattle.heading_format.specs.declared.State.the-variants.{UnderWay, Finished}
+use Rattle.layout.specs.Shapes.{pick, shape, lastShape}
 use Rattle.heading_format.specs.Heading.{layoutOf, entryRow, stageOf}
-use Rattle.workspace.specs.Memory.{Workspace, workingBlock, cellOf, logSum}
+use Rattle.workspace.specs.Memory.{Workspace, workingBlock, cellOf}
 use Rattle.workspace.specs.Load.{headingOf}
 use Rattle.update.specs.Working.{pivotCount}
-use Rattle.book.specs.Book.{Book, layout, last, bookState, bookSet}
-use Rattle.book.specs.Values.{rulesHere, startHere, valueAt, finalValue, logsAfter, refusedPivot}
+use Rattle.book.specs.Book.{Book, book, layout, last, bookState, bookSet}
+use Rattle.book.specs.Values.{rulesHere, startHere, finalValue}
 use Rattle.demand3.specs.Demand.{factorOf, residualPivot, FinishedClaim}
-use Rattle.re_lower.proofs.Pivotal.{root-of-accepted, never-null}
-use Rattle.demand3.proofs.pivot_laws.Square.{square-above}
+use Rattle.rules.proofs.Doubles.{never-null, root-of-accepted, square-above}
 use Rattle.demand3.proofs.pivot_laws.Final.{RootOf, factorShape, final-pivot}
 use Rattle.demand3.proofs.same_rules.Rows.{shape-factor}
-use Rattle.demand3.proofs.same_rules.Same.{stateOf}
-use Rattle.demand3.proofs.invariant.Invariant.{Site, Begun, Invariant}
+use Rattle.demand3.proofs.invariant.Invariant.{Site, Invariant}
 use Rattle.demand3.proofs.invariant.Site.{layout-of, alike, loaded-many}
+use Rattle.demand3.proofs.step_laws.Finished.{finished-factor, finished-sum, finished-none}
 use Rattle.demand3.proofs.step_laws.Rust.{rust-answer, answerFor, rust-factor, rust-sum}
-use Rattle.demand3.proofs.Agrees.{begun-of}
 
-abbrev IsFinished : States.State → Type 0
-IsFinished Idle = ⊥
-IsFinished UnderWay = ⊥
-IsFinished Finished = Unit
-
-module _ (sheet : Sheet) (h : List ℕ) (w : List Float) (here : Site sheet h w) (b : Book) (v : Workspace) (stands : Invariant sheet h w b v) where
+module _ (sheet : Sheet) (h : List ℕ) (w : List Float) (here : Site sheet h w) (loaded theta : List Float) (d : Step → Bool) (v : Workspace)
+    (s : Invariant sheet h w (book loaded theta (some d)) v) where
   same : layoutOf (v .heading) ≡ layout sheet
-  same = layout-of sheet h w here b v stands
+  same = layout-of sheet h w here (book loaded theta (some d)) v s
 
   -- the heading of a fresh workspace has the sheet's layout
   fresh-is : layoutOf (headingOf sheet (layout sheet)) ≡ layout sheet
-  fresh-is = alike sheet h w here b v stands .fresh-layout
+  fresh-is = alike sheet h w here (book loaded theta (some d)) v s .fresh-layout
 
   -- the shape of factor j is the sheet's
-  same-shape : (j : ℕ) → factorOf v j ≡ factorShape sheet (b .loaded) (b .theta) (here .layout-valid) fresh-is j
+  same-shape : (j : ℕ) → factorOf v j ≡ factorShape sheet loaded theta (here .layout-valid) fresh-is j
   same-shape j =
       ap (λ (y : Layout). shape y (entryRow v.heading) j j) same
-      ∙ shape-factor (layout sheet) (entryRow v.heading) (entryRow (headingOf sheet (layout sheet))) (alike sheet h w here b v stands .same-rows) j
+      ∙ shape-factor (layout sheet) (entryRow v.heading) (entryRow (headingOf sheet (layout sheet))) (alike sheet h w here (book loaded theta (some d)) v s .same-rows) j
 
   -- where C(j) is done, each pivot of its factor is the root of a double that is not refused
-  module _ (d : Step → Bool) (e : b .done ≡ some d) where
-    begun : Begun sheet (b .loaded) (b .theta) d (stands .progress) v
-    begun = begun-of sheet b b.done stands.progress v d e stands.updating .1
+  pivot-root : (j : ℕ) → j ≤ last sheet → d (C j) ≡ true → (r : ℕ) → r < pivotCount (factorOf v j) → RootOf (cellOf (factorOf v j) (workingBlock (v .heading) (v .doubles) j j) r r)
+  pivot-root j l t r small =
+      let H = s.updating.1.held in
+      let a : j < stageOf s.progress j j = ltb-true j (stageOf s.progress j j) (sym (s.updating.1.represents (C j) l) ∙ t) in
+      let e : stageOf s.progress j j ≡ suc j = omega (arith, H.most j j (omega arith) l) in
+      let is : workingBlock v.heading v.doubles j j ≡ finalValue sheet loaded theta j j =
+      H .blocks j j (omega arith) l ∙ ap (λ (x : ℕ). value (rulesHere sheet loaded theta) (startHere sheet loaded theta) x j j) e in
+      let f =
+      final-pivot sheet loaded theta here.layout-valid fresh-is j l (H.passed j (H.counted j l .1 e)) r (subst (λ (x : Shape). r < pivotCount x) (same-shape j) small) in
+      subst RootOf (sym (ap₂ (λ (x : Shape) (y : List Float). cellOf x y r r) (same-shape j) is)) f
 
-    factored : (j : ℕ) → j ≤ last sheet → d (C j) ≡ true → stageOf (stands .progress) j j ≡ suc j
-    factored j l t =
-        let H = begun.held in
-        let a : j < stageOf stands.progress j j = ltb-true j (stageOf stands.progress j j) (sym (begun.represents (C j) l) ∙ t) in
-        omega (arith, H.most j j (omega arith) l)
-
-    pivot-root : (j : ℕ) → j ≤ last sheet → d (C j) ≡ true → (r : ℕ) → r < pivotCount (factorOf v j) → RootOf (cellOf (factorOf v j) (workingBlock (v .heading) (v .doubles) j j) r r)
-    pivot-root j l t r small =
-        let H = begun.held in
-        let s : stageOf stands.progress j j ≡ suc j = factored j l t in
-        let is : workingBlock v.heading v.doubles j j ≡ finalValue sheet b.loaded b.theta j j =
-        H .blocks j j (omega arith) l ∙ ap (λ (x : ℕ). value (rulesHere sheet b.loaded b.theta) (startHere sheet b.loaded b.theta) x j j) s in
-        let f =
-        final-pivot sheet b.loaded b.theta here.layout-valid fresh-is j l (H.passed j (H.counted j l .1 s)) r (subst (λ (x : Shape). r < pivotCount x) (same-shape j) small) in
-        subst RootOf (sym (ap₂ (λ (x : Shape) (y : List Float). cellOf x y r r) (same-shape j) is)) f
-
-  -- ---- no divisor is 0
-  divisor : (o : Option (Step → Bool)) → b .done ≡ o → (j r : ℕ) → j ≤ last sheet → bookSet sheet o (C j) ≡ true → r < pivotCount (factorOf v j)
-      → ieee .null (cellOf (factorOf v j) (workingBlock (v .heading) (v .doubles) j j) r r) ≡ false
-  divisor none e j r l t small = absurd (true≢false (sym t))
-  divisor (some d) e j r l t small =
-      let p = pivot-root d e j l t r small in
-      ap ieee.null p.is ∙ never-null (ieee.root p.x) (root-of-accepted p.x p.double p.accepted)
-
-  pub divisors : (j r : ℕ) → j ≤ last sheet → bookSet sheet (b .done) (C j) ≡ true → r < pivotCount (factorOf v j)
-      → ieee .null (cellOf (factorOf v j) (workingBlock (v .heading) (v .doubles) j j) r r) ≡ false
-  divisors = divisor b.done refl
-
-  -- ---- a finished update
-  none-left : (d : Step → Bool) → bookState sheet (some d) ≡ Finished → stepsLeft (last sheet) d ≡ 0
-  none-left d f = decide (eqb (stepsLeft (last sheet) d) 0) refl
-    where
-      decide : (t : Bool) → eqb (stepsLeft (last sheet) d) 0 ≡ t → stepsLeft (last sheet) d ≡ 0
-      decide true q = eqb-true (stepsLeft (last sheet) d) 0 q
-      decide false q = absurd (subst IsFinished (sym f ∙ ap (λ (t : Bool). pick t Finished UnderWay) q) tt)
-
-  module _ (d : Step → Bool) (e : b .done ≡ some d) (f : bookState sheet (some d) ≡ Finished) where
-    held : Held (rulesHere sheet (b .loaded) (b .theta)) (last sheet) (startHere sheet (b .loaded) (b .theta)) (stateOf sheet (b .loaded) (b .theta) v (stands .progress))
-    held = begun d e .held
-
-    all-done : (i j : ℕ) → j ≤ i → i ≤ last sheet → stageOf (stands .progress) i j ≡ suc j
-    all-done = all-finished (last sheet) (stageOf stands.progress) held.most .0 (sym (left-represents (last sheet) (stageOf stands.progress) d (begun d e .represents)) ∙ none-left d f)
-
-    ended :
-        ((i j : ℕ) → j ≤ i → i ≤ last sheet → workingBlock (v .heading) (v .doubles) i j ≡ finalValue sheet (b .loaded) (b .theta) i j)
-        × (logSum (v .heading) (v .doubles) ≡ logsAfter sheet (b .loaded) (b .theta) (suc (last sheet)))
-        × ((j : ℕ) → j ≤ last sheet → rulesHere sheet (b .loaded) (b .theta) .pivots j (valueAt sheet (b .loaded) (b .theta) j j j) ≡ none)
-    ended =
-        held-done (rulesHere sheet b.loaded b.theta) (last sheet) (startHere sheet b.loaded b.theta) (stateOf sheet b.loaded b.theta v stands.progress) held all-done
-
-    not-refused : refusedPivot sheet (b .loaded) (b .theta) ≡ none
-    not-refused = none-refused (rulesHere sheet b.loaded b.theta) (startHere sheet b.loaded b.theta) (suc (last sheet)) (λ j l. ended .2 j (omega arith))
-
-    last-done : d (C (last sheet)) ≡ true
-    last-done =
-        begun d e .represents (C (last sheet)) (omega arith)
-        ∙ lt-ltb (last sheet) (stageOf stands.progress (last sheet) (last sheet)) (omega (arith, all-done (last sheet) (last sheet) (omega arith) (omega arith)))
-
+  -- with no step left
+  module _ (left : stepsLeft (last sheet) d ≡ 0) where
     -- the last triangle's shape
-    last-shape : factorOf v (last sheet) ≡ packed (layoutOf (v .heading) .p + 1)
+    last-shape : factorOf v (last sheet) ≡ lastShape (layoutOf (v .heading))
     unfolding shape
     last-shape = let q : last sheet ≡ layoutOf v.heading .k = ap (λ (y : Layout). y .k) (sym same) in rw (eq-eqb (last sheet) (layoutOf v.heading .k) q) refl
 
@@ -133,26 +75,47 @@ module _ (sheet : Sheet) (h : List ℕ) (w : List Float) (here : Site sheet h w)
         subst (λ (x : Shape). layout sheet .p < pivotCount x) (sym last-shape) (omega (arith, ap (λ (y : Layout). y .p) same)) in
         subst RootOf
         (ap₂ (λ (x : Shape) (k : ℕ). cellOf x (workingBlock v.heading v.doubles k k) (layout sheet .p) (layout sheet .p)) last-shape (sym q))
-        (pivot-root d e (last sheet) (omega arith) last-done (layout sheet .p) small)
+        (pivot-root (last sheet) (omega arith) (none-left (last sheet) d .0 left (C (last sheet)) (omega arith)) (layout sheet .p) small)
 
-    claim : FinishedClaim sheet b v
+    claim : FinishedClaim sheet (book loaded theta (some d)) v
     claim =
-        let g = begun d e in
-        let many = loaded-many sheet h w here b v stands in
-        let l = b.loaded in
-        let t = b.theta in
+        let g = s.updating.1 in
+        let many = loaded-many sheet h w here (book loaded theta (some d)) v s in
+        let not-refused = finished-none sheet h w loaded theta d v s left in
         record {
-          accepts = rust-answer sheet h w here l t many g.theta-many g.theta-finite ∙ ap answerFor not-refused;
-          factor = λ i j m n. ended .0 i j m n ∙ sym (rust-factor sheet h w here l t many g.theta-many g.theta-finite not-refused i j m n);
-          log-determinant = ap (ieee.times ieee.two) (ended.1 ∙ sym (rust-sum sheet h w here l t many g.theta-many g.theta-finite not-refused));
+          accepts = rust-answer sheet h w here loaded theta many g.theta-many g.theta-finite ∙ ap answerFor not-refused;
+          factor =
+              λ i j m n. finished-factor sheet h w loaded theta d v s left i j m n
+              ∙ sym (rust-factor sheet h w here loaded theta many g.theta-many g.theta-finite not-refused i j m n);
+          log-determinant =
+              ap (ieee.times ieee.two)
+              (finished-sum sheet h w loaded theta d v s left ∙ sym (rust-sum sheet h w here loaded theta many g.theta-many g.theta-finite not-refused));
           scale =
               let p = last-pivot in
               ap (λ (x : Float). ieee .refused (ieee.times x x)) p.is ∙ square-above p.x p.double p.accepted;
         }
 
-  finished-at : (o : Option (Step → Bool)) → b .done ≡ o → bookState sheet o ≡ Finished → FinishedClaim sheet b v
-  finished-at none e f = absurd (subst IsFinished (sym f) tt)
-  finished-at (some d) e f = claim d e f
+module _ (sheet : Sheet) (h : List ℕ) (w : List Float) (here : Site sheet h w) (b : Book) (v : Workspace) where
+  -- ---- no divisor is 0
+  divisor : (o : Option (Step → Bool)) → Invariant sheet h w (book (b .loaded) (b .theta) o) v → (j r : ℕ) → j ≤ last sheet → bookSet sheet o (C j) ≡ true → r < pivotCount (factorOf v j)
+      → ieee .null (cellOf (factorOf v j) (workingBlock (v .heading) (v .doubles) j j) r r) ≡ false
+  divisor none s j r l t small = absurd (true≢false (sym t))
+  divisor (some d) s j r l t small =
+      let p = pivot-root sheet h w here b.loaded b.theta d v s j l t r small in
+      ap ieee.null p.is ∙ never-null (ieee.root p.x) (root-of-accepted p.x p.double p.accepted)
 
-  pub finished : bookState sheet (b .done) ≡ Finished → FinishedClaim sheet b v
-  finished = finished-at b.done refl
+  pub divisors : Invariant sheet h w b v → (j r : ℕ) → j ≤ last sheet → bookSet sheet (b .done) (C j) ≡ true → r < pivotCount (factorOf v j)
+      → ieee .null (cellOf (factorOf v j) (workingBlock (v .heading) (v .doubles) j j) r r) ≡ false
+  divisors = divisor b.done
+
+  -- ---- a finished update
+  finished-at : (o : Option (Step → Bool)) → Invariant sheet h w (book (b .loaded) (b .theta) o) v → bookState sheet o ≡ Finished → FinishedClaim sheet (book (b .loaded) (b .theta) o) v
+  finished-at none s f = absurd (let z : _≡_ {A = ℕ} 0 1 = cc in omega arith)
+  finished-at (some d) s f = claim sheet h w here b.loaded b.theta d v s (decide (eqb (stepsLeft (last sheet) d) 0) refl f)
+    where
+      decide : (t : Bool) → eqb (stepsLeft (last sheet) d) 0 ≡ t → pick t Finished UnderWay ≡ Finished → stepsLeft (last sheet) d ≡ 0
+      decide true q f = eqb-true (stepsLeft (last sheet) d) 0 q
+      decide false q f = absurd (let z : _≡_ {A = ℕ} 0 1 = cc in omega arith)
+
+  pub finished : Invariant sheet h w b v → bookState sheet (b .done) ≡ Finished → FinishedClaim sheet b v
+  finished = finished-at b.done

@@ -1,8 +1,8 @@
 -- 20 never comes: no call on a workspace whose heading is valid answers it.
-use Prim.Native.Nat.{ℕ}
+use Prim.Native.Nat.{ℕ, suc}
 use mathlib.Core.Path.{_≡_}
 use mathlib.Core.Bool.{Bool, true, false, _||_}
-use mathlib.Core.List.{List}
+use mathlib.Core.List.{List, [], _∷_}
 use mathlib.Core.Option.{Option, none, some}
 use native.Mathlib.Omega.{arith}
 use lib.Dec.{eqb}
@@ -12,13 +12,15 @@ use Rattle.step_order.specs.Steps.{Step, isStep, forerunners, rustOrder}
 use Rattle.step_order.specs.Progress.{all, done}
 use Rattle.rules.specs.Arithmetic.{ieee}
 use Rattle.rules.specs.Finish.{devianceOf}
+use Rattle.refusal.specs.declared.Refusal.{Refusal}
 use Rattle.refusal.specs.declared.Answer.{Answer}
 use Rattle.refusal.specs.declared.Answer.the-variants.{Accepted, Refused}
 use Rattle.refusal.specs.Numbers as Numbers
+use Rattle.refusal.specs.Numbers.{refusal}
 use Rattle.layout.specs.Shapes.{pick}
 use Rattle.heading_format.specs.Heading.{layoutOf, progressOf, stageOf, validHeading}
-use Rattle.workspace.specs.Answers.{Outcome, untouched, firstInfinite, unlessAt}
-use Rattle.workspace.specs.Response.{replaceOf, responded}
+use Rattle.workspace.specs.Answers.{Outcome, untouched, firstInfinite, unlessAt, lengths, lengthFault, wordFault, firstOf}
+use Rattle.workspace.specs.Response.{Response, listsOf, responseLengths, replaceOf, responded}
 use Rattle.update.specs.Calls.{begun, beginOf, stepOf, onPivot, refusedBy, isUnderWay, runOf}
 use Rattle.profile.specs.declared.Deviance.the-variants.{Value, NoScale}
 use Rattle.profile.specs.Deviance as Deviances
@@ -37,6 +39,26 @@ other-pick false o p x y = y
 other-unless : (i : Option ℕ) (bad : ℕ → Outcome) (good : Outcome) → ((n : ℕ) → Other (bad n .answer)) → Other (good .answer) → Other (unlessAt i bad good .answer)
 other-unless none bad good x y = y
 other-unless (some n) bad good x y = x n
+
+-- what is wrong with lists is 13 or 14
+first-other : (b : Bool) (f g : Refusal) → Other (Refused f) → Other (Refused g) → Other (Refused (pick b f g))
+first-other true f g x y = x
+first-other false f g x y = y
+
+length-other : (i : ℕ) (prescribed actual : List ℕ) → Other (Refused (lengthFault i prescribed actual))
+unfolding lengthFault
+length-other i [] actual = λ e. omega arith
+length-other i (n ∷ prescribed) [] = λ e. omega arith
+length-other i (n ∷ prescribed) (m ∷ actual) = first-other (eqb m n) _ _ (length-other (suc i) prescribed actual) (λ e. omega arith)
+
+word-other : (i : ℕ) (lists : List (List Float)) → Other (Refused (wordFault i lists))
+unfolding wordFault
+word-other i [] = λ e. omega arith
+word-other i (l ∷ lists) = go (firstInfinite 0 l) (word-other (suc i) lists)
+  where
+    go : (o : Option ℕ) → Other (Refused (wordFault (suc i) lists)) → Other (Refused (unlessAt o (λ a. refusal 14 i a) (wordFault (suc i) lists)))
+    go none rest = rest
+    go (some a) rest = λ e. omega arith
 
 -- no scale, or a value
 either-other : (b : Bool) (x : Float) → Deviances.refusalOf (pick b NoScale (Value x)) .number ≡ 20 → ⊥
@@ -66,18 +88,14 @@ module _ (h : List ℕ) (w : List Float) (ok : validHeading h (length w) ≡ tru
       (λ e. omega arith))
       (λ e. omega arith))
 
-  response-other : (zy xy yy : List Float) → Other (replaceOf h w zy xy yy .answer)
+  response-other : (r : Response) → Other (replaceOf h w r .answer)
   unfolding replaceOf responded
-  response-other zy xy yy =
+  response-other r =
+      let f = lengthFault 0 (responseLengths (layoutOf h)) (lengths (listsOf r)) in
+      let g = wordFault 0 (listsOf r) in
       rw ok
-      (other-pick (eqb (length zy) (layoutOf h .q)) _ _
-      (other-pick (eqb (length xy) (layoutOf h .p)) _ _
-      (other-pick (eqb (length yy) 1) _ _
-      (other-unless (firstInfinite 0 zy) _ _ (λ n e. omega arith)
-      (other-unless (firstInfinite 0 xy) _ _ (λ n e. omega arith) (other-unless (firstInfinite 0 yy) _ _ (λ n e. omega arith) (λ e. omega arith))))
-      (λ e. omega arith))
-      (λ e. omega arith))
-      (λ e. omega arith))
+      (other-pick (eqb (firstOf f g .number) 0) _ _ (λ e. omega arith)
+      (first-other (eqb f.number 0) g f (word-other 0 (listsOf r)) (length-other 0 (responseLengths (layoutOf h)) (lengths (listsOf r)))))
 
   -- a deviance has no number of its own but 26
   value-other : (h : List ℕ) (w : List Float) (reml : Bool) → Deviances.refusalOf (devianceValue h w reml) .number ≡ 20 → ⊥
@@ -102,5 +120,5 @@ module _ (h : List ℕ) (w : List Float) (ok : validHeading h (length w) ≡ tru
   unfolding profileOf
   call-other (begin theta) e = begin-other theta e
   call-other (step s) e = step-other s e
-  call-other (replaceResponse zy xy yy) e = response-other zy xy yy e
+  call-other (replaceResponse r) e = response-other r e
   call-other (profileDeviance theta reml) e = after-other (beginOf h w theta .answer) (beginOf h w theta) (layoutOf h .k) reml (begin-other theta) e

@@ -25,9 +25,8 @@ use Rattle.refusal.specs.declared.Answer.the-variants.{Accepted, Refused}
 use Rattle.refusal.specs.Numbers.{refuse}
 use Rattle.layout.specs.declared.Layout.{Layout}
 use Rattle.heading_format.specs.declared.Progress.{Progress}
-use Rattle.heading_format.specs.declared.State.{State}
-use Rattle.heading_format.specs.declared.State.the-variants.{Idle, UnderWay, Finished}
-use Rattle.layout.specs.Shapes.{pick, shape, sizes, workingAt, sumAt, doublesNeeded}
+use Rattle.heading_format.specs.declared.State.the-variants.{UnderWay}
+use Rattle.layout.specs.Shapes.{shape, sizes, workingAt, sumAt, doublesNeeded}
 use Rattle.heading_format.specs.Heading.{layoutOf, progressOf, entryRow, written, progressNumbers}
 use Rattle.heading_format.proofs.Heading.{length-written, layout-back, progress-stored}
 use Rattle.layout.proofs.Places.{size-working, working-inside}
@@ -35,7 +34,7 @@ use Rattle.workspace.specs.Memory.{Workspace, workingBlock, logSum, headingWith
 use Rattle.workspace.specs.Answers.{Outcome}
 use Rattle.update.specs.Working.{logged}
 use Rattle.update.specs.Calls.{advanced, stepOf, stepped, madeBy, sumBy, refusedBy, onPivot}
-use Rattle.book.specs.Book.{Book, book, layout, last, rust, inStep, bookState}
+use Rattle.book.specs.Book.{Book, book, layout, last, rust, inStep, bookState, withDone}
 use Rattle.book.specs.Values.{rulesHere, startHere}
 use Rattle.demand3.specs.Demand.{ReadyBy, TakesLogs, in-block, in-sum, Writes, UnderWayClaim}
 use Rattle.update.proofs.progress_laws.Kept.{numbers-many}
@@ -45,7 +44,7 @@ use Rattle.demand3.proofs.invariant.Invariant.{behind, Site, Invariant}
 use Rattle.demand3.proofs.invariant.Site.{layout-of, alike, loaded-many}
 use Rattle.demand3.proofs.invariant.Step.{Comes, step-ready, step-comes}
 use Rattle.demand3.proofs.step_laws.Rust.{answerIn, in-step}
-use Rattle.demand3.proofs.Agrees.{begun-of}
+use Rattle.heading_format.specs.Parts.{progressAt, progressEnd}
 
 -- a row that is refused is no acceptance
 refused-not : {X : Type 0} (n a b : ℕ) → refuse n a b ≡ Accepted → X
@@ -107,7 +106,7 @@ module _ (sheet : Sheet) (h : List ℕ) (w : List Float) (here : Site sheet h w)
     moved-layout : layoutOf (headingWith (v .heading) g) ≡ layoutOf (v .heading)
     moved-layout = ap layoutOf moved-heading ∙ layout-back (layout sheet) g (behind sheet h) here.eight-levels here.eight-places ∙ sym same
 
-    long : 22 + length (progressNumbers g) ≤ length (v .heading)
+    long : progressAt + length (progressNumbers g) ≤ length (v .heading)
     long =
         omega (arith, numbers-many g, ap (λ (x : List ℕ). length x) stands.heading, length-append (written (layout sheet) stands.progress) (behind sheet h), length-written (layout sheet) stands.progress)
 
@@ -135,19 +134,14 @@ module _ (sheet : Sheet) (h : List ℕ) (w : List Float) (here : Site sheet h w)
             ∙ keeps-sum v.heading v.doubles s named-here (λ t. other (in-sum t e))
             ∙ ap (λ (m : ℕ). getD v.doubles m ieee.zero) (sym e))
             (λ e. with-elsewhere y v.doubles room (row s) (col s) inside.0 inside.1 made size sum i (λ l m. other (in-block l m)) e);
-        before-progress = take-store 22 (progressNumbers g) v.heading (long g);
-        behind-progress = drop-store 22 (progressNumbers g) v.heading (long g) 69 (omega (arith, numbers-many g));
+        before-progress = take-store progressAt (progressNumbers g) v.heading (long g);
+        behind-progress = drop-store progressAt (progressNumbers g) v.heading (long g) progressEnd (omega (arith, numbers-many g));
       }
 
 -- ---- while an update is under way
-abbrev NotFinished : State → Type 0
-NotFinished Idle = Unit
-NotFinished UnderWay = Unit
-NotFinished Finished = ⊥
-
 module _ (sheet : Sheet) (h : List ℕ) (w : List Float) (here : Site sheet h w) (b : Book) (v : Workspace) (stands : Invariant sheet h w b v) (d : Step → Bool) (e : b .done ≡ some d) where
   -- the book with its set
-  with-set : Invariant sheet h w (book (b .loaded) (b .theta) (some d)) v
+  with-set : Invariant sheet h w (withDone (some d) b) v
   with-set = subst (λ (o : Option (Step → Bool)). Invariant sheet h w (book b.loaded b.theta o) v) e stands
 
   comes-answer : (s : Step) (r : Option ℕ) (o : Outcome) → Comes sheet h w here (b .loaded) (b .theta) d s r o → o .answer ≡ answerIn s r
@@ -156,7 +150,7 @@ module _ (sheet : Sheet) (h : List ℕ) (w : List Float) (here : Site sheet h w)
 
   ready-answers : (s : Step) → ReadyBy (last sheet) d s → stepOf (v .heading) (v .doubles) s .answer ≡ inStep sheet s (rust sheet (b .loaded) (b .theta) .answer)
   ready-answers s r =
-      let g = begun-of sheet b b.done stands.progress v d e stands.updating .1 in
+      let g = with-set.updating.1 in
       comes-answer s (refusedIn (rulesHere sheet b.loaded b.theta) (last sheet) (startHere sheet b.loaded b.theta) s) (stepOf v.heading v.doubles s)
       (step-comes sheet h w here b.loaded b.theta d v with-set s r.exists r.undone r.forerun)
       ∙ sym (in-step sheet h w here b.loaded b.theta (loaded-many sheet h w here b v stands) g.theta-many g.theta-finite s)
@@ -170,10 +164,9 @@ module _ (sheet : Sheet) (h : List ℕ) (w : List Float) (here : Site sheet h w)
 
   -- some step is left
   some-left : bookState sheet (some d) ≡ UnderWay → 0 < stepsLeft (last sheet) d
-  some-left u = by-cases (decLt 0 (stepsLeft (last sheet) d)) (λ l. l) (λ l. absurd (differ (eq-eqb (stepsLeft (last sheet) d) 0 (omega arith))))
-    where
-      differ : eqb (stepsLeft (last sheet) d) 0 ≡ true → ⊥
-      differ q = subst NotFinished (sym u ∙ ap (λ (t : Bool). pick t Finished UnderWay) q) tt
+  some-left u =
+      by-cases (decLt 0 (stepsLeft (last sheet) d)) (λ l. l)
+      (λ l. let q : eqb (stepsLeft (last sheet) d) 0 ≡ true = eq-eqb (stepsLeft (last sheet) d) 0 (omega arith) in absurd (let z : _≡_ {A = ℕ} 0 1 = cc in omega arith))
 
   pub under-way : bookState sheet (some d) ≡ UnderWay → UnderWayClaim sheet b v d
   under-way u =

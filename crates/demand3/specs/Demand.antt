@@ -4,7 +4,7 @@ use mathlib.Core.Path.{_≡_}
 use mathlib.Core.Bool.{Bool, true, false}
 use mathlib.Core.List.{List}
 use mathlib.Core.Option.{some}
-use lib.ListN.{length, getD, take, drop}
+use lib.ListN.{length, getD, take, drop, replicate}
 use lib.Ieee.{Float}
 use Rattle.step_order.specs.Steps.{Step, S, C, T, IsStep, row, col, forerunners}
 use Rattle.step_order.specs.Progress.{all, done}
@@ -13,7 +13,7 @@ use Rattle.sheet.specs.Sheet.{Sheet, accepted, sheetOf}
 use Rattle.sheet.specs.declared.Starts.{Starts}
 use Rattle.heading_format.specs.declared.State.the-variants.{UnderWay, Finished}
 use Rattle.refusal.specs.declared.Answer.the-variants.{Accepted}
-use Rattle.layout.specs.Shapes.{sizes, loadedLength, workingAt, sumAt, doublesNeeded, shape, thetaAt}
+use Rattle.layout.specs.Shapes.{sizes, loadedLength, workingAt, sumAt, doublesNeeded, shape, thetaAt, responseRow, thetaLength}
 use Rattle.heading_format.specs.Heading.{layoutOf, progressOf, stageOf, entryRow}
 use Rattle.workspace.specs.Memory.{Workspace, workingBlock, cellOf}
 use Rattle.workspace.specs.Answers.{Outcome}
@@ -25,6 +25,7 @@ use Rattle.book.specs.Book.{Book, layout, last, opened, rust, inStep, bookRepli
 use Rattle.storage.specs.Part.{part, store}
 use Rattle.storage.specs.Shape.{Shape}
 use Rattle.update.specs.Working.{pivotCount}
+use Rattle.heading_format.specs.Parts.{progressAt, progressEnd, unusedNumbers, headingLength, unusedAt}
 
 -- step s is undone and its forerunners are done, by the set d
 pub record ReadyBy (k : ℕ) (d : Step → Bool) (s : Step) : Type 0 where
@@ -51,9 +52,9 @@ pub record Writes (v : Workspace) (s : Step) (u : Workspace) : Type 0 where
   pub sum : getD (u .doubles) (sumAt (layoutOf (v .heading))) (ieee .zero) ≡ sumBy (v .heading) (v .doubles) s
   pub lengths : length (u .doubles) ≡ length (v .doubles)
   pub elsewhere : (i : ℕ) → (Own v s i → ⊥) → getD (u .doubles) i (ieee .zero) ≡ getD (v .doubles) i (ieee .zero)
-  -- the heading's numbers 22 to 68 are the progress
-  pub before-progress : take 22 (u .heading) ≡ take 22 (v .heading)
-  pub behind-progress : drop 69 (u .heading) ≡ drop 69 (v .heading)
+  -- of the heading the progress alone
+  pub before-progress : take progressAt (u .heading) ≡ take progressAt (v .heading)
+  pub behind-progress : drop progressEnd (u .heading) ≡ drop progressEnd (v .heading)
 
 -- the shape of factor j
 abbrev pub factorOf : Workspace → ℕ → Shape
@@ -69,10 +70,12 @@ module _ (sheet : Sheet) where
     pub set : (s : Step) → IsStep (last sheet) s → done (stageOf (progressOf (v .heading))) s ≡ bookSet sheet (b .done) s
     -- nothing past the formula's lengths was ever written
     pub doubles-behind : drop (doublesNeeded (layout sheet)) (v .doubles) ≡ drop (doublesNeeded (layout sheet)) w
-    -- behind the progress the heading, with the rows of a sparse pair, is as load wrote it, and past the formula's length as it was
-    pub heading-behind : drop 69 (v .heading) ≡ drop 69 (store 0 (headingOf sheet (layout sheet)) h)
+    -- behind the progress the heading's unused numbers are 0; behind them all is as load left it, with the rows of a sparse pair, and past the formula's
+    -- length as it was
+    pub unused-kept : part unusedAt unusedNumbers (v .heading) ≡ replicate unusedNumbers 0
+    pub heading-behind : drop headingLength (v .heading) ≡ drop headingLength (store 0 (headingOf sheet (layout sheet)) h)
     -- theta is kept with its update
-    pub theta-kept : (d : Step → Bool) → b .done ≡ some d → part (thetaAt (layout sheet)) (last sheet) (v .doubles) ≡ b .theta
+    pub theta-kept : (d : Step → Bool) → b .done ≡ some d → part (thetaAt (layout sheet)) (thetaLength (layout sheet)) (v .doubles) ≡ b .theta
     pub doubles-many : length (v .doubles) ≡ length w
     pub numbers-many : length (v .heading) ≡ length h
 
@@ -90,7 +93,7 @@ module _ (sheet : Sheet) where
 
   -- the last pivot of block k
   abbrev pub residualPivot : Workspace → Float
-  residualPivot v = lastBlockPivot (v .heading) (v .doubles) false (layout sheet .p)
+  residualPivot v = lastBlockPivot (v .heading) (v .doubles) false (responseRow (layout sheet))
 
   -- ---- "a finished update leaves the factor and log determinant that document 01's begin and the Rust's order give a freshly loaded workspace with the
   -- same loaded numbers and theta"

@@ -13,7 +13,7 @@ use Rattle.sheet.specs.declared.Line.{Line}
 use Rattle.sheet.specs.declared.Starts.{Starts}
 use Rattle.sheet.specs.declared.Reading.{Reading}
 use Rattle.sheet.specs.declared.Reading.the-variants.{Sheet as Read, Refused as Unread}
-use Rattle.sheet.specs.Line.{tab, inForm, singleLine, verdictOf}
+use Rattle.sheet.specs.Line.{tab, inForm, singleLine, Test, verdictOf}
 use Rattle.sheet.specs.Run.{Run, linesOf, rowsFrom}
 use Rattle.sheet.specs.Sheet.{accepted, refused, readSheet}
 use Rattle.sheet.specs.Sheet as Sheets
@@ -30,6 +30,8 @@ use Rattle.workspace.specs.Load.{loadSheet}
 use Rattle.update.specs.Working.{pivotCount}
 use Rattle.update.specs.Calls.{beginOf, runOf}
 use Rattle.factor_output.specs.Print.{pivotLine, refusedLine}
+use Rattle.heading_format.specs.Parts.{headingLength}
+use Rattle.sheet.specs.declared.Counts.{Counts}
 
 -- it holds this many bytes of input, and this many doubles
 abbrev pub bytesHeld : ℕ
@@ -40,7 +42,7 @@ doublesHeld = 4096
 
 -- a heading without the rows of a sparse pair, which has too many doubles
 abbrev pub numbersHeld : ℕ
-numbersHeld = 128
+numbersHeld = headingLength
 
 -- ---- the pivots by block, then row
 unfoldable pub pivotRows : Workspace → ℕ → ℕ → List ℕ
@@ -71,15 +73,21 @@ unfoldable pub factorWith : Workspace → ℕ → List Float → List ℕ
 unfolding beginOf runOf pivotLines refusedLine
 factorWith v k theta = let o = beginOf (v .heading) (v .doubles) theta in afterBegin (o .answer) (o .left) k
 
--- ---- the theta part: index 0 to k - 1 rising, in sheet order; a line that is not what is due is 2, and so is one left over
+-- ---- the theta part: a line for each number of theta, index rising from 0, in sheet order; a line that is not what is due is 2, and so is one left over
+abbrev pub thetasDue : Counts → ℕ
+thetasDue z = z .k
+
 abbrev pub thetaTag : List ℕ
 thetaTag = 116 ∷ 104 ∷ 101 ∷ 116 ∷ 97 ∷ tab ∷ []
 
+abbrev pub thetaTests : ℕ × ℕ → Line → List Test
+thetaTests i l = (inForm (l .next) && eqb (l .first) (i .0), 2) ∷ []
+
 abbrev pub thetaVerdict : ℕ × ℕ → Line → ℕ
-thetaVerdict i l = verdictOf (inForm (l .next) && eqb (l .first) (i .0)) true true
+thetaVerdict i l = verdictOf (thetaTests i l)
 
 abbrev pub thetaLines : List ℕ → ℕ → Cursor → Run Float
-thetaLines s k c = linesOf (singleLine thetaTag s) thetaVerdict (λ line l. double (l .word)) (rowsFrom (λ r. 1) 0 k) c
+thetaLines s n c = linesOf (singleLine thetaTag s) thetaVerdict (λ line l. double (l .word)) (rowsFrom (λ r. 1) 0 n) c
 
 abbrev pub afterTheta : Run Float → List ℕ → Workspace → ℕ → List ℕ
 afterTheta t s v k =
@@ -87,14 +95,14 @@ afterTheta t s v k =
     cond (eqb (t .past .number) 0 && eqb (t .past .at) (length s)) good (refusedLine 2 (t .past .line) 0)
 
 -- ---- load, whose own 12 comes before the theta part
-abbrev pub afterLoad : Answer → Workspace → ℕ → List ℕ → Starts → List ℕ
-afterLoad Accepted v k s starts = afterTheta (thetaLines s k (record { at = starts .end; line = starts .line; number = 0 })) s v k
-afterLoad (Refused r) v k s starts = printRefusal r
+abbrev pub afterLoad : Answer → Workspace → Counts → List ℕ → Starts → List ℕ
+afterLoad Accepted v z s starts = afterTheta (thetaLines s (thetasDue z) (record { at = starts .end; line = starts .line; number = 0 })) s v (z .k)
+afterLoad (Refused r) v z s starts = printRefusal r
 
 abbrev pub afterSheet : Sheets.Outcome → List ℕ → List ℕ
 afterSheet (accepted sheet starts) s =
     let o = loadSheet sheet (replicate numbersHeld 0) (replicate doublesHeld (ieee .zero)) in
-    afterLoad (o .answer) (o .left) (sheet .counts .k) s starts
+    afterLoad (o .answer) (o .left) (sheet .counts) s starts
 afterSheet (refused number line) s = refusedLine number line 0
 
 -- what it prints for the input s, given what the sheet's reader answered

@@ -15,6 +15,7 @@ ghost use Rattle.workspace.specs.Answers.{workspace};
 ghost use Rattle.factor_output.specs.Program.{afterLoad, afterSheet};
 ghost use Rattle.factor_text.specs.refusal_text.Text.{Text};
 ghost use Rattle.factor_text.specs.Written.{Written};
+use heading_format::parts;
 use refusal::Answer;
 use sheet::Reading;
 use sheet::Starts;
@@ -29,7 +30,7 @@ fn put_loaded(
     out: &mut [u8],
 ) -> usize
     requires { ⌜ (starts .counts .k ≤ 8) × (starts .line + starts .counts .k < 9223372036854775808) × (length (now doubles) ≤ 4096) × (131072 ≤ length (now out)) ⌝ }
-    ensures { λ n. ⌜ Text (afterLoad a (workspace (now (heading .entry)) (now (doubles .entry))) (starts .counts .k) (now (bytes .entry)) starts) n (now (out .entry)) (now (out .exit)) ⌝ }
+    ensures { λ n. ⌜ Text (afterLoad a (workspace (now (heading .entry)) (now (doubles .entry))) (starts .counts) (now (bytes .entry)) starts) n (now (out .entry)) (now (out .exit)) ⌝ }
 {
     match a {
         Answer::Accepted => theta_text::put_theta(bytes, starts, heading, doubles, out),
@@ -37,12 +38,12 @@ fn put_loaded(
     }
 }
 
-// A sheet that 1 to 9 do not refuse, on 128 numbers and 4,096 doubles, all zero.
+// A sheet that 1 to 9 do not refuse, on a heading and 4,096 doubles, all zero.
 fn put_sheet(bytes: &[u8], starts: Starts, out: &mut [u8]) -> usize
     requires { ⌜ ((sheet : Sheet) × (readSheet (now bytes) ≡ accepted sheet starts) × (faultNumber sheet ≡ 0)) × (131072 ≤ length (now out)) ⌝ }
     ensures { λ n. ⌜ Text (afterSheet (readSheet (now (bytes .entry))) (now (bytes .entry))) n (now (out .entry)) (now (out .exit)) ⌝ }
 {
-    let mut h = [0u32; 128];
+    let mut h = [0u32; parts::HEADING_LENGTH];
     let mut w = [0f64; 4096];
     let a = load::load_sheet(bytes, starts, &mut h, &mut w);
     put_loaded(a, bytes, starts, &mut h, &mut w, out)

@@ -8,17 +8,17 @@ ghost use mathlib.Core.Path.{_≡_};
 ghost use mathlib.Core.Bool.{true};
 ghost use Prim.Native.Nat.{suc, _+_, _*_, _≤_};
 ghost use lib.ListN.{length};
-ghost use Rattle.layout.specs.Shapes.{doublesNeeded};
-ghost use Rattle.heading_format.specs.Heading.{validLayout, layoutOf, validHeading};
+ghost use Rattle.heading_format.specs.Heading.{layoutOf, validHeading};
 ghost use Rattle.workspace.specs.Answers.{workspace};
 ghost use Rattle.factor_output.specs.Program.{pivotLines};
 ghost use Rattle.text_output.specs.Written.{Put};
 ghost use Rattle.block_places.specs.block_kinds.Rows.{rowsOf};
 ghost use Rattle.factor_text.specs.pivot_lines.Lines.{rowLines, blockLines};
+ghost use Rattle.heading_format.specs.Fits.{Room};
 
 // The pivots of block j. A line of at most 4,096 rows has at most 31 bytes, and the last is written where there is room for any.
 fn put_rows(layout: Layout, doubles: &[f64], j: u64, out: &mut [u8], from: usize) -> usize
-    requires { ⌜ (validLayout layout ≡ true) × (doublesNeeded layout ≤ length (now doubles)) × (j ≤ layout .k) × (rowsOf layout j ≤ 4096) × (from + 31 * rowsOf layout j + 34 ≤ length (now out)) ⌝ }
+    requires { ⌜ Room layout (length (now doubles)) × (j ≤ layout .k) × (rowsOf layout j ≤ 4096) × (from + 31 * rowsOf layout j + 34 ≤ length (now out)) ⌝ }
     ensures { λ r. ⌜ Put from (rowLines layout (now (doubles .entry)) j (rowsOf layout j)) (now (out .entry)) r (now (out .exit)) ⌝ }
 {
     let n = block_kinds::rows_of(layout, j);
@@ -34,7 +34,7 @@ fn put_rows(layout: Layout, doubles: &[f64], j: u64, out: &mut [u8], from: usize
 
 // The pivots of every block.
 fn put_blocks(layout: Layout, doubles: &[f64], out: &mut [u8]) -> usize
-    requires { ⌜ (validLayout layout ≡ true) × (doublesNeeded layout ≤ length (now doubles)) × (length (now doubles) ≤ 4096) × (131072 ≤ length (now out)) ⌝ }
+    requires { ⌜ Room layout (length (now doubles)) × (length (now doubles) ≤ 4096) × (131072 ≤ length (now out)) ⌝ }
     ensures { λ r. ⌜ (r ≤ 131072) × Put 0 (blockLines layout (now (doubles .entry)) (suc (layout .k))) (now (out .entry)) r (now (out .exit)) ⌝ }
 {
     let k = layout.k;

@@ -20,10 +20,10 @@ pub fn put_theta(
     out: &mut [u8],
 ) -> usize
     requires { ⌜ (starts .counts .k ≤ 8) × (starts .line + starts .counts .k < 9223372036854775808) × (length (now doubles) ≤ 4096) × (131072 ≤ length (now out)) ⌝ }
-    ensures { λ n. ⌜ Text (afterLoad Accepted (workspace (now (heading .entry)) (now (doubles .entry))) (starts .counts .k) (now (bytes .entry)) starts) n (now (out .entry)) (now (out .exit)) ⌝ }
+    ensures { λ n. ⌜ Text (afterLoad Accepted (workspace (now (heading .entry)) (now (doubles .entry))) (starts .counts) (now (bytes .entry)) starts) n (now (out .entry)) (now (out .exit)) ⌝ }
 {
     let k = starts.counts.k;
-    let mut theta = [0f64; 8];
+    let mut theta = [0f64; layout::MOST_THETA];
     let c = theta_part::read_theta(
         bytes,
         Cursor {

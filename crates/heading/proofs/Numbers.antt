@@ -18,6 +18,9 @@ use Rattle.layout.specs.Blocks.{padded}
 use Rattle.heading_format.specs.Heading.{bit, stateNumber, stateOf, layoutOf, progressOf, layoutNumbers, progressNumbers, written}
 use Rattle.storage.proofs.Filling.{Filling, filling-done, array-done}
 use Rattle.layout.proofs.Sums.{padded-at, length-padded}
+use Rattle.heading_format.specs.Parts.{levelsAt, orderAt, sparseAt, diagonalAt, progressAt, stepsLeftAt, stagesAt, mostTargets, progressEnd, unusedNumbers, headingLength}
+use Rattle.layout.proofs.Made.{layoutWith}
+use Rattle.heading_format.proofs.Heading.{progressWith}
 
 -- ---- reading
 
@@ -37,13 +40,13 @@ state-else (suc zero) a b = absurd (b refl)
 state-else (suc (suc v)) a b = refl
 
 -- a layout and a progress, made of the numbers that were read
-pub layout-read : (h : List ℕ) {n p q k s d : ℕ} {m order : List ℕ} → m ≡ take 8 (drop 4 h) → order ≡ take 8 (drop 12 h) → n ≡ getD h 0 0 → p ≡ getD h 1 0 → q ≡ getD h 2 0 → k ≡ getD h 3 0
-    → s ≡ getD h 20 0 → d ≡ getD h 21 0 → _≡_ {A = Layout} (record { n = n; p = p; q = q; k = k; m = m; order = order; sparse = eqb s 1; diagonal = eqb d 1 }) (layoutOf h)
+pub layout-read : (h : List ℕ) {n p q k s d : ℕ} {m order : List ℕ} → m ≡ take 8 (drop levelsAt h) → order ≡ take 8 (drop orderAt h) → n ≡ getD h 0 0 → p ≡ getD h 1 0 → q ≡ getD h 2 0 → k ≡ getD h 3 0
+    → s ≡ getD h sparseAt 0 → d ≡ getD h diagonalAt 0 → _≡_ {A = Layout} (layoutWith n p q k m order (eqb s 1) (eqb d 1)) (layoutOf h)
 unfolding layoutOf
 layout-read h a b c d e f g i = rw (a, b, c, d, e, f, g, i)
 
-pub progress-read : (h : List ℕ) {s : State} {v left : ℕ} {stages : List ℕ} → v ≡ getD h 22 0 → s ≡ stateOf v → stages ≡ take 45 (drop 24 h) → left ≡ getD h 23 0
-    → _≡_ {A = Progress} (record { state = s; left = left; stages = stages }) (progressOf h)
+pub progress-read : (h : List ℕ) {s : State} {v left : ℕ} {stages : List ℕ} → v ≡ getD h progressAt 0 → s ≡ stateOf v → stages ≡ take mostTargets (drop stagesAt h) → left ≡ getD h stepsLeftAt 0
+    → _≡_ {A = Progress} (progressWith s left stages) (progressOf h)
 unfolding progressOf
 progress-read h a b c d = rw (b, a, c, d)
 
@@ -65,11 +68,11 @@ stored-all l {at} {n} {w} e g =
     ∙ ap (λ (x : List ℕ). store at x w)
     (sym (take-tab 0 n (each l) (padded n l) (omega (arith, length-padded n l)) (λ i b. padded-at n l i b)) ∙ take-all n (padded n l) (omega (arith, length-padded n l)))
 
-long-layout : (y : Layout) → 22 ≡ length (layoutNumbers y)
+long-layout : (y : Layout) → progressAt ≡ length (layoutNumbers y)
 unfolding layoutNumbers padded
 long-layout y = refl
 
-long-both : (y : Layout) (g : Progress) → 69 ≡ length (layoutNumbers y ++ progressNumbers g)
+long-both : (y : Layout) (g : Progress) → progressEnd ≡ length (layoutNumbers y ++ progressNumbers g)
 unfolding layoutNumbers progressNumbers padded
 long-both y g = refl
 
@@ -86,14 +89,14 @@ module _ (w : List ℕ) {w₁ w₂ w₃ w₄ : List ℕ} where
       (then w 0 3 (n ∷ p ∷ q ∷ []) (k ∷ []) refl (omega arith))
 
   -- the layout: counts, levels, sheet indexes, flags
-  pub layout-stored : (y : Layout) → w₄ ≡ store 20 (bit (y .sparse) ∷ bit (y .diagonal) ∷ []) w₃ → w₃ ≡ store 12 (padded 8 (y .order)) w₂ → w₂ ≡ store 4 (padded 8 (y .m)) w₁
-      → w₁ ≡ store 0 (y .n ∷ y .p ∷ y .q ∷ y .k ∷ []) w → 128 ≤ length w → w₄ ≡ store 0 (layoutNumbers y) w
+  pub layout-stored : (y : Layout) → w₄ ≡ store sparseAt (bit (y .sparse) ∷ bit (y .diagonal) ∷ []) w₃ → w₃ ≡ store orderAt (padded 8 (y .order)) w₂ → w₂ ≡ store levelsAt (padded 8 (y .m)) w₁
+      → w₁ ≡ store 0 (y .n ∷ y .p ∷ y .q ∷ y .k ∷ []) w → headingLength ≤ length w → w₄ ≡ store 0 (layoutNumbers y) w
   unfolding layoutNumbers padded
   layout-stored y e₄ e₃ e₂ e₁ h =
       rw (e₄, e₃, e₂, e₁)
-      (ap (λ (x : List ℕ). store 20 flags (store 12 order x)) (then w 0 4 counts m refl (omega arith))
-      ∙ ap (λ (x : List ℕ). store 20 flags x) (then w 0 12 (counts ++ m) order refl (omega arith))
-      ∙ then w 0 20 (counts ++ m ++ order) flags refl (omega arith))
+      (ap (λ (x : List ℕ). store sparseAt flags (store orderAt order x)) (then w 0 levelsAt counts m refl (omega arith))
+      ∙ ap (λ (x : List ℕ). store sparseAt flags x) (then w 0 orderAt (counts ++ m) order refl (omega arith))
+      ∙ then w 0 sparseAt (counts ++ m ++ order) flags refl (omega arith))
     where
       counts : List ℕ
       counts = y.n ∷ y .p ∷ y .q ∷ y .k ∷ []
@@ -108,23 +111,23 @@ module _ (w : List ℕ) {w₁ w₂ w₃ w₄ : List ℕ} where
       flags = bit y.sparse ∷ bit y.diagonal ∷ []
 
 -- the flags
-pub flags-stored : (w : List ℕ) {w₁ w₂ : List ℕ} {a b : ℕ} (s d : ℕ) → w₂ ≡ store 21 (b ∷ []) w₁ → w₁ ≡ store 20 (a ∷ []) w → a ≡ s → b ≡ d → 22 ≤ length w → w₂ ≡ store 20 (s ∷ d ∷ []) w
-flags-stored w s d e₂ e₁ a b h = rw (e₂, e₁, a, b) (then w 20 21 (s ∷ []) (d ∷ []) refl (omega arith))
+pub flags-stored : (w : List ℕ) {w₁ w₂ : List ℕ} {a b : ℕ} (s d : ℕ) → w₂ ≡ store diagonalAt (b ∷ []) w₁ → w₁ ≡ store sparseAt (a ∷ []) w → a ≡ s → b ≡ d → progressAt ≤ length w → w₂ ≡ store sparseAt (s ∷ d ∷ []) w
+flags-stored w s d e₂ e₁ a b h = rw (e₂, e₁, a, b) (then w sparseAt diagonalAt (s ∷ []) (d ∷ []) refl (omega arith))
 
 module _ (w : List ℕ) {w₁ w₂ w₃ : List ℕ} where
   -- the progress: state, steps left, stages
-  pub progress-stored : {a : ℕ} (g : Progress) → w₃ ≡ store 24 (padded 45 (g .stages)) w₂ → w₂ ≡ store 23 (g .left ∷ []) w₁ → w₁ ≡ store 22 (a ∷ []) w → a ≡ stateNumber (g .state)
-      → 128 ≤ length w → w₃ ≡ store 22 (progressNumbers g) w
+  pub progress-stored : {a : ℕ} (g : Progress) → w₃ ≡ store stagesAt (padded mostTargets (g .stages)) w₂ → w₂ ≡ store stepsLeftAt (g .left ∷ []) w₁ → w₁ ≡ store progressAt (a ∷ []) w → a ≡ stateNumber (g .state)
+      → headingLength ≤ length w → w₃ ≡ store progressAt (progressNumbers g) w
   unfolding progressNumbers
   progress-stored g e₃ e₂ e₁ a h =
-      rw (e₃, e₂, e₁, a, then w 22 23 (stateNumber g.state ∷ []) (g.left ∷ []) refl (omega arith))
-      (then w 22 24 (stateNumber g.state ∷ g .left ∷ []) (padded 45 g.stages) refl (omega arith))
+      rw (e₃, e₂, e₁, a, then w progressAt stepsLeftAt (stateNumber g.state ∷ []) (g.left ∷ []) refl (omega arith))
+      (then w progressAt stagesAt (stateNumber g.state ∷ g .left ∷ []) (padded mostTargets g.stages) refl (omega arith))
 
   -- the whole heading: layout, progress, zeros
-  pub all-stored : (y : Layout) (g : Progress) → w₃ ≡ store 69 (padded 59 (replicate 59 0)) w₂ → w₂ ≡ store 22 (progressNumbers g) w₁ → w₁ ≡ store 0 (layoutNumbers y) w → 128 ≤ length w
+  pub all-stored : (y : Layout) (g : Progress) → w₃ ≡ store progressEnd (padded unusedNumbers (replicate unusedNumbers 0)) w₂ → w₂ ≡ store progressAt (progressNumbers g) w₁ → w₁ ≡ store 0 (layoutNumbers y) w → headingLength ≤ length w
       → w₃ ≡ store 0 (written y g) w
   unfolding written padded
   all-stored y g e₃ e₂ e₁ h =
       rw (e₃, e₂, e₁)
-      (ap (λ (x : List ℕ). store 69 (replicate 59 0) x) (then w 0 22 (layoutNumbers y) (progressNumbers g) (long-layout y) (omega arith))
-      ∙ then w 0 69 (layoutNumbers y ++ progressNumbers g) (replicate 59 0) (long-both y g) (omega arith))
+      (ap (λ (x : List ℕ). store progressEnd (replicate unusedNumbers 0) x) (then w 0 progressAt (layoutNumbers y) (progressNumbers g) (long-layout y) (omega arith))
+      ∙ then w 0 progressEnd (layoutNumbers y ++ progressNumbers g) (replicate unusedNumbers 0) (long-both y g) (omega arith))

@@ -20,10 +20,5 @@ pub fn idle(k: u64) -> Progress
     requires { ⌜ k ≤ 8 ⌝ }
     ensures { λ r. ⌜ r ≡ idle k ⌝ }
 {
-    let left = step_count(k);
-    Progress {
-        state: State::Idle,
-        left,
-        stages: [0; 45],
-    }
+    heading_format::undone(State::Idle, step_count(k))
 }

@@ -7,8 +7,10 @@ ghost use mathlib.Core.Path.{_≡_};
 ghost use Prim.Native.Nat.{_+_, _<_, _≤_};
 ghost use lib.ListN.{length, getD, take, drop};
 ghost use Rattle.heading_format.specs.Heading.{stateOf, layoutOf, progressOf};
+ghost use Rattle.heading_format.specs.Parts.{stagesAt, mostTargets, progressEnd, headingLength};
 use heading_format::Progress;
 use heading_format::State;
+use heading_format::parts;
 use layout::Layout;
 
 // A number of the heading as a count.
@@ -50,12 +52,12 @@ fn eight(heading: &[u32], at: usize) -> [u64; 8]
 }
 
 // The stages of the target blocks.
-fn stages(heading: &[u32]) -> [u64; 45]
-    requires { ⌜ 69 ≤ length (now heading) ⌝ }
-    ensures { λ r. ⌜ r ≡ take 45 (drop 24 (now (heading .entry))) ⌝ }
+fn stages(heading: &[u32]) -> [u64; parts::MOST_TARGETS]
+    requires { ⌜ progressEnd ≤ length (now heading) ⌝ }
+    ensures { λ r. ⌜ r ≡ take mostTargets (drop stagesAt (now (heading .entry))) ⌝ }
 {
-    let mut r = [0u64; 45];
-    fill(heading, 24, &mut r);
+    let mut r = [0u64; parts::MOST_TARGETS];
+    fill(heading, parts::STAGES_AT, &mut r);
     r
 }
 
@@ -72,11 +74,11 @@ fn state(v: u64) -> State
 
 // The layout that a heading tells.
 pub fn layout(heading: &[u32]) -> Layout
-    requires { ⌜ 128 ≤ length (now heading) ⌝ }
+    requires { ⌜ headingLength ≤ length (now heading) ⌝ }
     ensures { λ r. ⌜ r ≡ layoutOf (now (heading .entry)) ⌝ }
 {
-    let m = eight(heading, 4);
-    let order = eight(heading, 12);
+    let m = eight(heading, parts::LEVELS_AT);
+    let order = eight(heading, parts::ORDER_AT);
     Layout {
         n: number(heading, 0),
         p: number(heading, 1),
@@ -84,21 +86,21 @@ pub fn layout(heading: &[u32]) -> Layout
         k: number(heading, 3),
         m,
         order,
-        sparse: number(heading, 20) == 1,
-        diagonal: number(heading, 21) == 1,
+        sparse: number(heading, parts::SPARSE_AT) == 1,
+        diagonal: number(heading, parts::DIAGONAL_AT) == 1,
     }
 }
 
 // The progress that a heading tells.
 pub fn progress(heading: &[u32]) -> Progress
-    requires { ⌜ 128 ≤ length (now heading) ⌝ }
+    requires { ⌜ headingLength ≤ length (now heading) ⌝ }
     ensures { λ r. ⌜ r ≡ progressOf (now (heading .entry)) ⌝ }
 {
-    let state = state(number(heading, 22));
+    let state = state(number(heading, parts::PROGRESS_AT));
     let stages = stages(heading);
     Progress {
         state,
-        left: number(heading, 23),
+        left: number(heading, parts::STEPS_LEFT_AT),
         stages,
     }
 }

@@ -7,8 +7,10 @@ ghost use Rattle.storage.specs.Part.{store};
 ghost use Rattle.layout.specs.Blocks.{padded};
 ghost use Rattle.heading_format.specs.Heading.{bit, stateNumber, layoutNumbers, progressNumbers, written};
 ghost use Rattle.heading.specs.writer.Small.{SmallLayout, SmallProgress};
+ghost use Rattle.heading_format.specs.Parts.{sparseAt, progressAt, headingLength};
 use heading_format::Progress;
 use heading_format::State;
+use heading_format::parts;
 use layout::Layout;
 
 // A number of the heading.
@@ -70,45 +72,45 @@ fn write_counts(heading: &mut [u32], n: u64, p: u64, q: u64, k: u64)
 
 // Writes how the blocks are stored.
 fn write_flags(heading: &mut [u32], sparse: bool, diagonal: bool)
-    requires { ⌜ 22 ≤ length (now heading) ⌝ }
-    ensures { λ _. ⌜ now (heading .exit) ≡ store 20 (bit sparse ∷ bit diagonal ∷ []) (now (heading .entry)) ⌝ }
+    requires { ⌜ progressAt ≤ length (now heading) ⌝ }
+    ensures { λ _. ⌜ now (heading .exit) ≡ store sparseAt (bit sparse ∷ bit diagonal ∷ []) (now (heading .entry)) ⌝ }
 {
-    put(heading, 20, flag(sparse));
-    put(heading, 21, flag(diagonal));
+    put(heading, parts::SPARSE_AT, flag(sparse));
+    put(heading, parts::DIAGONAL_AT, flag(diagonal));
 }
 
 // Writes a layout.
 fn write_layout(heading: &mut [u32], layout: Layout)
-    requires { ⌜ (128 ≤ length (now heading)) × SmallLayout layout ⌝ }
+    requires { ⌜ (headingLength ≤ length (now heading)) × SmallLayout layout ⌝ }
     ensures { λ _. ⌜ now (heading .exit) ≡ store 0 (layoutNumbers layout) (now (heading .entry)) ⌝ }
 {
     write_counts(heading, layout.n, layout.p, layout.q, layout.k);
     let m = layout.m;
-    write_numbers(heading, 4, &m, 8);
+    write_numbers(heading, parts::LEVELS_AT, &m, 8);
     let order = layout.order;
-    write_numbers(heading, 12, &order, 8);
+    write_numbers(heading, parts::ORDER_AT, &order, 8);
     write_flags(heading, layout.sparse, layout.diagonal);
 }
 
 // Writes a progress, and nothing else.
 pub fn write_progress(heading: &mut [u32], progress: Progress)
-    requires { ⌜ (128 ≤ length (now heading)) × SmallProgress progress ⌝ }
-    ensures { λ _. ⌜ now (heading .exit) ≡ store 22 (progressNumbers progress) (now (heading .entry)) ⌝ }
+    requires { ⌜ (headingLength ≤ length (now heading)) × SmallProgress progress ⌝ }
+    ensures { λ _. ⌜ now (heading .exit) ≡ store progressAt (progressNumbers progress) (now (heading .entry)) ⌝ }
 {
     let state = progress.state;
-    put(heading, 22, state_number(state));
-    put(heading, 23, progress.left);
+    put(heading, parts::PROGRESS_AT, state_number(state));
+    put(heading, parts::STEPS_LEFT_AT, progress.left);
     let stages = progress.stages;
-    write_numbers(heading, 24, &stages, 45);
+    write_numbers(heading, parts::STAGES_AT, &stages, parts::MOST_TARGETS);
 }
 
-// Writes all 128 numbers of a heading.
+// Writes all parts of a heading.
 pub fn write(heading: &mut [u32], layout: Layout, progress: Progress)
-    requires { ⌜ (128 ≤ length (now heading)) × SmallLayout layout × SmallProgress progress ⌝ }
+    requires { ⌜ (headingLength ≤ length (now heading)) × SmallLayout layout × SmallProgress progress ⌝ }
     ensures { λ _. ⌜ now (heading .exit) ≡ store 0 (written layout progress) (now (heading .entry)) ⌝ }
 {
     write_layout(heading, layout);
     write_progress(heading, progress);
-    let zeros = [0u64; 59];
-    write_numbers(heading, 69, &zeros, 59);
+    let zeros = [0u64; parts::UNUSED_NUMBERS];
+    write_numbers(heading, parts::UNUSED_AT, &zeros, parts::UNUSED_NUMBERS);
 }

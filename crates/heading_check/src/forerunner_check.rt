@@ -6,12 +6,13 @@ ghost use Prim.Native.Nat.{suc, _+_, _-_, _<_, _≤_};
 ghost use lib.ListN.{length};
 ghost use Rattle.step_order.specs.Steps.{C, T, each, subtractions, columnSteps, rustOrder};
 ghost use Rattle.heading_check.specs.stage_check.Walk.{stepped, walked, stagesIn};
+ghost use Rattle.heading_format.specs.Parts.{headingLength};
 use crate::stage_check;
 use crate::stage_check::Walk;
 
 // C(j): it comes after the subtractions of its own target alone.
 fn factor(heading: &[u32], w: Walk, j: u64) -> Walk
-    requires { ⌜ (128 ≤ length (now heading)) × (j ≤ 8) × (w .left ≤ 5000) ⌝ }
+    requires { ⌜ (headingLength ≤ length (now heading)) × (j ≤ 8) × (w .left ≤ 5000) ⌝ }
     ensures { λ r. ⌜ (r ≡ stepped (stagesIn (now (heading .entry))) w (C j)) × (r .left ≤ w .left + 1) ⌝ }
 {
     let s = stage_check::stage(heading, j, j);
@@ -20,7 +21,7 @@ fn factor(heading: &[u32], w: Walk, j: u64) -> Walk
 
 // T(i,j): it comes after C(j).
 fn solve(heading: &[u32], w: Walk, i: u64, j: u64) -> Walk
-    requires { ⌜ (128 ≤ length (now heading)) × (j < i) × (i ≤ 8) × (w .left ≤ 5000) ⌝ }
+    requires { ⌜ (headingLength ≤ length (now heading)) × (j < i) × (i ≤ 8) × (w .left ≤ 5000) ⌝ }
     ensures { λ r. ⌜ (r ≡ stepped (stagesIn (now (heading .entry))) w (T i j)) × (r .left ≤ w .left + 1) ⌝ }
 {
     let s = stage_check::stage(heading, i, j);
@@ -30,7 +31,7 @@ fn solve(heading: &[u32], w: Walk, i: u64, j: u64) -> Walk
 
 // All S(i,j,x), x rising.
 fn subtract_all(heading: &[u32], w: Walk, i: u64, j: u64) -> Walk
-    requires { ⌜ (128 ≤ length (now heading)) × (j ≤ i) × (i ≤ 8) × (w .left ≤ 4000) ⌝ }
+    requires { ⌜ (headingLength ≤ length (now heading)) × (j ≤ i) × (i ≤ 8) × (w .left ≤ 4000) ⌝ }
     ensures { λ r. ⌜ (r ≡ walked (stagesIn (now (heading .entry))) w (subtractions i j)) × (r .left ≤ w .left + 8) ⌝ }
 {
     let mut v = w;
@@ -44,7 +45,7 @@ fn subtract_all(heading: &[u32], w: Walk, i: u64, j: u64) -> Walk
 
 // The steps of target (i, j) below the diagonal.
 fn target(heading: &[u32], w: Walk, i: u64, j: u64) -> Walk
-    requires { ⌜ (128 ≤ length (now heading)) × (j < i) × (i ≤ 8) × (w .left ≤ 4000) ⌝ }
+    requires { ⌜ (headingLength ≤ length (now heading)) × (j < i) × (i ≤ 8) × (w .left ≤ 4000) ⌝ }
     ensures { λ r. ⌜ (r ≡ walked (stagesIn (now (heading .entry))) w (subtractions i j ++ (T i j ∷ []))) × (r .left ≤ w .left + 9) ⌝ }
 {
     let v = subtract_all(heading, w, i, j);
@@ -53,7 +54,7 @@ fn target(heading: &[u32], w: Walk, i: u64, j: u64) -> Walk
 
 // The targets of column j below the diagonal.
 fn below(heading: &[u32], w: Walk, j: u64, k: u64) -> Walk
-    requires { ⌜ (128 ≤ length (now heading)) × (j ≤ k) × (k ≤ 8) × (w .left ≤ 3000) ⌝ }
+    requires { ⌜ (headingLength ≤ length (now heading)) × (j ≤ k) × (k ≤ 8) × (w .left ≤ 3000) ⌝ }
     ensures { λ r. ⌜ (r ≡ walked (stagesIn (now (heading .entry))) w (each (λ i. subtractions i j ++ (T i j ∷ [])) (suc j) (k - j))) × (r .left ≤ w .left + 81) ⌝ }
 {
     let mut v = w;
@@ -67,7 +68,7 @@ fn below(heading: &[u32], w: Walk, j: u64, k: u64) -> Walk
 
 // Column j.
 fn column(heading: &[u32], w: Walk, j: u64, k: u64) -> Walk
-    requires { ⌜ (128 ≤ length (now heading)) × (j ≤ k) × (k ≤ 8) × (w .left ≤ 2000) ⌝ }
+    requires { ⌜ (headingLength ≤ length (now heading)) × (j ≤ k) × (k ≤ 8) × (w .left ≤ 2000) ⌝ }
     ensures { λ r. ⌜ (r ≡ walked (stagesIn (now (heading .entry))) w (columnSteps k j)) × (r .left ≤ w .left + 90) ⌝ }
 {
     let u = subtract_all(heading, w, j, j);
@@ -77,7 +78,7 @@ fn column(heading: &[u32], w: Walk, j: u64, k: u64) -> Walk
 
 // The Rust's order.
 pub fn walk_all(heading: &[u32], k: u64) -> Walk
-    requires { ⌜ (128 ≤ length (now heading)) × (k ≤ 8) ⌝ }
+    requires { ⌜ (headingLength ≤ length (now heading)) × (k ≤ 8) ⌝ }
     ensures { λ r. ⌜ r ≡ walked (stagesIn (now (heading .entry))) (record { left = 0; valid = true }) (rustOrder k) ⌝ }
 {
     let mut v = Walk {

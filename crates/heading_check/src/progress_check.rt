@@ -5,6 +5,7 @@ ghost use mathlib.Core.Path.{_≡_};
 ghost use Prim.Native.Nat.{_-_, _<_, _≤_};
 ghost use lib.ListN.{length};
 ghost use Rattle.heading_format.specs.Heading.{validState, validProgress, progressOf};
+ghost use Rattle.heading_format.specs.Parts.{headingLength};
 use crate::forerunner_check;
 use crate::stage_check;
 use heading::idle_progress;
@@ -23,7 +24,7 @@ fn is_valid_state(s: State, left: u64, all: u64) -> bool
 
 // Whether the progress that a heading of k blocks tells is valid.
 pub fn is_valid_progress(heading: &[u32], k: u64) -> bool
-    requires { ⌜ (128 ≤ length (now heading)) × (k ≤ 8) ⌝ }
+    requires { ⌜ (headingLength ≤ length (now heading)) × (k ≤ 8) ⌝ }
     ensures { λ r. ⌜ r ≡ validProgress k (progressOf (now (heading .entry))) ⌝ }
 {
     if stage_check::is_bounded(heading, k) {

@@ -4,10 +4,12 @@ ghost use mathlib.Core.Bool.{true, not, _&&_, _||_};
 ghost use Prim.Native.Nat.{_+_, _<_, _≤_};
 ghost use lib.Dec.{leb, ltb};
 ghost use lib.ListN.{length, getD};
-ghost use Rattle.layout.specs.Shapes.{levels, numbersNeeded, doublesNeeded};
-ghost use Rattle.heading_format.specs.Heading.{every, entryRow, validLayout};
+ghost use Rattle.layout.specs.Shapes.{levels, doublesNeeded};
+ghost use Rattle.heading_format.specs.Heading.{every, entryRow, validLayout, numbersNeeded};
+ghost use Rattle.heading_format.specs.Parts.{sparseAt, diagonalAt, progressAt, headingLength};
 use crate::order_check::level;
 use block_places::places;
+use heading_format::parts;
 use layout::Layout;
 
 // Whether a number of the heading is at most a bound.
@@ -20,15 +22,15 @@ fn at_most(heading: &[u32], at: usize, most: u32) -> bool
 
 // Whether the row of a sparse column's entry is below a bound.
 fn row_below(heading: &[u32], c: u64, rows: u64) -> bool
-    requires { ⌜ (128 + c < length (now heading)) × (rows ≤ 65535) ⌝ }
+    requires { ⌜ (headingLength + c < length (now heading)) × (rows ≤ 65535) ⌝ }
     ensures { λ r. ⌜ r ≡ ltb (entryRow (now (heading .entry)) c) rows ⌝ }
 {
-    heading[(128 + c) as usize] < (rows as u32)
+    heading[(parts::HEADING_LENGTH as u64 + c) as usize] < (rows as u32)
 }
 
 // Whether the rows of all sparse columns' entries are.
 fn rows_below(heading: &[u32], cols: u64, rows: u64) -> bool
-    requires { ⌜ (128 + cols ≤ length (now heading)) × (rows ≤ 65535) ⌝ }
+    requires { ⌜ (headingLength + cols ≤ length (now heading)) × (rows ≤ 65535) ⌝ }
     ensures { λ r. ⌜ r ≡ every (λ c. ltb (entryRow (now (heading .entry)) c) rows) cols ⌝ }
 {
     let mut c: u64 = 0;
@@ -48,21 +50,23 @@ pub fn has_room(heading: &[u32], layout: Layout, doubles: usize) -> bool
     ensures { λ r.
         ⌜ r ≡ (leb (numbersNeeded layout) (length (now (heading .entry))) && leb (doublesNeeded layout) doubles && (not (layout .sparse) || every (λ c. ltb (entryRow (now (heading .entry)) c) (levels layout 1)) (levels layout 0))) ⌝ }
 {
-    let room = places::sum_at(layout) + 1 <= doubles;
+    let room = places::doubles_needed(layout) <= doubles;
     if layout.sparse {
         let cols = level(layout, 0);
-        if 128 + cols <= heading.len() as u64 {
+        if parts::HEADING_LENGTH as u64 + cols <= heading.len() as u64 {
             return room & rows_below(heading, cols, level(layout, 1));
         }
         return false;
     }
-    (128 <= heading.len()) & room
+    (parts::HEADING_LENGTH <= heading.len()) & room
 }
 
 // Whether the flags and the state have numbers of theirs.
 pub fn has_flags(heading: &[u32]) -> bool
-    requires { ⌜ 128 ≤ length (now heading) ⌝ }
-    ensures { λ r. ⌜ r ≡ (leb (getD (now (heading .entry)) 20 0) 1 && leb (getD (now (heading .entry)) 21 0) 1 && leb (getD (now (heading .entry)) 22 0) 2) ⌝ }
+    requires { ⌜ headingLength ≤ length (now heading) ⌝ }
+    ensures { λ r. ⌜ r ≡ (leb (getD (now (heading .entry)) sparseAt 0) 1 && leb (getD (now (heading .entry)) diagonalAt 0) 1 && leb (getD (now (heading .entry)) progressAt 0) 2) ⌝ }
 {
-    at_most(heading, 20, 1) & at_most(heading, 21, 1) & at_most(heading, 22, 2)
+    at_most(heading, parts::SPARSE_AT, 1)
+        & at_most(heading, parts::DIAGONAL_AT, 1)
+        & at_most(heading, parts::PROGRESS_AT, 2)
 }

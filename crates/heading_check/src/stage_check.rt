@@ -8,6 +8,8 @@ ghost use Rattle.storage.specs.Runs.{start, triangle};
 ghost use Rattle.step_order.specs.Steps.{S};
 ghost use Rattle.heading_format.specs.Heading.{every};
 ghost use Rattle.heading_check.specs.stage_check.Walk.{stepWith, stepped, stagesIn};
+ghost use Rattle.heading_format.specs.Parts.{headingLength};
+use heading_format::parts;
 
 // What a walk over steps has found: how many are left, and whether each that is done comes after its forerunners.
 pub struct Walk {
@@ -32,16 +34,16 @@ fn targets_before(i: u64) -> u64
 
 // The stage of target (i, j).
 pub fn stage(heading: &[u32], i: u64, j: u64) -> u64
-    requires { ⌜ (128 ≤ length (now heading)) × (j ≤ i) × (i ≤ 8) ⌝ }
+    requires { ⌜ (headingLength ≤ length (now heading)) × (j ≤ i) × (i ≤ 8) ⌝ }
     ensures { λ r. ⌜ r ≡ stagesIn (now (heading .entry)) i j ⌝ }
 {
-    let at = 24 + targets_before(i) + j;
+    let at = parts::STAGES_AT as u64 + targets_before(i) + j;
     wide(heading[at as usize])
 }
 
 // No target of row i is past its last step.
 fn row_bounded(heading: &[u32], i: u64) -> bool
-    requires { ⌜ (128 ≤ length (now heading)) × (i ≤ 8) ⌝ }
+    requires { ⌜ (headingLength ≤ length (now heading)) × (i ≤ 8) ⌝ }
     ensures { λ r. ⌜ r ≡ every (λ j. leb (stagesIn (now (heading .entry)) i j) (suc j)) (suc i) ⌝ }
 {
     let mut j: u64 = 0;
@@ -57,7 +59,7 @@ fn row_bounded(heading: &[u32], i: u64) -> bool
 
 // No target is.
 pub fn is_bounded(heading: &[u32], k: u64) -> bool
-    requires { ⌜ (128 ≤ length (now heading)) × (k ≤ 8) ⌝ }
+    requires { ⌜ (headingLength ≤ length (now heading)) × (k ≤ 8) ⌝ }
     ensures { λ r. ⌜ r ≡ every (λ i. every (λ j. leb (stagesIn (now (heading .entry)) i j) (suc j)) (suc i)) (suc k) ⌝ }
 {
     let mut i: u64 = 0;
@@ -91,7 +93,7 @@ pub fn count_step(w: Walk, done: bool, ready: bool) -> Walk
 
 // S(i,j,x): after it in its target come others, so those before it are done with it; what is left to see is T(i,x) and T(j,x).
 pub fn subtraction(heading: &[u32], w: Walk, i: u64, j: u64, x: u64) -> Walk
-    requires { ⌜ (128 ≤ length (now heading)) × (x < j) × (j ≤ i) × (i ≤ 8) × (w .left ≤ 5000) ⌝ }
+    requires { ⌜ (headingLength ≤ length (now heading)) × (x < j) × (j ≤ i) × (i ≤ 8) × (w .left ≤ 5000) ⌝ }
     ensures { λ r. ⌜ (r ≡ stepped (stagesIn (now (heading .entry))) w (S i j x)) × (r .left ≤ w .left + 1) ⌝ }
 {
     let s = stage(heading, i, j);

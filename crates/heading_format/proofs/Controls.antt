@@ -13,9 +13,11 @@ use Rattle.heading_format.specs.declared.Progress.{Progress}
 use Rattle.layout.specs.Blocks.{insert, sorted, sum, padded}
 use Rattle.layout.specs.Gate.{pairOf}
 use Rattle.heading_format.specs.Heading.{layoutNumbers, progressNumbers, written, layoutOf, progressOf, entryRow, every, same, sheetLevels, validLayout, validProgress, idle, validHeading}
-use Rattle.layout.specs.Shapes.{shape, loadedShape, factors, across, pairs, targets, cellsOf, loadedLength, sumAt, crossCells, factorCells, doublesNeeded}
+use Rattle.layout.specs.Shapes.{shape, loadedShape, factors, across, pairs, targets, cellsOf, sumAt, crossCells, factorCells, doublesNeeded, triangleEnd}
 use Rattle.layout.proofs.Controls.{two}
 use Rattle.heading_format.proofs.Heading.{rows-back, never-20, sparse-row-refused, idle-valid}
+use Rattle.heading_format.specs.Parts.{mostTargets, unusedNumbers}
+use Rattle.layout.proofs.Made.{layoutWith}
 
 -- the row of the second sparse column, whatever the progress
 pub second-row : (g : Progress) → entryRow (written (two false) g ++ (7 ∷ 8 ∷ [])) 1 ≡ 8
@@ -28,8 +30,8 @@ unfolding validLayout every same sheetLevels sorted insert sum pairOf
 valid-two = (refl, refl)
 
 -- a layout whose blocks are not sorted is not, nor one that says another q
-pub invalid : (validLayout (record { n = 9; p = 1; q = 5; k = 2; m = 2 ∷ 3 ∷ replicate 6 0; order = 0 ∷ 1 ∷ replicate 6 0; sparse = false; diagonal = false }) ≡ false)
-    × (validLayout (record { n = 9; p = 1; q = 6; k = 2; m = 3 ∷ 2 ∷ replicate 6 0; order = 0 ∷ 1 ∷ replicate 6 0; sparse = false; diagonal = false }) ≡ false)
+pub invalid : (validLayout (layoutWith 9 1 5 2 (2 ∷ 3 ∷ replicate 6 0) (0 ∷ 1 ∷ replicate 6 0) false false) ≡ false)
+    × (validLayout (layoutWith 9 1 6 2 (3 ∷ 2 ∷ replicate 6 0) (0 ∷ 1 ∷ replicate 6 0) false false) ≡ false)
 unfolding validLayout every same sheetLevels sorted insert sum pairOf
 invalid = (refl, refl)
 
@@ -37,7 +39,7 @@ invalid = (refl, refl)
 
 -- the steps C(0), T(1,0), S(1,1,0), C(1), T(2,0), S(2,1,0), T(2,1), S(2,2,0), S(2,2,1), C(2), by the stages of (0,0), (1,0), (1,1), (2,0), (2,1), (2,2)
 abbrev undone : List ℕ
-undone = replicate 45 0
+undone = replicate mostTargets 0
 
 abbrev firstDone : List ℕ
 firstDone = 1 ∷ replicate 44 0
@@ -50,7 +52,7 @@ abbrev counts : ℕ → ℕ → ℕ → ℕ → ℕ → ℕ → List ℕ
 counts n p q k a b = (n ∷ p ∷ q ∷ k ∷ a ∷ b ∷ []) ++ replicate 6 0 ++ (0 ∷ 1 ∷ []) ++ replicate 8 0
 
 abbrev heading : List ℕ → ℕ → ℕ → List ℕ → List ℕ
-heading l state left stages = l ++ (state ∷ left ∷ []) ++ stages ++ replicate 59 0
+heading l state left stages = l ++ (state ∷ left ∷ []) ++ stages ++ replicate unusedNumbers 0
 
 -- those of the layout `two`
 abbrev fair : List ℕ
@@ -59,51 +61,51 @@ fair = counts 9 1 5 2 3 2
 -- none, under way with no step and with one step done, finished
 pub accepted : (validHeading (heading fair 0 10 undone) 52 ≡ true) × (validHeading (heading fair 1 10 undone) 52 ≡ true) × (validHeading (heading fair 1 9 firstDone) 52 ≡ true)
     × (validHeading (heading fair 2 0 allDone) 52 ≡ true)
-unfolding validHeading layoutOf progressOf validLayout validProgress rustOrder every same sheetLevels sorted insert sum pairOf sumAt loadedLength targets factors pairs across cellsOf shape loadedShape start
+unfolding validHeading layoutOf progressOf validLayout validProgress rustOrder every same sheetLevels sorted insert sum pairOf sumAt triangleEnd targets factors pairs across cellsOf shape loadedShape start
 accepted = (refl, refl, refl, refl)
 
 -- T(1,0) done and C(0) not
 pub no-forerunner : validHeading (heading fair 1 9 (0 ∷ 1 ∷ replicate 43 0)) 52 ≡ false
-unfolding validHeading layoutOf progressOf validLayout validProgress rustOrder every same sheetLevels sorted insert sum pairOf sumAt loadedLength targets factors pairs across cellsOf shape loadedShape start
+unfolding validHeading layoutOf progressOf validLayout validProgress rustOrder every same sheetLevels sorted insert sum pairOf sumAt triangleEnd targets factors pairs across cellsOf shape loadedShape start
 no-forerunner = refl
 
 -- none with a step done; finished with steps left; a fourth state
 pub other-state : (validHeading (heading fair 0 9 firstDone) 52 ≡ false) × (validHeading (heading fair 2 9 firstDone) 52 ≡ false) × (validHeading (heading fair 3 0 allDone) 52 ≡ false)
-unfolding validHeading layoutOf progressOf validLayout validProgress rustOrder every same sheetLevels sorted insert sum pairOf sumAt loadedLength targets factors pairs across cellsOf shape loadedShape start
+unfolding validHeading layoutOf progressOf validLayout validProgress rustOrder every same sheetLevels sorted insert sum pairOf sumAt triangleEnd targets factors pairs across cellsOf shape loadedShape start
 other-state = (refl, refl, refl)
 
 -- (0,0) past its last step; a step left too many
 pub other-steps : (validHeading (heading fair 2 0 ((2 ∷ 1 ∷ 2 ∷ 1 ∷ 2 ∷ 3 ∷ []) ++ replicate 39 0)) 52 ≡ false) × (validHeading (heading fair 1 10 firstDone) 52 ≡ false)
-unfolding validHeading layoutOf progressOf validLayout validProgress rustOrder every same sheetLevels sorted insert sum pairOf sumAt loadedLength targets factors pairs across cellsOf shape loadedShape start
+unfolding validHeading layoutOf progressOf validLayout validProgress rustOrder every same sheetLevels sorted insert sum pairOf sumAt triangleEnd targets factors pairs across cellsOf shape loadedShape start
 other-steps = (refl, refl)
 
 -- a double too few; a number too few
 pub too-short : (validHeading (heading fair 1 9 firstDone) 51 ≡ false) × (validHeading (take 127 (heading fair 1 9 firstDone)) 52 ≡ false)
-unfolding validHeading layoutOf progressOf validLayout validProgress rustOrder every same sheetLevels sorted insert sum pairOf sumAt loadedLength targets factors pairs across cellsOf shape loadedShape start
+unfolding validHeading layoutOf progressOf validLayout validProgress rustOrder every same sheetLevels sorted insert sum pairOf sumAt triangleEnd targets factors pairs across cellsOf shape loadedShape start
 too-short = (refl, refl)
 
 -- q not the sum; blocks not sorted
 pub other-blocks : (validHeading (heading (counts 9 1 6 2 3 2) 1 9 firstDone) 100 ≡ false) × (validHeading (heading (counts 9 1 5 2 2 3) 1 9 firstDone) 100 ≡ false)
-unfolding validHeading layoutOf progressOf validLayout validProgress rustOrder every same sheetLevels sorted insert sum pairOf sumAt loadedLength targets factors pairs across cellsOf shape loadedShape start
+unfolding validHeading layoutOf progressOf validLayout validProgress rustOrder every same sheetLevels sorted insert sum pairOf sumAt triangleEnd targets factors pairs across cellsOf shape loadedShape start
 other-blocks = (refl, refl)
 
 -- n = 0; p = 0; k = 0
 pub zero-counts : (validHeading (heading (counts 0 1 5 2 3 2) 1 9 firstDone) 100 ≡ false) × (validHeading (heading (counts 9 0 5 2 3 2) 1 9 firstDone) 100 ≡ false)
     × (validHeading (heading (counts 9 1 0 0 0 0) 1 1 undone) 100 ≡ false)
-unfolding validHeading layoutOf progressOf validLayout validProgress rustOrder every same sheetLevels sorted insert sum pairOf sumAt loadedLength targets factors pairs across cellsOf shape loadedShape start
+unfolding validHeading layoutOf progressOf validLayout validProgress rustOrder every same sheetLevels sorted insert sum pairOf sumAt triangleEnd targets factors pairs across cellsOf shape loadedShape start
 zero-counts = (refl, refl, refl)
 
 -- ---- a sparse pair of 3 × 33,334 cells
 
 abbrev flagged : Bool → Bool → Layout
 flagged sparse diagonal =
-    record { n = 40000; p = 1; q = 33337; k = 2; m = 33334 ∷ 3 ∷ replicate 6 0; order = 0 ∷ 1 ∷ replicate 6 0; sparse = sparse; diagonal = diagonal }
+    layoutWith 40000 1 33337 2 (33334 ∷ 3 ∷ replicate 6 0) (0 ∷ 1 ∷ replicate 6 0) sparse diagonal
 
 abbrev thinned : Layout
 thinned = flagged true true
 
 abbrev small : Layout
-small = record { n = 9; p = 1; q = 5; k = 2; m = 3 ∷ 2 ∷ replicate 6 0; order = 0 ∷ 1 ∷ replicate 6 0; sparse = true; diagonal = true }
+small = layoutWith 9 1 5 2 (3 ∷ 2 ∷ replicate 6 0) (0 ∷ 1 ∷ replicate 6 0) true true
 
 pub valid-thinned : validLayout thinned ≡ true
 unfolding validLayout every same sheetLevels sorted insert sum pairOf le div ofInt ofBits
@@ -116,7 +118,7 @@ other-pair = (refl, refl, refl)
 
 -- X is 33,334 and D is 33,337
 pub thinned-doubles : doublesNeeded thinned ≡ 266699
-unfolding sumAt loadedLength crossCells factorCells targets factors pairs across cellsOf shape loadedShape start
+unfolding sumAt triangleEnd crossCells factorCells targets factors pairs across cellsOf shape loadedShape start
 thinned-doubles = refl
 
 -- its heading is accepted with 33,334 rows below 3 behind it, and refused with any other row

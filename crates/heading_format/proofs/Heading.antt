@@ -16,25 +16,11 @@ use Rattle.heading_format.specs.declared.Progress.{Progress}
 use Rattle.heading_format.specs.declared.State.{State}
 use Rattle.heading_format.specs.declared.State.the-variants.{Idle, UnderWay, Finished}
 use Rattle.layout.specs.Blocks.{padded}
-use Rattle.layout.specs.Shapes.{levels, numbersNeeded, doublesNeeded}
-use Rattle.heading_format.specs.Heading.{
-  bit,
-  stateNumber,
-  layoutNumbers,
-  progressNumbers,
-  written,
-  stateOf,
-  layoutOf,
-  progressOf,
-  entryRow,
-  every,
-  validLayout,
-  validProgress,
-  idle,
-  underWay,
-  validHeading,
-}
+use Rattle.layout.specs.Shapes.{levels, doublesNeeded}
+use Rattle.heading_format.specs.Heading.{bit, stateNumber, layoutNumbers, progressNumbers, written, stateOf, layoutOf, progressOf, entryRow, every, validLayout, validProgress, idle, underWay, validHeading, numbersNeeded}
 use Rattle.heading_format.proofs.Valid.{both, unless, every-of, every-at, is-false}
+use Rattle.heading_format.specs.Parts.{sparseAt, diagonalAt, progressAt, mostTargets, headingLength}
+use Rattle.layout.proofs.Made.{layoutWith}
 
 -- a list of n numbers needs no zeros
 padded-same : (n : ℕ) (l : List ℕ) → length l ≡ n → padded n l ≡ l
@@ -54,16 +40,16 @@ state-back UnderWay = refl
 state-back Finished = refl
 
 -- y and g with these parts in place of their own
-abbrev layoutWith : Layout → List ℕ → List ℕ → Bool → Bool → Layout
-layoutWith y m order sparse diagonal =
-    record { n = y.n; p = y.p; q = y.q; k = y.k; m = m; order = order; sparse = sparse; diagonal = diagonal }
+abbrev sortedWith : Layout → List ℕ → List ℕ → Bool → Bool → Layout
+sortedWith y m order sparse diagonal = layoutWith y.n y.p y.q y.k m order sparse diagonal
 
-abbrev progressWith : Progress → State → List ℕ → Progress
-progressWith g state stages = record { state = state; left = g.left; stages = stages }
+-- a progress by its parts: laws and examples name it so
+abbrev pub progressWith : State → ℕ → List ℕ → Progress
+progressWith state left stages = record { state = state; left = left; stages = stages }
 
 module _ (y : Layout) (g : Progress) where
-  -- the rows of a sparse pair stand behind 128 numbers
-  pub length-written : length (written y g) ≡ 128
+  -- the rows of a sparse pair stand behind the heading's parts
+  pub length-written : length (written y g) ≡ headingLength
   unfolding written layoutNumbers progressNumbers padded
   length-written = refl
 
@@ -74,17 +60,17 @@ module _ (y : Layout) (g : Progress) where
   pub layout-back : (rest : List ℕ) → length (y .m) ≡ 8 → length (y .order) ≡ 8 → layoutOf (written y g ++ rest) ≡ y
   unfolding layoutOf written layoutNumbers progressNumbers padded
   layout-back rest a b =
-      ap₂ (λ (x z : List ℕ). layoutWith y x z (eqb (bit y.sparse) 1) (eqb (bit y.diagonal) 1)) (padded-same 8 y.m a) (padded-same 8 y.order b)
-      ∙ ap₂ (layoutWith y y.m y.order) (bit-back y.sparse) (bit-back y.diagonal)
+      ap₂ (λ (x z : List ℕ). sortedWith y x z (eqb (bit y.sparse) 1) (eqb (bit y.diagonal) 1)) (padded-same 8 y.m a) (padded-same 8 y.order b)
+      ∙ ap₂ (sortedWith y y.m y.order) (bit-back y.sparse) (bit-back y.diagonal)
 
   -- so is a progress
-  pub progress-back : (rest : List ℕ) → length (g .stages) ≡ 45 → progressOf (written y g ++ rest) ≡ g
+  pub progress-back : (rest : List ℕ) → length (g .stages) ≡ mostTargets → progressOf (written y g ++ rest) ≡ g
   unfolding progressOf written layoutNumbers progressNumbers padded
   progress-back rest a =
-      ap₂ (progressWith g) (state-back g.state) (padded-same 45 g.stages a)
+      ap₂ (λ (s : State) (l : List ℕ). progressWith s g.left l) (state-back g.state) (padded-same mostTargets g.stages a)
 
   -- another progress goes over the old one, and all else stays
-  pub progress-stored : (g′ : Progress) (rest : List ℕ) → store 22 (progressNumbers g′) (written y g ++ rest) ≡ written y g′ ++ rest
+  pub progress-stored : (g′ : Progress) (rest : List ℕ) → store progressAt (progressNumbers g′) (written y g ++ rest) ≡ written y g′ ++ rest
   unfolding store written layoutNumbers progressNumbers padded
   progress-stored g′ rest = refl
 
@@ -93,10 +79,10 @@ module _ (y : Layout) (g : Progress) where
 -- what `validHeading` asks of a list of numbers that reads as y and g: all but the sparse rows, and those
 abbrev front : List ℕ → ℕ → Layout → Progress → Bool
 front h doubles y g =
-    leb 128 (length h)
-    && leb (getD h 20 0) 1
-    && leb (getD h 21 0) 1
-    && leb (getD h 22 0) 2
+    leb headingLength (length h)
+    && leb (getD h sparseAt 0) 1
+    && leb (getD h diagonalAt 0) 1
+    && leb (getD h progressAt 0) 2
     && validLayout y
     && validProgress y.k g
     && leb (numbersNeeded y) (length h)
@@ -108,8 +94,8 @@ sparseRows h y = every (λ c. ltb (entryRow h c) (levels y 1)) (levels y 0)
 abbrev asked : List ℕ → ℕ → Layout → Progress → Bool
 asked h doubles y g = front h doubles y g && (not y.sparse || sparseRows h y)
 
-valid-heading-of : (h : List ℕ) (doubles : ℕ) (y : Layout) (g : Progress) → layoutOf h ≡ y → progressOf h ≡ g → 128 ≤ length h → getD h 20 0 ≤ 1
-    → getD h 21 0 ≤ 1 → getD h 22 0 ≤ 2 → validLayout y ≡ true → validProgress (y .k) g ≡ true → numbersNeeded y ≤ length h → doublesNeeded y ≤ doubles
+valid-heading-of : (h : List ℕ) (doubles : ℕ) (y : Layout) (g : Progress) → layoutOf h ≡ y → progressOf h ≡ g → headingLength ≤ length h → getD h sparseAt 0 ≤ 1
+    → getD h diagonalAt 0 ≤ 1 → getD h progressAt 0 ≤ 2 → validLayout y ≡ true → validProgress (y .k) g ≡ true → numbersNeeded y ≤ length h → doublesNeeded y ≤ doubles
     → (y .sparse ≡ true → (c : ℕ) → c < levels y 0 → entryRow h c < levels y 1) → validHeading h doubles ≡ true
 unfolding validHeading
 valid-heading-of h doubles y g e f long sparse diagonal state ok going numbers room rows =
@@ -120,8 +106,8 @@ valid-heading-of h doubles y g e f long sparse diagonal state ok going numbers r
     (both _ _
     (both _ _
     (both _ _
-    (both _ _ (both _ _ (le-leb 128 (length h) long) (le-leb (getD h 20 0) 1 sparse)) (le-leb (getD h 21 0) 1 diagonal))
-    (le-leb (getD h 22 0) 2 state))
+    (both _ _ (both _ _ (le-leb headingLength (length h) long) (le-leb (getD h sparseAt 0) 1 sparse)) (le-leb (getD h diagonalAt 0) 1 diagonal))
+    (le-leb (getD h progressAt 0) 2 state))
     ok)
     going)
     (le-leb (numbersNeeded y) (length h) numbers))
@@ -137,13 +123,13 @@ state-small Idle = omega arith
 state-small UnderWay = omega arith
 state-small Finished = omega arith
 
-numbers-of : (b : Bool) (m n : ℕ) → (b ≡ true → m ≤ n) → 128 + cond b m 0 ≤ 128 + n
+numbers-of : (b : Bool) (m n : ℕ) → (b ≡ true → m ≤ n) → headingLength + cond b m 0 ≤ headingLength + n
 numbers-of true m n h = omega (arith, h refl)
 numbers-of false m n h = omega arith
 
 -- what is written of a valid layout and progress, with the rows of a sparse pair behind it and doubles enough, is a workspace
 pub never-20 : (y : Layout) (g : Progress) (rows : List ℕ) (doubles : ℕ) → validLayout y ≡ true → validProgress (y .k) g ≡ true → length (y .m) ≡ 8
-    → length (y .order) ≡ 8 → length (g .stages) ≡ 45
+    → length (y .order) ≡ 8 → length (g .stages) ≡ mostTargets
     → (y .sparse ≡ true → (levels y 0 ≤ length rows) × ((c : ℕ) → c < levels y 0 → getD rows c 0 < levels y 1)) → doublesNeeded y ≤ doubles
     → validHeading (written y g ++ rows) doubles ≡ true
 unfolding written layoutNumbers progressNumbers padded
@@ -152,7 +138,7 @@ never-20 y g rows doubles ok going a b c sparse room =
     (bit-small y.diagonal) (state-small g.state) ok going (rw long (numbers-of y.sparse (levels y 0) (length rows) (λ s. sparse s .0))) room
     (λ s i h. rw (rows-back y g rows i) (sparse s .1 i h))
   where
-    long : length (written y g ++ rows) ≡ 128 + length rows
+    long : length (written y g ++ rows) ≡ headingLength + length rows
     long = length-append (written y g) rows ∙ omega (arith, length-written y g)
 
 -- ---- number 20 for a sparse pair

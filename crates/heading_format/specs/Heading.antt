@@ -1,4 +1,4 @@
--- The heading (document 01, Records 2 and 5, refusal 20): 128 numbers, and behind them the rows of the sparse columns' entries.
+-- The heading (document 01, Records 2 and 5, refusal 20): its parts as specs/Parts.antt has them, and behind them the rows of the sparse columns' entries.
 use Prim.Native.Nat.{ℕ, zero, suc, _+_}
 use mathlib.Core.Bool.{Bool, true, false, not, _&&_, _||_, cond}
 use mathlib.Core.List.{List, [], _∷_, _++_}
@@ -15,9 +15,10 @@ use Rattle.layout.specs.declared.Pair.{Pair}
 use Rattle.layout.specs.declared.Pair.the-variants.{Dense, Sparse, Refused}
 use Rattle.layout.specs.Blocks.{sum, sorted, padded}
 use Rattle.layout.specs.Gate.{pairOf}
-use Rattle.layout.specs.Shapes.{levels, numbersNeeded, doublesNeeded}
+use Rattle.layout.specs.Shapes.{levels, blockRows, doublesNeeded, sheetIndex}
+use Rattle.heading_format.specs.Parts.{levelsAt, orderAt, sparseAt, diagonalAt, progressAt, stepsLeftAt, stagesAt, mostTargets, unusedNumbers, headingLength}
 
--- ---- the 128 numbers: n p q k; levels and sheet index of eight sorted blocks; sparse, diagonal; state, steps left; 45 stages by rows; zeros
+-- ---- the numbers: the layout, the progress with the stages by rows, zeros
 abbrev pub bit : Bool → ℕ
 bit b = cond b 1 0
 
@@ -32,11 +33,15 @@ layoutNumbers y = (y .n ∷ y .p ∷ y .q ∷ y .k ∷ []) ++ padded 8 (y .m) ++
 
 unfoldable pub progressNumbers : Progress → List ℕ
 unfolding padded
-progressNumbers g = (stateNumber (g .state) ∷ g .left ∷ []) ++ padded 45 (g .stages)
+progressNumbers g = (stateNumber (g .state) ∷ g .left ∷ []) ++ padded mostTargets (g .stages)
 
 unfoldable pub written : Layout → Progress → List ℕ
 unfolding layoutNumbers progressNumbers
-written y g = layoutNumbers y ++ progressNumbers g ++ replicate 59 0
+written y g = layoutNumbers y ++ progressNumbers g ++ replicate unusedNumbers 0
+
+-- how many numbers a workspace has
+abbrev pub numbersNeeded : Layout → ℕ
+numbersNeeded y = headingLength + cond (y .sparse) (blockRows y 0) 0
 
 -- ---- reading them back
 abbrev pub stateOf : ℕ → State
@@ -51,21 +56,21 @@ layoutOf h =
       p = getD h 1 0;
       q = getD h 2 0;
       k = getD h 3 0;
-      m = take 8 (drop 4 h);
-      order = take 8 (drop 12 h);
-      sparse = eqb (getD h 20 0) 1;
-      diagonal = eqb (getD h 21 0) 1;
+      m = take 8 (drop levelsAt h);
+      order = take 8 (drop orderAt h);
+      sparse = eqb (getD h sparseAt 0) 1;
+      diagonal = eqb (getD h diagonalAt 0) 1;
     }
 
 unfoldable pub progressOf : List ℕ → Progress
-progressOf h = record { state = stateOf (getD h 22 0); left = getD h 23 0; stages = take 45 (drop 24 h) }
+progressOf h = record { state = stateOf (getD h progressAt 0); left = getD h stepsLeftAt 0; stages = take mostTargets (drop stagesAt h) }
 
 -- the stage of target (i, j), and the row of sparse column c's entry
 abbrev pub stageOf : Progress → ℕ → ℕ → ℕ
 stageOf g i j = getD (g .stages) (start triangle i + j) 0
 
 abbrev pub entryRow : List ℕ → ℕ → ℕ
-entryRow h c = getD h (128 + c) 0
+entryRow h c = getD h (headingLength + c) 0
 
 -- ---- a valid layout: what Records 1 and 2 allow
 -- every number below n passes
@@ -85,7 +90,7 @@ same (x ∷ l) (y ∷ m) = eqb x y && same l m
 -- levels of the block that has sheet index i, among the first n sorted ones
 unfoldable pub sheetLevels : Layout → ℕ → ℕ → ℕ
 sheetLevels y zero i = 0
-sheetLevels y (suc s) i = let rest = sheetLevels y s i in cond (eqb (getD (y .order) s 0) i) (levels y s) rest
+sheetLevels y (suc s) i = let rest = sheetLevels y s i in cond (eqb (sheetIndex y s) i) (levels y s) rest
 
 abbrev pub isDense : Pair → Bool
 isDense Dense = true
@@ -111,7 +116,7 @@ validLayout y =
     && within 1 8 (y .k)
     && every (λ j. within 1 65535 (levels y j)) (y .k)
     && same (take (y .k) (y .order)) (sorted (sheetLevels y (y .k)) (y .k))
-    && eqb (y .q) (sum (levels y) (y .k))
+    && eqb (y .q) (sum (blockRows y) (y .k))
     && (not (y .diagonal) || eqb (y .k) 2)
     && (not (y .sparse) || (y .diagonal && eqb (y .k) 2))
     && every (λ i. every (λ j. validPair y i j) i) (y .k)
@@ -135,24 +140,28 @@ validProgress k g =
     && forerunnersDone (stageOf g) (rustOrder k)
     && validState (g .state) (g .left) (length (rustOrder k))
 
--- progress none: nothing is done, every step is left
+-- nothing is done
+abbrev pub undone : State → ℕ → Progress
+undone state left = record { state = state; left = left; stages = replicate mostTargets 0 }
+
+-- progress none: every step is left
 abbrev pub idle : ℕ → Progress
-idle k = record { state = Idle; left = length (rustOrder k); stages = replicate 45 0 }
+idle k = undone Idle (length (rustOrder k))
 
 -- an update just begun: every step is left
 abbrev pub underWay : ℕ → Progress
-underWay k = record { state = UnderWay; left = length (rustOrder k); stages = replicate 45 0 }
+underWay k = undone UnderWay (length (rustOrder k))
 
 -- ---- h and a list of this many doubles are a workspace; where they are not, number 20
 unfoldable pub validHeading : List ℕ → ℕ → Bool
 unfolding layoutOf progressOf validLayout validProgress every
 validHeading h doubles =
-    leb 128 (length h)
-    && leb (getD h 20 0) 1
-    && leb (getD h 21 0) 1
-    && leb (getD h 22 0) 2
+    leb headingLength (length h)
+    && leb (getD h sparseAt 0) 1
+    && leb (getD h diagonalAt 0) 1
+    && leb (getD h progressAt 0) 2
     && validLayout (layoutOf h)
     && validProgress (layoutOf h .k) (progressOf h)
     && leb (numbersNeeded (layoutOf h)) (length h)
     && leb (doublesNeeded (layoutOf h)) doubles
-    && (not (layoutOf h .sparse) || every (λ c. ltb (entryRow h c) (levels (layoutOf h) 1)) (levels (layoutOf h) 0))
+    && (not (layoutOf h .sparse) || every (λ c. ltb (entryRow h c) (blockRows (layoutOf h) 1)) (blockRows (layoutOf h) 0))

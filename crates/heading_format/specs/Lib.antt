@@ -1,3 +1,4 @@
+pub mod Parts
 pub mod Marked
 pub mod Heading
 pub mod Fits

@@ -2,7 +2,11 @@
 // update as a struct that calls hand on by value.
 ghost use mathlib.Core.Path.{_≡_};
 ghost use Prim.Native.Nat.{_<_, _≤_};
+ghost use Rattle.heading_format.specs.Heading.{undone};
 ghost use Rattle.heading_format.specs.Marked.{marked};
+ghost use Rattle.heading_format.specs.Parts.{mostTargets};
+
+pub mod parts;
 
 // Record 5: none, under way or finished.
 pub enum State {
@@ -11,17 +15,17 @@ pub enum State {
     Finished,
 }
 
-// Record 5: the state, the steps left, and the stage of each of the at most 45 target blocks, by rows: how many of its steps are done.
+// Record 5: the state, the steps left, and the stage of each of the target blocks, by rows: how many of its steps are done.
 pub struct Progress {
     pub state: State,
     pub left: u64,
-    pub stages: [u64; 45],
+    pub stages: [u64; parts::MOST_TARGETS],
 }
 
 impl Progress {
-    // One step of a target done: its stage, by the target's place among the 45; one step left fewer, and finished with the last.
+    // One step of a target done: its stage, by the target's place among all; one step left fewer, and finished with the last.
     pub fn mark(self, place: usize, stage: u64) -> Progress
-        requires { ⌜ (place < 45) × (1 ≤ self .left) ⌝ }
+        requires { ⌜ (place < mostTargets) × (1 ≤ self .left) ⌝ }
         ensures { λ r. ⌜ r ≡ marked self place stage ⌝ }
     {
         let mut stages = self.stages;
@@ -39,5 +43,16 @@ impl Progress {
             left,
             stages,
         }
+    }
+}
+
+// A progress in which nothing is done.
+pub fn undone(state: State, left: u64) -> Progress
+    ensures { λ r. ⌜ r ≡ undone state left ⌝ }
+{
+    Progress {
+        state,
+        left,
+        stages: [0; parts::MOST_TARGETS],
     }
 }

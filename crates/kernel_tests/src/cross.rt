@@ -15,7 +15,17 @@ pub fn divide_columns(x: Case, doubles: &mut [f64]) -> u64
     if kernel_sizes::clash(doubles.len(), x.p0, size, x.p3, x.p2) {
         return OUT_OF_FORM;
     }
-    divide_columns::divide_columns(doubles, x.p0, x.p1, x.p2, x.p3);
+    let t = Block {
+        at: x.p0,
+        rows: x.p1,
+        cols: x.p2,
+    };
+    let f = Block {
+        at: x.p3,
+        rows: x.p2,
+        cols: x.p2,
+    };
+    divide_columns::divide_columns(doubles, t, f);
     0
 }
 
@@ -27,7 +37,17 @@ pub fn solve_rows(x: Case, doubles: &mut [f64]) -> u64
     if (x.p1 > kernel_sizes::ROWS) | kernel_sizes::clash(doubles.len(), x.p0, size, x.p3, factor) {
         return OUT_OF_FORM;
     }
-    cross_block::solve_rows(doubles, x.p0, x.p1, x.p2, x.p3);
+    let t = Block {
+        at: x.p0,
+        rows: x.p1,
+        cols: x.p2,
+    };
+    let f = Block {
+        at: x.p3,
+        rows: x.p2,
+        cols: x.p2,
+    };
+    cross_block::solve_rows(doubles, t, f);
     0
 }
 

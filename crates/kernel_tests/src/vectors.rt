@@ -6,6 +6,7 @@ use crate::kernel_sizes;
 use cross_matvec::matvec_t;
 use cross_matvec::sparse_matvec;
 use cross_matvec::sparse_matvec_t;
+use storage::Block;
 
 // matvec_sub and matvec_t_sub: p1 doubles are changed and p3 read, so that p1 counts the block's rows for the one and its columns for the
 // other. At most 316 is what matvec_sub requires of it.
@@ -20,35 +21,57 @@ pub fn products(x: Case, doubles: &mut [f64], v: &[f64]) -> u64
         return OUT_OF_FORM;
     }
     if x.kernel == 16 {
-        cross_matvec::matvec_sub(doubles, x.p0, x.p1, x.p2, x.p3, v, x.p4);
+        let a = Block {
+            at: x.p4,
+            rows: x.p1,
+            cols: x.p3,
+        };
+        cross_matvec::matvec_sub(doubles, x.p0, x.p2, v, a);
         return 0;
     }
-    matvec_t::matvec_t_sub(doubles, x.p0, x.p1, x.p2, x.p3, v, x.p4);
+    let a = Block {
+        at: x.p4,
+        rows: x.p3,
+        cols: x.p1,
+    };
+    matvec_t::matvec_t_sub(doubles, x.p0, x.p2, v, a);
     0
 }
 
 pub fn sparse_matvec_sub(x: Case, doubles: &mut [f64], v: &[f64], heading: &[u32]) -> u64
     requires { ⌜ Small x ⌝ }
 {
-    if (x.p4 + x.p3 > v.len())
-        | kernel_sizes::clash(doubles.len(), x.p0, x.p1, x.p2, x.p3)
-        | kernel_sizes::bad_rows(heading, x.p5, x.p3, x.p1)
-    {
+    if kernel_sizes::bad_rows(heading, x.p5, x.p3, x.p1) {
         return OUT_OF_FORM;
     }
-    sparse_matvec::sparse_matvec_sub(doubles, x.p0, x.p1, x.p2, x.p3, v, x.p4, heading, x.p5);
+    if (x.p4 + x.p3 > v.len()) | kernel_sizes::clash(doubles.len(), x.p0, x.p1, x.p2, x.p3) {
+        return OUT_OF_FORM;
+    }
+    let first = x.p5;
+    let a = Block {
+        at: x.p4,
+        rows: x.p1,
+        cols: x.p3,
+    };
+    sparse_matvec::sparse_matvec_sub(doubles, x.p0, x.p2, v, a, &heading[first..]);
     0
 }
 
 pub fn sparse_matvec_t_sub(x: Case, doubles: &mut [f64], v: &[f64], heading: &[u32]) -> u64
     requires { ⌜ Small x ⌝ }
 {
-    if (x.p4 + x.p1 > v.len())
-        | kernel_sizes::clash(doubles.len(), x.p0, x.p1, x.p2, x.p3)
-        | kernel_sizes::bad_rows(heading, x.p5, x.p1, x.p3)
-    {
+    if kernel_sizes::bad_rows(heading, x.p5, x.p1, x.p3) {
         return OUT_OF_FORM;
     }
-    sparse_matvec_t::sparse_matvec_t_sub(doubles, x.p0, x.p1, x.p2, x.p3, v, x.p4, heading, x.p5);
+    if (x.p4 + x.p1 > v.len()) | kernel_sizes::clash(doubles.len(), x.p0, x.p1, x.p2, x.p3) {
+        return OUT_OF_FORM;
+    }
+    let first = x.p5;
+    let a = Block {
+        at: x.p4,
+        rows: x.p3,
+        cols: x.p1,
+    };
+    sparse_matvec_t::sparse_matvec_t_sub(doubles, x.p0, x.p2, v, a, &heading[first..]);
     0
 }

@@ -4,13 +4,12 @@ ghost use mathlib.Core.Logic.{_⊎_};
 ghost use Prim.Native.Nat.{_+_, _≤_};
 ghost use lib.ListN.{length};
 ghost use Rattle.storage.specs.Runs.{start, triangle};
-ghost use Rattle.storage.specs.Shape.{packed, diagonal, columns, entries, sizeOf};
 ghost use Rattle.block_runs.specs.blocks.Blocks.{EachShape, rowFrom, RowsBelow};
-ghost use Rattle.storage.specs.Placed.{blockOf, asColumns, asTriangle, asEntries, Product, Squares};
+ghost use Rattle.storage.specs.Placed.{blockOf, asColumns, asTriangle, asDiagonal, asEntries, Lies, Product, Squares};
 ghost use Rattle.schur.specs.Schur.{subtractedDense, subtractedRank, subtractedLast, subtractedEntries};
-ghost use Rattle.cross_block.specs.Blocks.{scaledTwice, dividedColumns, solvedRows};
+ghost use Rattle.cross_block.specs.Blocks.{scaledTwice, ByFactor, dividedColumns, solvedRows};
 ghost use Rattle.schur.specs.rank_diagonal.Diagonal.{subtractedDiagonal};
-ghost use Rattle.cross_matvec.specs.Products.{subtractedProduct, subtractedProductT, subtractedSparseProductT, subtractedSparseProduct};
+ghost use Rattle.cross_matvec.specs.Products.{HasRows, Sides, rowIn, subtractedProduct, subtractedProductT, subtractedSparseProduct, subtractedSparseProductT};
 ghost use Rattle.re_lower.specs.Lower.{logsOfTriangle, logsOfDiagonal, rowSolved, backSolved};
 ghost use Rattle.kernels_c.specs.Answers.{numberOf, TriangleAnswered, DiagonalAnswered};
 use cross_block::divide_columns;
@@ -166,11 +165,22 @@ pub extern "C" fn husk_divide_columns(
     cols: usize,
     pivots: usize,
 )
-    requires { ⌜ (off + sizeOf (columns rows cols) ≤ length (now doubles)) × (pivots + sizeOf (diagonal cols) ≤ length (now doubles)) ⌝ }
-    requires { ⌜ (off + sizeOf (columns rows cols) ≤ pivots) ⊎ (pivots + sizeOf (diagonal cols) ≤ off) ⌝ }
-    ensures { λ _. ⌜ now (doubles .exit) ≡ dividedColumns off rows cols pivots (now (doubles .entry)) ⌝ }
+    requires { ⌜ ByFactor (length (now doubles)) asDiagonal (blockOf off rows cols) (blockOf pivots cols cols) ⌝ }
+    ensures { λ _. ⌜ now (doubles .exit) ≡ dividedColumns (blockOf off rows cols) (blockOf pivots cols cols) (now (doubles .entry)) ⌝ }
 {
-    divide_columns::divide_columns(doubles, off, rows, cols, pivots);
+    divide_columns::divide_columns(
+        doubles,
+        Block {
+            at: off,
+            rows,
+            cols,
+        },
+        Block {
+            at: pivots,
+            rows: cols,
+            cols,
+        },
+    );
 }
 
 // cross_block::solve_rows.
@@ -182,11 +192,22 @@ pub extern "C" fn husk_solve_rows(
     cols: usize,
     l: usize,
 )
-    requires { ⌜ (rows ≤ 316) × (off + sizeOf (columns rows cols) ≤ length (now doubles)) × (l + sizeOf (packed cols) ≤ length (now doubles)) ⌝ }
-    requires { ⌜ (off + sizeOf (columns rows cols) ≤ l) ⊎ (l + sizeOf (packed cols) ≤ off) ⌝ }
-    ensures { λ _. ⌜ now (doubles .exit) ≡ solvedRows off rows cols l (now (doubles .entry)) ⌝ }
+    requires { ⌜ (rows ≤ 316) × ByFactor (length (now doubles)) asTriangle (blockOf off rows cols) (blockOf l cols cols) ⌝ }
+    ensures { λ _. ⌜ now (doubles .exit) ≡ solvedRows (blockOf off rows cols) (blockOf l cols cols) (now (doubles .entry)) ⌝ }
 {
-    cross_block::solve_rows(doubles, off, rows, cols, l);
+    cross_block::solve_rows(
+        doubles,
+        Block {
+            at: off,
+            rows,
+            cols,
+        },
+        Block {
+            at: l,
+            rows: cols,
+            cols,
+        },
+    );
 }
 
 // cross_block::scaling::scale_twice.
@@ -279,11 +300,10 @@ pub extern "C" fn husk_matvec_sub(
     doubles: &[f64],
     a: usize,
 )
-    requires { ⌜ (rows ≤ 316) × (off + rows ≤ length (now v)) × (z + cols ≤ length (now v)) × (a + sizeOf (columns rows cols) ≤ length (now doubles)) ⌝ }
-    requires { ⌜ (off + rows ≤ z) ⊎ (z + cols ≤ off) ⌝ }
-    ensures { λ _. ⌜ now (v .exit) ≡ subtractedProduct off rows z cols a (now (doubles .entry)) (now (v .entry)) ⌝ }
+    requires { ⌜ (rows ≤ 316) × Sides (length (now v)) off z (blockOf a rows cols) × Lies (length (now doubles)) (asColumns (blockOf a rows cols)) ⌝ }
+    ensures { λ _. ⌜ now (v .exit) ≡ subtractedProduct off z (blockOf a rows cols) (now (doubles .entry)) (now (v .entry)) ⌝ }
 {
-    cross_matvec::matvec_sub(v, off, rows, z, cols, doubles, a);
+    cross_matvec::matvec_sub(v, off, z, doubles, Block { at: a, rows, cols });
 }
 
 // cross_matvec::matvec_t::matvec_t_sub.
@@ -297,11 +317,10 @@ pub extern "C" fn husk_matvec_t_sub(
     doubles: &[f64],
     a: usize,
 )
-    requires { ⌜ (off + cols ≤ length (now v)) × (z + rows ≤ length (now v)) × (a + sizeOf (columns rows cols) ≤ length (now doubles)) ⌝ }
-    requires { ⌜ (off + cols ≤ z) ⊎ (z + rows ≤ off) ⌝ }
-    ensures { λ _. ⌜ now (v .exit) ≡ subtractedProductT off cols z rows a (now (doubles .entry)) (now (v .entry)) ⌝ }
+    requires { ⌜ Sides (length (now v)) z off (blockOf a rows cols) × Lies (length (now doubles)) (asColumns (blockOf a rows cols)) ⌝ }
+    ensures { λ _. ⌜ now (v .exit) ≡ subtractedProductT off z (blockOf a rows cols) (now (doubles .entry)) (now (v .entry)) ⌝ }
 {
-    matvec_t::matvec_t_sub(v, off, cols, z, rows, doubles, a);
+    matvec_t::matvec_t_sub(v, off, z, doubles, Block { at: a, rows, cols });
 }
 
 // cross_matvec::sparse_matvec::sparse_matvec_sub.
@@ -314,15 +333,12 @@ pub extern "C" fn husk_sparse_matvec_sub(
     cols: usize,
     doubles: &[f64],
     x: usize,
-    heading: &[u32],
-    first: usize,
+    places: &[u32],
 )
-    requires { ⌜ (off + rows ≤ length (now v)) × (z + cols ≤ length (now v)) × (x + cols ≤ length (now doubles)) × (first + cols ≤ length (now heading)) ⌝ }
-    requires { ⌜ (off + rows ≤ z) ⊎ (z + cols ≤ off) ⌝ }
-    requires { ⌜ RowsBelow (now heading) first cols rows ⌝ }
-    ensures { λ _. ⌜ now (v .exit) ≡ subtractedSparseProduct off rows z cols x (rowFrom (now (heading .entry)) first) (now (doubles .entry)) (now (v .entry)) ⌝ }
+    requires { ⌜ Sides (length (now v)) off z (blockOf x rows cols) × Lies (length (now doubles)) (asEntries (rowIn (now places)) (blockOf x rows cols)) × HasRows (now places) (blockOf x rows cols) ⌝ }
+    ensures { λ _. ⌜ now (v .exit) ≡ subtractedSparseProduct (rowIn (now (places .entry))) off z (blockOf x rows cols) (now (doubles .entry)) (now (v .entry)) ⌝ }
 {
-    sparse_matvec::sparse_matvec_sub(v, off, rows, z, cols, doubles, x, heading, first);
+    sparse_matvec::sparse_matvec_sub(v, off, z, doubles, Block { at: x, rows, cols }, places);
 }
 
 // cross_matvec::sparse_matvec_t::sparse_matvec_t_sub.
@@ -335,15 +351,12 @@ pub extern "C" fn husk_sparse_matvec_t_sub(
     rows: usize,
     doubles: &[f64],
     x: usize,
-    heading: &[u32],
-    first: usize,
+    places: &[u32],
 )
-    requires { ⌜ (off + cols ≤ length (now v)) × (z + rows ≤ length (now v)) × (x + cols ≤ length (now doubles)) × (first + cols ≤ length (now heading)) ⌝ }
-    requires { ⌜ (off + cols ≤ z) ⊎ (z + rows ≤ off) ⌝ }
-    requires { ⌜ RowsBelow (now heading) first cols rows ⌝ }
-    ensures { λ _. ⌜ now (v .exit) ≡ subtractedSparseProductT off cols z rows x (rowFrom (now (heading .entry)) first) (now (doubles .entry)) (now (v .entry)) ⌝ }
+    requires { ⌜ Sides (length (now v)) z off (blockOf x rows cols) × Lies (length (now doubles)) (asEntries (rowIn (now places)) (blockOf x rows cols)) × HasRows (now places) (blockOf x rows cols) ⌝ }
+    ensures { λ _. ⌜ now (v .exit) ≡ subtractedSparseProductT (rowIn (now (places .entry))) off z (blockOf x rows cols) (now (doubles .entry)) (now (v .entry)) ⌝ }
 {
-    sparse_matvec_t::sparse_matvec_t_sub(v, off, cols, z, rows, doubles, x, heading, first);
+    sparse_matvec_t::sparse_matvec_t_sub(v, off, z, doubles, Block { at: x, rows, cols }, places);
 }
 
 // n where every pivot is accepted, else the row of the refused one.

@@ -28,7 +28,9 @@ use Rattle.layout.specs.Shapes.{
   factorCells,
   doublesNeeded,
   doublesFormula,
+  triangleEnd,
 }
+use Rattle.layout.proofs.Made.{layoutWith}
 
 -- f of each block of a list
 abbrev each : (Target → ℕ) → List Target → List ℕ
@@ -80,18 +82,18 @@ order-of-four = refl
 
 -- one block of one level and one fixed effect
 abbrev one : Layout
-one = record { n = 3; p = 1; q = 1; k = 1; m = 1 ∷ replicate 7 0; order = replicate 8 0; sparse = false; diagonal = false }
+one = layoutWith 3 1 1 1 (1 ∷ replicate 7 0) (replicate 8 0) false false
 
 pub fourteen : (doublesNeeded one ≡ 14) × (doublesFormula one ≡ 14)
-unfolding sumAt loadedLength crossCells factorCells targets factors pairs across cellsOf shape loadedShape start
+unfolding sumAt triangleEnd crossCells factorCells targets factors pairs across cellsOf shape loadedShape start
 fourteen = (refl, refl)
 
 -- three and two levels and one fixed effect: five diagonals, six cells of the pair, ten of the fixed rows and three of the last triangle are loaded
 abbrev pub two : Bool → Layout
-two diagonal = record { n = 9; p = 1; q = 5; k = 2; m = 3 ∷ 2 ∷ replicate 6 0; order = 0 ∷ 1 ∷ replicate 6 0; sparse = false; diagonal = diagonal }
+two diagonal = layoutWith 9 1 5 2 (3 ∷ 2 ∷ replicate 6 0) (0 ∷ 1 ∷ replicate 6 0) false diagonal
 
 pub fifty-two : (doublesNeeded (two false) ≡ 52) × (doublesFormula (two false) ≡ 52) × (doublesNeeded (two true) ≡ 51) × (doublesFormula (two true) ≡ 51)
-unfolding sumAt loadedLength crossCells factorCells targets factors pairs across cellsOf shape loadedShape start
+unfolding sumAt triangleEnd crossCells factorCells targets factors pairs across cellsOf shape loadedShape start
 fifty-two = (refl, refl, refl, refl)
 
 -- where its blocks are loaded: the factors, the pair, the fixed rows, the last triangle
@@ -101,5 +103,5 @@ loaded-places = refl
 
 -- and where they work, behind two doubles of theta
 pub working-places : each (λ t. workingAt (two false) (t .row) (t .col)) (targets 2) ≡ 26 ∷ 29 ∷ 32 ∷ 38 ∷ 44 ∷ 48 ∷ []
-unfolding workingAt loadedLength targets factors pairs across cellsOf before shape loadedShape start
+unfolding workingAt triangleEnd targets factors pairs across cellsOf before shape loadedShape start
 working-places = refl

@@ -1,16 +1,17 @@
 -- Record 2's formula for the doubles of a workspace, and the cells of each block.
 use Prim.Native.Nat.{ℕ, zero, suc, _+_, _*_, _/_, _≤_, _<_}
 use mathlib.Core.Path.{_≡_, refl, ap, _∙_}
-use mathlib.Core.Bool.{true, false, _&&_}
+use mathlib.Core.Bool.{true, false}
 use mathlib.Core.List.{List, [], _∷_, _++_}
 use native.Mathlib.Omega.{arith}
-use lib.Dec.{eqb}
 use borrow.Author.Tests.{eq-eqb, ne-eqb, lt-ltb, le-ltb}
 use Rattle.storage.proofs.Places.{size-packed, size-columns, size-diagonal, size-entries}
 use Rattle.layout.specs.declared.Layout.{Layout}
+use Rattle.layout.specs.declared.FactorKind.the-variants.{Diagonal, Packed}
 use Rattle.layout.specs.Blocks.{sum}
 use Rattle.layout.specs.Shapes.{
   levels,
+  factorKind,
   shape,
   loadedShape,
   Target,
@@ -29,6 +30,8 @@ use Rattle.layout.specs.Shapes.{
   factorCells,
   doublesNeeded,
   doublesFormula,
+  triangleEnd,
+  lastRows,
 }
 
 module _ (size : ℕ → ℕ → ℕ) where
@@ -47,21 +50,15 @@ module _ (size : ℕ → ℕ → ℕ) where
 module _ (y : Layout) where
   -- ---- each block's cells
 
-  -- the first factor is a diagonal
-  pub first-factor : 0 < y .k → sizes y 0 0 ≡ levels y 0
+  -- a factor that is a diagonal
+  pub diagonal-factor : (j : ℕ) → j < y .k → factorKind y j ≡ Diagonal → sizes y j j ≡ levels y j
   unfolding shape
-  first-factor h = rw (ne-eqb 0 y.k (λ e. omega arith)) (size-diagonal (levels y 0))
+  diagonal-factor j h d = rw (ne-eqb j y.k (λ e. omega arith), eq-eqb j j refl, d) (size-diagonal (levels y j))
 
-  -- so is the second where each column of the pair has one entry
-  pub diagonal-factor : 1 < y .k → y .diagonal ≡ true → sizes y 1 1 ≡ levels y 1
+  -- and one that is packed
+  pub packed-factor : (j : ℕ) → j < y .k → factorKind y j ≡ Packed → 2 * sizes y j j ≡ levels y j * (levels y j + 1)
   unfolding shape
-  diagonal-factor h d = rw (ne-eqb 1 y.k (λ e. omega arith), d) (size-diagonal (levels y 1))
-
-  -- any other is a triangle
-  pub later-factor : (j : ℕ) → 0 < j → j < y .k → (y .diagonal && eqb j 1) ≡ false → 2 * sizes y j j ≡ levels y j * (levels y j + 1)
-  unfolding shape
-  later-factor j g h d =
-      rw (ne-eqb j y.k (λ e. omega arith), eq-eqb j j refl, ne-eqb j 0 (λ e. omega arith), d) (size-packed (levels y j))
+  packed-factor j h d = rw (ne-eqb j y.k (λ e. omega arith), eq-eqb j j refl, d) (size-packed (levels y j))
 
   -- a dense pair has rows times columns cells
   pub cross-dense : (i j : ℕ) → j < i → i < y .k → y .sparse ≡ false → sizes y i j ≡ levels y i * levels y j
@@ -76,14 +73,14 @@ module _ (y : Layout) where
       rw (ne-eqb i y.k (λ e. omega arith), ne-eqb i j (λ e. omega arith), d) (size-entries (levels y 0) (λ x. 0))
 
   -- the fixed rows of factor j
-  pub fixed-size : (j : ℕ) → j < y .k → sizes y (y .k) j ≡ (y .p + 1) * levels y j
+  pub fixed-size : (j : ℕ) → j < y .k → sizes y (y .k) j ≡ lastRows y * levels y j
   unfolding shape
-  fixed-size j h = rw (eq-eqb y.k y.k refl, ne-eqb j y.k (λ e. omega arith)) (size-columns (y.p + 1) (levels y j))
+  fixed-size j h = rw (eq-eqb y.k y.k refl, ne-eqb j y.k (λ e. omega arith)) (size-columns (lastRows y) (levels y j))
 
   -- the last triangle
   pub last-size : sizes y (y .k) (y .k) ≡ (y .p + 1) * (y .p + 2) / 2
   unfolding shape
-  last-size = rw (eq-eqb y.k y.k refl) (let e = size-packed (y.p + 1) in omega arith)
+  last-size = rw (eq-eqb y.k y.k refl) (let e = size-packed (lastRows y) in omega arith)
 
   -- a loaded factor is a diagonal
   pub loaded-factor : (j : ℕ) → j < y .k → loadedSizes y j j ≡ levels y j
@@ -131,7 +128,7 @@ module _ (y : Layout) where
         loaded-across n n (omega arith),
       )
 
-  fixed-rows : (n : ℕ) → n ≤ y .k → cellsOf (sizes y) (across (y .k) n) ≡ (y .p + 1) * sum (levels y) n
+  fixed-rows : (n : ℕ) → n ≤ y .k → cellsOf (sizes y) (across (y .k) n) ≡ lastRows y * sum (levels y) n
   unfolding across cellsOf sum
   fixed-rows zero h = omega arith
   fixed-rows (suc n) h =
@@ -147,11 +144,11 @@ module _ (y : Layout) where
   -- the cells of the fixed rows and the last triangle
   fixed-part : y .q ≡ sum (levels y) (y .k) → cellsOf (sizes y) (across (y .k) (y .k)) + sizes y (y .k) (y .k) ≡ fixedCells y
   fixed-part e =
-      omega (arith, last-size, fixed-rows y.k (omega arith), ap (λ (x : ℕ). x * (y.p + 1)) e)
+      omega (arith, last-size, fixed-rows y.k (omega arith), ap (λ (x : ℕ). x * lastRows y) e)
 
   -- loaded are q diagonals, X and F
   pub loaded-split : y .q ≡ sum (levels y) (y .k) → loadedLength y ≡ y .q + crossCells y + fixedCells y
-  unfolding loadedLength crossCells
+  unfolding triangleEnd crossCells
   loaded-split e =
       let k : ℕ = y.k in
       omega (

@@ -1,4 +1,6 @@
+pub mod Made
 pub mod Places
 pub mod Formula
+pub mod Factors
 pub mod Sums
 pub mod Controls

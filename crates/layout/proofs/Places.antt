@@ -29,6 +29,7 @@ use Rattle.layout.specs.Shapes.{
   thetaAt,
   workingAt,
   sumAt,
+  triangleEnd,
 }
 
 -- ---- blocks that lie one behind the other, of any size and in any order
@@ -148,7 +149,7 @@ module _ (y : Layout) where
   module _ (i j : ℕ) (h : j ≤ i) (g : i ≤ y .k) where
     -- a loaded block lies inside the loaded doubles
     pub loaded-inside : loadedAt y i j + loadedSizes y i j ≤ loadedLength y
-    unfolding loadedAt loadedLength
+    unfolding loadedAt triangleEnd
     loaded-inside = block-inside (loadedSizes y) (targets y.k) i j (in-targets y.k i j h g)
 
     -- a working block lies behind theta

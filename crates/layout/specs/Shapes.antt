@@ -1,4 +1,4 @@
--- The blocks of a workspace: their shapes, where they lie among the doubles, and the two lengths (document 01, Records 2 to 4).
+-- The blocks of a workspace: their shapes, where they lie among the doubles, and how many doubles there are (document 01, Records 2 to 4).
 use Prim.Native.Nat.{ℕ, zero, suc, _+_, _*_, _/_}
 use mathlib.Core.Bool.{Bool, true, false, _&&_, cond}
 use mathlib.Core.List.{List, [], _∷_, _++_}
@@ -6,30 +6,61 @@ use lib.Dec.{ltb, eqb}
 use lib.ListN.{getD}
 use Rattle.storage.specs.Shape.{Shape, packed, diagonal, columns, entries, sizeOf}
 use Rattle.layout.specs.declared.Layout.{Layout}
+use Rattle.layout.specs.declared.FactorKind.{FactorKind}
+use Rattle.layout.specs.declared.FactorKind.the-variants.{Diagonal, Packed}
 
--- levels of sorted block j
+-- levels of sorted block j, and its place in the sheet
 abbrev pub levels : Layout → ℕ → ℕ
 levels y j = getD (y .m) j 0
+
+abbrev pub sheetIndex : Layout → ℕ → ℕ
+sheetIndex y j = getD (y .order) j 0
+
+-- ---- rows: a sorted block has one for each level; block k has one for each fixed effect, and behind them that of the response
+abbrev pub blockRows : Layout → ℕ → ℕ
+blockRows y j = levels y j
+
+abbrev pub responseRow : Layout → ℕ
+responseRow y = y .p
+
+abbrev pub lastRows : Layout → ℕ
+lastRows y = responseRow y + 1
 
 -- ---- the shape of working block (i, j), 0 ≤ j ≤ i ≤ k, block k being fixed effects and response. `row` is the row of each sparse column's entry.
 abbrev pub pick : {A : Type 0} → Bool → A → A → A
 pick true a b = a
 pick false a b = b
 
+-- how factor j is stored: the first as a diagonal, the second where the layout says so, any other packed
+abbrev pub factorKind : Layout → ℕ → FactorKind
+factorKind y zero = Diagonal
+factorKind y (suc zero) = pick (y .diagonal) Diagonal Packed
+factorKind y (suc (suc j)) = Packed
+
+abbrev pub shapeOfKind : FactorKind → ℕ → Shape
+shapeOfKind Diagonal n = diagonal n
+shapeOfKind Packed n = packed n
+
 abbrev pub factorShape : Layout → ℕ → Shape
-factorShape y j = pick (eqb j 0) (diagonal (levels y 0)) (pick (y .diagonal && eqb j 1) (diagonal (levels y 1)) (packed (levels y j)))
+factorShape y j = shapeOfKind (factorKind y j) (blockRows y j)
 
 abbrev pub crossShape : Layout → (ℕ → ℕ) → ℕ → ℕ → Shape
-crossShape y row i j = pick (y .sparse) (entries (levels y 0) row) (columns (levels y i) (levels y j))
+crossShape y row i j = pick (y .sparse) (entries (blockRows y 0) row) (columns (blockRows y i) (blockRows y j))
+
+-- block (k, k), and the fixed rows (k, j)
+abbrev pub lastShape : Layout → Shape
+lastShape y = packed (lastRows y)
+
+abbrev pub fixedShape : Layout → ℕ → Shape
+fixedShape y j = columns (lastRows y) (blockRows y j)
 
 unfoldable pub shape : Layout → (ℕ → ℕ) → ℕ → ℕ → Shape
-shape y row i j =
-    pick (eqb i (y .k)) (pick (eqb j (y .k)) (packed (y .p + 1)) (columns (y .p + 1) (levels y j))) (pick (eqb i j) (factorShape y j) (crossShape y row i j))
+shape y row i j = pick (eqb i (y .k)) (pick (eqb j (y .k)) (lastShape y) (fixedShape y j)) (pick (eqb i j) (factorShape y j) (crossShape y row i j))
 
 -- the shape of a loaded block: a factor's diagonal alone is loaded, and a pair, the fixed rows and the last triangle as they work
 unfoldable pub loadedShape : Layout → (ℕ → ℕ) → ℕ → ℕ → Shape
 unfolding shape
-loadedShape y row i j = pick (eqb i j && ltb j (y .k)) (diagonal (levels y j)) (shape y row i j)
+loadedShape y row i j = pick (eqb i j && ltb j (y .k)) (diagonal (blockRows y j)) (shape y row i j)
 
 -- ---- the order in which blocks lie: the factors, the pairs (1,0), (2,0), (2,1), .., the fixed rows of each factor, the last triangle
 pub record Target : Type 0 where
@@ -73,9 +104,13 @@ abbrev pub loadedSizes : Layout → ℕ → ℕ → ℕ
 loadedSizes y i j = sizeOf (loadedShape y (λ x. 0) i j)
 
 -- ---- the doubles: the loaded blocks, then theta in sheet order, the working blocks, and the logarithms' sum
-unfoldable pub loadedLength : Layout → ℕ
+-- the loaded numbers end with the last triangle
+unfoldable pub triangleEnd : Layout → ℕ
 unfolding targets cellsOf loadedShape
-loadedLength y = cellsOf (loadedSizes y) (targets (y .k))
+triangleEnd y = cellsOf (loadedSizes y) (targets (y .k))
+
+abbrev pub loadedLength : Layout → ℕ
+loadedLength y = triangleEnd y
 
 unfoldable pub loadedAt : Layout → ℕ → ℕ → ℕ
 unfolding targets before loadedShape
@@ -84,20 +119,24 @@ loadedAt y i j = before (loadedSizes y) (targets (y .k)) i j
 abbrev pub thetaAt : Layout → ℕ
 thetaAt y = loadedLength y
 
+-- a number for each block of the sheet
+abbrev pub thetaLength : Layout → ℕ
+thetaLength y = y .k
+
 unfoldable pub workingAt : Layout → ℕ → ℕ → ℕ
-unfolding loadedLength targets before shape
-workingAt y i j = loadedLength y + y .k + before (sizes y) (targets (y .k)) i j
+unfolding triangleEnd targets before shape
+workingAt y i j = thetaAt y + thetaLength y + before (sizes y) (targets (y .k)) i j
 
 unfoldable pub sumAt : Layout → ℕ
-unfolding loadedLength targets cellsOf shape
-sumAt y = loadedLength y + y .k + cellsOf (sizes y) (targets (y .k))
+unfolding triangleEnd targets cellsOf shape
+sumAt y = thetaAt y + thetaLength y + cellsOf (sizes y) (targets (y .k))
 
--- how many doubles, and how many numbers of the heading
+-- the end of the working doubles, up to which a refused pivot clears, and that of the workspace, up to which load does: the same
+abbrev pub workingEnd : Layout → ℕ
+workingEnd y = sumAt y + 1
+
 abbrev pub doublesNeeded : Layout → ℕ
-doublesNeeded y = sumAt y + 1
-
-abbrev pub numbersNeeded : Layout → ℕ
-numbersNeeded y = 128 + cond (y .sparse) (levels y 0) 0
+doublesNeeded y = workingEnd y
 
 -- ---- Record 2's formula: X cross cells, F, D, and q + k + D + 2X + 2F + 1
 unfoldable pub crossCells : Layout → ℕ

@@ -11,8 +11,17 @@ pub struct Layout {
     pub order: [u64; 8],
     // The one pair is stored sparse.
     pub sparse: bool,
-    // Block 1 is a diagonal.
+    // Factor 1 is a diagonal; who asks for a factor's kind asks `factorKind` (specs/Shapes.antt).
     pub diagonal: bool,
+}
+
+// The longest theta: a number for each of eight blocks.
+pub const MOST_THETA: usize = 8;
+
+// How a factor is stored: as its pivots alone, or as a lower triangle by rows.
+pub enum FactorKind {
+    Diagonal,
+    Packed,
 }
 
 // What the gate says of a pair of blocks.

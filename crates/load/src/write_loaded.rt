@@ -5,7 +5,7 @@ ghost use Prim.Native.Nat.{_≤_};
 ghost use lib.ListN.{length};
 ghost use Rattle.storage.specs.Part.{store};
 ghost use Rattle.sheet.specs.Sheet.{Sheet, accepted, readSheet};
-ghost use Rattle.layout.specs.Shapes.{numbersNeeded};
+ghost use Rattle.heading_format.specs.Heading.{numbersNeeded};
 ghost use Rattle.workspace.specs.Answers.{workspace};
 ghost use Rattle.workspace.specs.Load.{headingOf, afterGate};
 ghost use Rattle.load_numbers.specs.sheet_words.Ready.{Ready};

@@ -22,9 +22,10 @@ use Rattle.sheet.specs.Run.{Entry, entryIn, keptFrom}
 use Rattle.sheet.specs.Sheet.{Sheet, accepted, readSheet}
 use Rattle.sheet.specs.Whole.{Each, Whole}
 use Rattle.layout.specs.declared.Layout.{Layout}
-use Rattle.layout.specs.Shapes.{pick, levels, numbersNeeded}
+use Rattle.layout.specs.Shapes.{pick, levels}
+use Rattle.heading_format.specs.Heading.{numbersNeeded}
 use Rattle.workspace.specs.Loaded.{rowStart, sheetRow, inBlock, countOf, rowOf, ofColumn, entryRowIn}
-use Rattle.block_places.specs.sheet_rows.Blocks.{blockOf}
+use Rattle.block_places.specs.sheet_rows.Blocks.{blockOfRow}
 use Rattle.block_places.proofs.sheet_rows.Rows.{in-block, block-in, block-is, is-in-block}
 use Rattle.load_numbers.specs.word_address.Spread.{spread}
 use Rattle.load_numbers.proofs.sheet_words.Positions.{true-false, spread-length, missed, chosen, Only, count-only, entries-missed, entry-put}
@@ -32,6 +33,7 @@ use Rattle.load_numbers.specs.sheet_words.Ready.{Ready}
 use Rattle.load_numbers.proofs.sheet_words.Facts.{Known}
 use Rattle.load_numbers.proofs.sheet_words.Loads.{whole, knows, one-sheet}
 use Rattle.load_numbers.specs.Rows.{rowPlace, putRow}
+use Rattle.heading_format.specs.Parts.{headingLength}
 
 -- the one entry that passes gives its row, whatever else would stand there
 chosen-row : (test : Entry → Bool) (a none : ℕ) (l : List Entry) → countOf test l ≡ 1 → chosen test (λ e. e .row - a) none l ≡ rowOf test l - a
@@ -49,32 +51,32 @@ anything P f [] = tt
 anything P f (x ∷ l) = (f x, anything P f l)
 
 module _ (y : Layout) where
-  pub place-other : (col row : ℕ) → (eqb (blockOf y (y .k) col) 0 && eqb (blockOf y (y .k) row) 1) ≡ false → rowPlace y col row ≡ nowhere
+  pub place-other : (col row : ℕ) → (eqb (blockOfRow y (y .k) col) 0 && eqb (blockOfRow y (y .k) row) 1) ≡ false → rowPlace y col row ≡ nowhere
   unfolding rowPlace
   place-other col row e = rw e
 
-  pub place-pair : (col row : ℕ) → blockOf y (y .k) col ≡ 0 → blockOf y (y .k) row ≡ 1 → rowPlace y col row ≡ 128 + (col - rowStart y 0)
+  pub place-pair : (col row : ℕ) → blockOfRow y (y .k) col ≡ 0 → blockOfRow y (y .k) row ≡ 1 → rowPlace y col row ≡ headingLength + (col - rowStart y 0)
   unfolding rowPlace
-  place-pair col row e f = rw (eq-eqb (blockOf y y.k col) 0 e, eq-eqb (blockOf y y.k row) 1 f)
+  place-pair col row e f = rw (eq-eqb (blockOfRow y y.k col) 0 e, eq-eqb (blockOfRow y y.k row) 1 f)
 
   -- an entry of the pair, or none
-  place-lands : 1 < y .k → (col row : ℕ) → (rowPlace y col row ≡ nowhere) ⊎ ((inBlock y 0 col ≡ true) × (inBlock y 1 row ≡ true) × (rowPlace y col row ≡ 128 + (col - rowStart y 0)))
-  place-lands h col row = step (eqb (blockOf y y.k col) 0 && eqb (blockOf y y.k row) 1) refl
+  place-lands : 1 < y .k → (col row : ℕ) → (rowPlace y col row ≡ nowhere) ⊎ ((inBlock y 0 col ≡ true) × (inBlock y 1 row ≡ true) × (rowPlace y col row ≡ headingLength + (col - rowStart y 0)))
+  place-lands h col row = step (eqb (blockOfRow y y.k col) 0 && eqb (blockOfRow y y.k row) 1) refl
     where
-      has : (x j : ℕ) → blockOf y (y .k) x ≡ j → j < y .k → inBlock y j x ≡ true
+      has : (x j : ℕ) → blockOfRow y (y .k) x ≡ j → j < y .k → inBlock y j x ≡ true
       has x j e g = subst (λ (t : ℕ). inBlock y t x ≡ true) e (block-in y y.k x (omega arith) (omega arith) .0)
 
-      step : (b : Bool) → (eqb (blockOf y (y .k) col) 0 && eqb (blockOf y (y .k) row) 1) ≡ b
-          → (rowPlace y col row ≡ nowhere) ⊎ ((inBlock y 0 col ≡ true) × (inBlock y 1 row ≡ true) × (rowPlace y col row ≡ 128 + (col - rowStart y 0)))
+      step : (b : Bool) → (eqb (blockOfRow y (y .k) col) 0 && eqb (blockOfRow y (y .k) row) 1) ≡ b
+          → (rowPlace y col row ≡ nowhere) ⊎ ((inBlock y 0 col ≡ true) × (inBlock y 1 row ≡ true) × (rowPlace y col row ≡ headingLength + (col - rowStart y 0)))
       step true e =
-          let k = and-eq-true-iff (eqb (blockOf y y.k col) 0) (eqb (blockOf y y.k row) 1) .0 e in
-          let a = eqb-true (blockOf y y.k col) 0 k.0 in
-          let b = eqb-true (blockOf y y.k row) 1 k.1 in
+          let k = and-eq-true-iff (eqb (blockOfRow y y.k col) 0) (eqb (blockOfRow y y.k row) 1) .0 e in
+          let a = eqb-true (blockOfRow y y.k col) 0 k.0 in
+          let b = eqb-true (blockOfRow y y.k row) 1 k.1 in
           inr (has col 0 a (omega arith), has row 1 b h, place-pair col row a b)
       step false e = inl (place-other col row e)
 
 module _ (s : List ℕ) (sheet : Sheet) (z : Starts) (y : Layout) (k : Known sheet y) (h : Whole s sheet z) (thin : y .sparse ≡ true) (w : List ℕ)
-    (fits : 128 + levels y 0 ≤ length w) (low : length w ≤ nowhere) where
+    (fits : headingLength + levels y 0 ≤ length w) (low : length w ≤ nowhere) where
   abbrev rowed : List ℕ
   rowed = spread (putRow y) (pairLine zzTag s) (length sheet.zz) 0 z.zz w
 
@@ -82,7 +84,7 @@ module _ (s : List ℕ) (sheet : Sheet) (z : Starts) (y : Layout) (k : Known she
   two = k.inner thin .0
 
   -- a number that no column has
-  row-missed : (P : ℕ) → P < length w → ((c : ℕ) → c < levels y 0 → P ≡ 128 + c → ⊥) → getD rowed P 0 ≡ getD w P 0
+  row-missed : (P : ℕ) → P < length w → ((c : ℕ) → c < levels y 0 → P ≡ headingLength + c → ⊥) → getD rowed P 0 ≡ getD w P 0
   row-missed P b away =
       missed (λ i l. rowPlace y l.first l.second) (λ l. l .second - rowStart y 1) (pairLine zzTag s) P 0 (length sheet.zz) 0 z.zz w
       (entries-missed (rowPlace y) (λ c r v. r - rowStart y 1) (pairLine zzTag s) P 0 (length sheet.zz) 0 (sheet.counts.k + 2) z.zz
@@ -93,9 +95,9 @@ module _ (s : List ℕ) (sheet : Sheet) (z : Starts) (y : Layout) (k : Known she
       (keptFrom (pairLine zzTag s) entryIn (length sheet.zz) (sheet.counts.k + 2) z.zz)))
 
   -- column c's number
-  row-value : (c : ℕ) → c < levels y 0 → getD rowed (128 + c) 0 ≡ entryRowIn sheet y c
+  row-value : (c : ℕ) → c < levels y 0 → getD rowed (headingLength + c) 0 ≡ entryRowIn sheet y c
   row-value c b =
-      let P : ℕ = 128 + c in
+      let P : ℕ = headingLength + c in
       let test : Entry → Bool = ofColumn y 1 0 c in
       let one = k.one-each thin c b in
       entry-put (rowPlace y) (λ c r v. r - rowStart y 1) (pairLine zzTag s) P 0 (ofColumn y 1 0 c) (getD w P 0) (length sheet.zz) 0 (sheet.counts.k + 2) z.zz w
@@ -120,24 +122,24 @@ module _ (s : List ℕ) (sheet : Sheet) (z : Starts) (y : Layout) (k : Known she
       ∙ ap (chosen (ofColumn y 1 0 c) (λ e. e .row - rowStart y 1) (getD w P 0)) (sym h.placed.zz)
       ∙ chosen-row (ofColumn y 1 0 c) (rowStart y 1) (getD w P 0) sheet.zz one
 
-  rows-fit : 128 + length (tab (levels y 0) (entryRowIn sheet y)) ≤ length w
+  rows-fit : headingLength + length (tab (levels y 0) (entryRowIn sheet y)) ≤ length w
   rows-fit = omega (arith, length-tab (levels y 0) (entryRowIn sheet y))
 
   rowed-length : length rowed ≡ length w
   rowed-length = spread-length (λ i l. rowPlace y l.first l.second) (λ l. l .second - rowStart y 1) (pairLine zzTag s) (length sheet.zz) 0 z.zz w
 
-  pub rows-made : rowed ≡ store 128 (tab (levels y 0) (entryRowIn sheet y)) w
+  pub rows-made : rowed ≡ store headingLength (tab (levels y 0) (entryRowIn sheet y)) w
   rows-made =
-      ext-getD 0 rowed (store 128 t w) (rowed-length ∙ sym (length-store 128 t w rows-fit))
+      ext-getD 0 rowed (store headingLength t w) (rowed-length ∙ sym (length-store headingLength t w rows-fit))
       (λ P b.
       let c : P < length w = omega (arith, rowed-length) in
-      by-cases (decLt P 128) (λ l. row-missed P c (λ x g e. omega arith) ∙ sym (store-before 128 t w rows-fit 0 P l))
-      (λ l. by-cases (decLt P (128 + levels y 0))
-      (λ m. let x : ℕ = P - 128 in
-      let e : P ≡ 128 + x = omega arith in
+      by-cases (decLt P headingLength) (λ l. row-missed P c (λ x g e. omega arith) ∙ sym (store-before headingLength t w rows-fit 0 P l))
+      (λ l. by-cases (decLt P (headingLength + levels y 0))
+      (λ m. let x : ℕ = P - headingLength in
+      let e : P ≡ headingLength + x = omega arith in
       ap (λ (i : ℕ). getD rowed i 0) e ∙ row-value x (omega arith)
-      ∙ sym (ap (λ (i : ℕ). getD (store 128 t w) i 0) e ∙ store-in 128 t w rows-fit 0 x (omega (arith, length-tab (levels y 0) (entryRowIn sheet y))) ∙ getD-tab (levels y 0) (entryRowIn sheet y) x 0 (omega arith)))
-      (λ m. row-missed P c (λ x g e. omega arith) ∙ sym (store-behind 128 t w rows-fit 0 P (omega (arith, length-tab (levels y 0) (entryRowIn sheet y)))))))
+      ∙ sym (ap (λ (i : ℕ). getD (store headingLength t w) i 0) e ∙ store-in headingLength t w rows-fit 0 x (omega (arith, length-tab (levels y 0) (entryRowIn sheet y))) ∙ getD-tab (levels y 0) (entryRowIn sheet y) x 0 (omega arith)))
+      (λ m. row-missed P c (λ x g e. omega arith) ∙ sym (store-behind headingLength t w rows-fit 0 P (omega (arith, length-tab (levels y 0) (entryRowIn sheet y)))))))
     where
       t : List ℕ
       t = tab (levels y 0) (entryRowIn sheet y)
@@ -145,8 +147,8 @@ module _ (s : List ℕ) (sheet : Sheet) (z : Starts) (y : Layout) (k : Known she
 -- ---- one entry, way out by way out of the code
 
 module _ (y : Layout) (h : List ℕ) (col row v : ℕ) where
-  pub put-none : length h ≤ nowhere → (blockOf y (y .k) col ≡ 0 → blockOf y (y .k) row ≡ 1 → ⊥) → h ≡ set h (rowPlace y col row) v
-  put-none low q = sym (ap (λ (p : ℕ). set h p v) (place-other y col row (other (blockOf y y.k col) (blockOf y y.k row) q)) ∙ set-out h nowhere v low)
+  pub put-none : length h ≤ nowhere → (blockOfRow y (y .k) col ≡ 0 → blockOfRow y (y .k) row ≡ 1 → ⊥) → h ≡ set h (rowPlace y col row) v
+  put-none low q = sym (ap (λ (p : ℕ). set h p v) (place-other y col row (other (blockOfRow y y.k col) (blockOfRow y y.k row) q)) ∙ set-out h nowhere v low)
     where
       other : (i j : ℕ) → (i ≡ 0 → j ≡ 1 → ⊥) → (eqb i 0 && eqb j 1) ≡ false
       other i j q = step (eqb i 0) (eqb j 1) refl refl
@@ -156,9 +158,9 @@ module _ (y : Layout) (h : List ℕ) (col row v : ℕ) where
           step true false e f = refl
           step false b e f = refl
 
-  pub put-one : (r c : ℕ) → blockOf y (y .k) col ≡ 0 → blockOf y (y .k) row ≡ 1 → c ≡ col - rowStart y 0 → r ≡ row - rowStart y 1
-      → set h (128 + c) r ≡ set h (rowPlace y col row) (row - rowStart y 1)
-  put-one r c e f p q = ap₂ (λ (i x : ℕ). set h i x) (ap (λ (x : ℕ). 128 + x) p ∙ sym (place-pair y col row e f)) q
+  pub put-one : (r c : ℕ) → blockOfRow y (y .k) col ≡ 0 → blockOfRow y (y .k) row ≡ 1 → c ≡ col - rowStart y 0 → r ≡ row - rowStart y 1
+      → set h (headingLength + c) r ≡ set h (rowPlace y col row) (row - rowStart y 1)
+  put-one r c e f p q = ap₂ (λ (i x : ℕ). set h i x) (ap (λ (x : ℕ). headingLength + x) p ∙ sym (place-pair y col row e f)) q
 
 -- the lines are not counted
 pub any-number : (y : Layout) (read : ℕ → Line) (n i at : ℕ) (w : List ℕ) → spread (putRow y) read n i at w ≡ spread (putRow y) read n 0 at w
@@ -169,23 +171,23 @@ any-number y read (suc n) i at w =
 
 -- ---- a sheet that is ready
 
-pub sparse-room : (b : Bool) (m n : ℕ) → b ≡ true → 128 + cond b m 0 ≤ n → 128 + m ≤ n
+pub sparse-room : (b : Bool) (m n : ℕ) → b ≡ true → headingLength + cond b m 0 ≤ n → headingLength + m ≤ n
 sparse-room true m n e h = h
 sparse-room false m n e h = absurd (true-false e refl)
 
 picked : (s : List ℕ) (sheet : Sheet) (z : Starts) (y : Layout) → Known sheet y → Whole s sheet z → (b : Bool) → y .sparse ≡ true → b ≡ true → (w : List ℕ) → length w ≤ nowhere
-    → 128 + cond b (levels y 0) 0 ≤ length w → spread (putRow y) (pairLine zzTag s) (length (sheet .zz)) 0 (z .zz) w ≡ store 128 (pick b (tab (levels y 0) (entryRowIn sheet y)) []) w
+    → headingLength + cond b (levels y 0) 0 ≤ length w → spread (putRow y) (pairLine zzTag s) (length (sheet .zz)) 0 (z .zz) w ≡ store headingLength (pick b (tab (levels y 0) (entryRowIn sheet y)) []) w
 picked s sheet z y k h true q e w low fits = rows-made s sheet z y k h q w fits low
 picked s sheet z y k h false q e w low fits = absurd (true-false e refl)
 
-pub unpicked : (b : Bool) (l w : List ℕ) → b ≡ false → w ≡ store 128 (pick b l []) w
+pub unpicked : (b : Bool) (l w : List ℕ) → b ≡ false → w ≡ store headingLength (pick b l []) w
 unpicked true l w e = absurd (true-false refl e)
-unpicked false l w e = sym (store-nil 128 w)
+unpicked false l w e = sym (store-nil headingLength w)
 
 pub rows-loaded : (s : List ℕ) (z : Starts) (y : Layout) (r : Ready s z y) → y .sparse ≡ true → (n : ℕ) → n ≡ length (r .0 .zz) → (w w′ : List ℕ) → length w ≤ nowhere → numbersNeeded y ≤ length w
     → w′ ≡ spread (putRow y) (pairLine zzTag s) n 0 (z .zz) w → (x : Sheet) → readSheet s ≡ accepted x z
-    → w′ ≡ store 128 (pick (y .sparse) (tab (levels y 0) (entryRowIn x y)) []) w
+    → w′ ≡ store headingLength (pick (y .sparse) (tab (levels y 0) (entryRowIn x y)) []) w
 rows-loaded s z y r q n e w w′ low fits made x f =
-    subst (λ (x : Sheet). w′ ≡ store 128 (pick y.sparse (tab (levels y 0) (entryRowIn x y)) []) w) (one-sheet s z y r x f)
+    subst (λ (x : Sheet). w′ ≡ store headingLength (pick y.sparse (tab (levels y 0) (entryRowIn x y)) []) w) (one-sheet s z y r x f)
     (made ∙ ap (λ (m : ℕ). spread (putRow y) (pairLine zzTag s) m 0 z.zz w) e
     ∙ picked s r.0 z y (knows s z y r) (whole s z y r) y.sparse q q w low fits)

@@ -1,5 +1,6 @@
 // Where the word of each line of a sheet goes among the doubles of a workspace (document 01, Record 3). Definitions are in specs/word_address/Spread.antt.
 // Lent to each function, so that no line of a sheet copies them: counts, the levels of the sorted blocks; first and at, the lists of the layout's map.
+use block_places::block_kinds;
 use block_places::row_map;
 use layout::Layout;
 use sheet::Line;
@@ -98,7 +99,8 @@ fn fixed_place<'a>(
         return NOWHERE;
     }
     let c = level_of(layout, first, j, x);
-    (start_of(layout, at, layout.k, j) + (c * (layout.p + 1) + r)) as usize
+    let rows = block_kinds::last_rows(layout);
+    (start_of(layout, at, layout.k, j) + (c * rows + r)) as usize
 }
 
 // Place i of the last triangle.

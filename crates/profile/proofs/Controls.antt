@@ -10,7 +10,7 @@ use Rattle.refusal.specs.Numbers.{refusal}
 use Rattle.layout.specs.declared.Layout.{Layout}
 use Rattle.heading_format.specs.declared.Progress.{Progress}
 use Rattle.heading_format.specs.declared.State.the-variants.{UnderWay, Finished}
-use Rattle.heading_format.specs.Heading.{written, layoutOf}
+use Rattle.heading_format.specs.Heading.{written, layoutOf, undone}
 use Rattle.workspace.specs.Compute.{word, words}
 use Rattle.update.specs.Compute.{steps}
 use Rattle.profile.specs.declared.Deviance.{Deviance}
@@ -20,16 +20,18 @@ use Rattle.profile.specs.declared.Solve.the-variants.{Solved, Refused as
 use Rattle.profile.specs.Deviance.{devianceFromFactor}
 use Rattle.profile.specs.Finish.{Solving, solveOf}
 use Rattle.profile.specs.Solves.{blockIn, solvedFor}
+use Rattle.layout.proofs.Made.{layoutWith}
+use Rattle.heading_format.proofs.Heading.{progressWith}
 
 abbrev layout : ℕ → Layout
-layout n = record { n = n; p = 1; q = 1; k = 1; m = 1 ∷ replicate 7 0; order = replicate 8 0; sparse = false; diagonal = false }
+layout n = layoutWith n 1 1 1 (1 ∷ replicate 7 0) (replicate 8 0) false false
 
 -- every block at its last stage: (0,0), (1,0) and (1,1)
 abbrev finished : Progress
-finished = record { state = Finished; left = 0; stages = 1 ∷ 1 ∷ 2 ∷ replicate 42 0 }
+finished = progressWith Finished 0 (1 ∷ 1 ∷ 2 ∷ replicate 42 0)
 
 abbrev underWay : Progress
-underWay = record { state = UnderWay; left = 4; stages = replicate 45 0 }
+underWay = undone UnderWay 4
 
 -- loaded 3, 2 over 4, 5 6 9; theta 1; the factor 2, 1 over 2, 2 2 1; the sum ln 2
 abbrev doubles : List Float
@@ -141,7 +143,7 @@ no-pivot-clears = refl
 
 -- ---- the solves with two blocks. Forward, 1.94 less 0.67 · 1.8 and 0.42 · 0.79 has other bits product by product than summed first. Words by Python.
 abbrev pair : List ℕ → Bool → Layout
-pair m thin = record { n = 9; p = 1; q = 5; k = 2; m = m; order = 0 ∷ 1 ∷ replicate 6 0; sparse = thin; diagonal = thin }
+pair m thin = layoutWith 9 1 5 2 m (0 ∷ 1 ∷ replicate 6 0) thin thin
 
 unfoldable floats : List ℕ → List Float
 floats [] = []

@@ -1,11 +1,10 @@
 -- The profiled deviance (document 01, Record 6): `deviance_from_factor`, and `profile_deviance`, which is begin, the Rust's steps and this.
-use Prim.Native.Nat.{ℕ, _+_}
+use Prim.Native.Nat.{ℕ}
 use mathlib.Core.Bool.{Bool, true, false, _||_, cond}
 use mathlib.Core.List.{List}
 use lib.ListN.{length}
 use lib.Ieee as Ieee
 use lib.Ieee.{Float, binary64}
-use Rattle.storage.specs.Shape.{packed}
 use Rattle.step_order.specs.Steps.{rustOrder}
 use Rattle.rules.specs.Arithmetic.{ieee}
 use Rattle.rules.specs.Finish.{devianceOf}
@@ -15,7 +14,7 @@ use Rattle.heading_format.specs.declared.State.the-variants.{Idle, UnderWay, Fi
 use Rattle.refusal.specs.declared.Refusal.{Refusal}
 use Rattle.refusal.specs.declared.Answer.{Answer}
 use Rattle.refusal.specs.declared.Answer.the-variants.{Accepted, Refused as Denied}
-use Rattle.layout.specs.Shapes.{pick}
+use Rattle.layout.specs.Shapes.{pick, lastShape, responseRow}
 use Rattle.heading_format.specs.Heading.{layoutOf, progressOf, validHeading}
 use Rattle.workspace.specs.Memory.{Workspace, cellOf, workingBlock, logSum}
 use Rattle.refusal.specs.Numbers.{refusal, noRefusal}
@@ -58,13 +57,13 @@ logDeterminant h w = ieee .times (ieee .two) (logSum h w)
 module _ (h : List ℕ) (w : List Float) (reml : Bool) where
   -- pivot r of block k
   abbrev pub lastBlockPivot : ℕ → Float
-  lastBlockPivot r = cellOf (packed (layoutOf h .p + 1)) (workingBlock h w (layoutOf h .k) (layoutOf h .k)) r r
+  lastBlockPivot r = cellOf (lastShape (layoutOf h)) (workingBlock h w (layoutOf h .k) (layoutOf h .k)) r r
 
-  -- r2 is the square of the last pivot; no scale where r2 or d is at most 0
+  -- r2 is the square of the response's pivot, the last; no scale where r2 or d is at most 0
   unfoldable pub devianceValue : Deviance
   devianceValue =
       let y = layoutOf h in
-      let r2 = ieee .times (lastBlockPivot (y .p)) (lastBlockPivot (y .p)) in
+      let r2 = ieee .times (lastBlockPivot (responseRow y)) (lastBlockPivot (responseRow y)) in
       let d = freedom y reml in
       pick (ieee .refused r2 || ieee .refused d) NoScale
       (Value (devianceOf ieee reml d (ieee .over r2 d) (logDeterminant h w) lastBlockPivot (y .p)))

@@ -4,10 +4,9 @@ use mathlib.Core.Bool.{Bool, cond}
 use mathlib.Core.List.{List, [], _∷_, _++_}
 use mathlib.Core.Option.{Option, none, some}
 use lib.Dec.{eqb}
-use lib.ListN.{length, getD, replicate}
+use lib.ListN.{length, replicate}
 use lib.Ieee.{Float}
 use Rattle.storage.specs.Runs.{tab}
-use Rattle.storage.specs.Shape.{packed}
 use Rattle.rules.specs.Arithmetic.{ieee}
 use Rattle.rules.specs.Sums.{dot}
 use Rattle.rules.specs.Cholesky.{at, forward, rows, cellOf as entryOf, radicand, finishPivots}
@@ -16,7 +15,7 @@ use Rattle.rules.specs.Finish.{devianceOf, fixedCross, residual, offsetOf}
 use Rattle.layout.specs.declared.Layout.{Layout}
 use Rattle.refusal.specs.declared.Refusal.{Refusal}
 use Rattle.refusal.specs.Numbers.{refusal, noRefusal}
-use Rattle.layout.specs.Shapes.{pick, levels}
+use Rattle.layout.specs.Shapes.{pick, blockRows, lastShape, responseRow, sheetIndex}
 use Rattle.heading_format.specs.Heading.{layoutOf, progressOf, validHeading}
 use Rattle.workspace.specs.Memory.{cellOf, loadedBlock, thetaOf}
 use Rattle.profile.specs.declared.Solution.{Solution}
@@ -33,7 +32,7 @@ refusalOf (Refused r) = r
 -- the sorted block that has sheet index i, among the first n
 unfoldable pub sortedIndex : Layout → ℕ → ℕ → ℕ
 sortedIndex y zero i = 0
-sortedIndex y (suc s) i = let rest = sortedIndex y s i in cond (eqb (getD (y .order) s 0) i) s rest
+sortedIndex y (suc s) i = let rest = sortedIndex y s i in cond (eqb (sheetIndex y s) i) s rest
 
 -- the first n blocks of the sheet, one after the other
 unfoldable pub inSheetOrder : Layout → List (List Float) → ℕ → List Float
@@ -51,7 +50,7 @@ abbrev pub resultLength : Layout → ℕ
 resultLength y = y .p + 2 * y .q + y .p * (y .p + 1) / 2 + y .q * (y .p + 1)
 
 module _ (h : List ℕ) (w : List Float) where
-  -- v and w of row r in sheet order, the response's being row p
+  -- v and w of row r of block k, in sheet order
   unfoldable pub vOf : ℕ → List Float
   unfolding inSheetOrder scaledRow
   vOf r = inSheetOrder (layoutOf h) (scaledRow h w r) (layoutOf h .k)
@@ -63,11 +62,11 @@ module _ (h : List ℕ) (w : List Float) where
   -- theta of each sheet row
   unfoldable pub thetaRows : List Float
   unfolding inSheetOrder
-  thetaRows = let y = layoutOf h in inSheetOrder y (tab (y .k) (λ j. replicate (levels y j) (thetaOf h w j))) (y .k)
+  thetaRows = let y = layoutOf h in inSheetOrder y (tab (y .k) (λ j. replicate (blockRows y j) (thetaOf h w j))) (y .k)
 
-  -- cell (i, j) of the loaded triangle: X'X, and X'y and y'y in row p
+  -- cell (i, j) of the loaded triangle: X'X, and X'y and y'y in the response's row
   abbrev pub crossProduct : ℕ → ℕ → Float
-  crossProduct i j = cellOf (packed (layoutOf h .p + 1)) (loadedBlock h w (layoutOf h .k) (layoutOf h .k)) i j
+  crossProduct i j = cellOf (lastShape (layoutOf h)) (loadedBlock h w (layoutOf h .k) (layoutOf h .k)) i j
 
   -- X'X - V'W, its factor L_X by rows, and the row of a pivot that is not above 0
   unfoldable pub fixedTriangle : ℕ → ℕ → Float
@@ -85,7 +84,7 @@ module _ (h : List ℕ) (w : List Float) where
   -- the right side of beta, and beta: forward, then back substitution
   unfoldable pub fixedRhs : ℕ → Float
   unfolding vOf wOf
-  fixedRhs j = let y = layoutOf h in ieee .minus (crossProduct (y .p) j) (dot ieee (at ieee (vOf j)) (at ieee (wOf (y .p))) (y .q))
+  fixedRhs j = let y = layoutOf h in ieee .minus (crossProduct (responseRow y) j) (dot ieee (at ieee (vOf j)) (at ieee (wOf (responseRow y))) (y .q))
 
   unfoldable pub beta : List Float
   unfolding fixedFactor fixedRhs
@@ -99,7 +98,8 @@ module _ (h : List ℕ) (w : List Float) where
   unfolding vOf wOf beta fixedRhs
   sigma2 reml =
       let y = layoutOf h in
-      let r2 = residual ieee (crossProduct (y .p) (y .p)) (at ieee (vOf (y .p))) (at ieee (wOf (y .p))) (y .q) (at ieee beta) fixedRhs (y .p) in
+      let r = responseRow y in
+      let r2 = residual ieee (crossProduct r r) (at ieee (vOf r)) (at ieee (wOf r)) (y .q) (at ieee beta) fixedRhs (y .p) in
       ieee .over r2 (freedom y reml)
 
   unfoldable pub solutionOf : Bool → Solution
@@ -114,7 +114,7 @@ module _ (h : List ℕ) (w : List Float) where
   -- u, and b = theta times u, by sheet rows
   unfoldable pub uVector : List Float
   unfolding wOf beta
-  uVector = let y = layoutOf h in tab (y .q) (offsetOf ieee (at ieee (wOf (y .p))) (λ j x. at ieee (wOf j) x) (at ieee beta) (y .p))
+  uVector = let y = layoutOf h in tab (y .q) (offsetOf ieee (at ieee (wOf (responseRow y))) (λ j x. at ieee (wOf j) x) (at ieee beta) (y .p))
 
   unfoldable pub bVector : List Float
   unfolding uVector thetaRows
@@ -123,7 +123,7 @@ module _ (h : List ℕ) (w : List Float) where
   -- beta, b, u, L_X by rows, w of y, w of each column
   unfoldable pub resultList : List Float
   unfolding beta bVector uVector fixedFactor flattened wOf
-  resultList = let p = layoutOf h .p in beta ++ bVector ++ uVector ++ flattened fixedFactor ++ wOf p ++ flattened (tab p wOf)
+  resultList = let y = layoutOf h in beta ++ bVector ++ uVector ++ flattened fixedFactor ++ wOf (responseRow y) ++ flattened (tab (y .p) wOf)
 
 -- an answer, and the result list that it leaves; the workspace is untouched
 pub record Solving : Type 0 where

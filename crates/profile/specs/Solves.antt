@@ -10,7 +10,7 @@ use Rattle.rules.specs.Arithmetic.{ieee}
 use Rattle.rules.specs.Begin.{fixedCell}
 use Rattle.rules.specs.Cholesky.{at, forward}
 use Rattle.rules.specs.Solves.{matvecSub, sparseMatvecSub, matvecTSub, sparseMatvecTSub, backward}
-use Rattle.layout.specs.Shapes.{pick, levels, shape, loadedShape}
+use Rattle.layout.specs.Shapes.{pick, blockRows, shape, loadedShape}
 use Rattle.heading_format.specs.Heading.{layoutOf, entryRow}
 use Rattle.workspace.specs.Memory.{cellOf, loadedBlock, workingBlock, thetaOf}
 
@@ -44,8 +44,8 @@ module _ (h : List ℕ) (w : List Float) where
   -- ---- forward: v of block i less cross block (i, j) times block j of the solution
   abbrev pub subtractForward : ℕ → ℕ → List Float → (ℕ → Float) → ℕ → Float
   subtractForward i j z v =
-      pick (layoutOf h .sparse) (sparseMatvecSub ieee (entryRow h) sparseValue (at ieee z) v (levels (layoutOf h) j))
-      (matvecSub ieee (crossCellOf i j) (at ieee z) v (levels (layoutOf h) j))
+      pick (layoutOf h .sparse) (sparseMatvecSub ieee (entryRow h) sparseValue (at ieee z) v (blockRows (layoutOf h) j))
+      (matvecSub ieee (crossCellOf i j) (at ieee z) v (blockRows (layoutOf h) j))
 
   -- blocks 0 to n - 1, in turn
   unfoldable pub subtractFirst : ℕ → List (List Float) → (ℕ → Float) → ℕ → ℕ → Float
@@ -65,7 +65,7 @@ module _ (h : List ℕ) (w : List Float) where
   abbrev pub subtractBackward : ℕ → ℕ → List Float → (ℕ → Float) → ℕ → Float
   subtractBackward j i z v =
       pick (layoutOf h .sparse) (sparseMatvecTSub ieee (entryRow h) sparseValue (at ieee z) v)
-      (matvecTSub ieee (crossCellOf j i) (at ieee z) v (levels (layoutOf h) j))
+      (matvecTSub ieee (crossCellOf j i) (at ieee z) v (blockRows (layoutOf h) j))
 
   -- blocks i + 1 to i + n, in turn; z has them from i + 1 on
   unfoldable pub subtractLater : ℕ → List (List Float) → (ℕ → Float) → ℕ → ℕ → Float
@@ -87,9 +87,9 @@ module _ (h : List ℕ) (w : List Float) where
   unfolding forwardSolved backwardSolved
   solvedFor v = backwardSolved (forwardSolved v (layoutOf h .k)) (layoutOf h .k)
 
-  -- v of row r of the fixed rows, the response's being row p: its loaded cells times theta
+  -- v of row r of the fixed rows: its loaded cells times theta
   unfoldable pub scaledRow : ℕ → List (List Float)
   unfolding loadedShape
   scaledRow r =
       let y = layoutOf h in
-      tab (y .k) (λ j. tab (levels y j) (λ c. fixedCell ieee (thetaOf h w j) (cellOf (loadedShape y (entryRow h) (y .k) j) (loadedBlock h w (y .k) j) r c)))
+      tab (y .k) (λ j. tab (blockRows y j) (λ c. fixedCell ieee (thetaOf h w j) (cellOf (loadedShape y (entryRow h) (y .k) j) (loadedBlock h w (y .k) j) r c)))

@@ -1,14 +1,14 @@
 // Begin and the Rust's order to its end or its refused pivot (document 01, Record 5).
 ghost use mathlib.Core.Path.{_≡_};
-ghost use mathlib.Core.Bool.{true};
 ghost use Prim.Native.Nat.{_≤_};
 ghost use lib.ListN.{length};
 ghost use Rattle.step_order.specs.Steps.{rustOrder};
-ghost use Rattle.layout.specs.Shapes.{doublesNeeded};
-ghost use Rattle.heading_format.specs.Heading.{layoutOf, validLayout};
+ghost use Rattle.heading_format.specs.Heading.{layoutOf};
 ghost use Rattle.workspace.specs.Answers.{workspace};
 ghost use Rattle.profile_deviance.specs.ready_step.ReadyInTurn.{ReadyInTurn};
 ghost use Rattle.profile_deviance.specs.full_update.Updating.{factored, updateOf};
+ghost use Rattle.heading_format.specs.Parts.{headingLength};
+ghost use Rattle.heading_format.specs.Fits.{Room};
 use crate::rust_order;
 use deviance::deviance_tail;
 use refusal::Answer;
@@ -23,7 +23,7 @@ pub enum Updated {
 
 // The Rust's order on a workspace that is begun.
 fn factor(heading: &mut [u32], doubles: &mut [f64]) -> Updated
-    requires { ⌜ (128 ≤ length (now heading)) × (validLayout (layoutOf (now heading)) ≡ true) × (doublesNeeded (layoutOf (now heading)) ≤ length (now doubles)) × ReadyInTurn (workspace (now heading) (now doubles)) (rustOrder (layoutOf (now heading) .k)) ⌝ }
+    requires { ⌜ (headingLength ≤ length (now heading)) × Room (layoutOf (now heading)) (length (now doubles)) × ReadyInTurn (workspace (now heading) (now doubles)) (rustOrder (layoutOf (now heading) .k)) ⌝ }
     ensures { λ r. ⌜ record { answer = r; left = workspace (now (heading .exit)) (now (doubles .exit)) } ≡ factored (workspace (now (heading .entry)) (now (doubles .entry))) ⌝ }
 {
     let layout = heading::layout(heading);

@@ -8,8 +8,9 @@ use native.Mathlib.Omega.{arith}
 use lib.ListN.{length}
 use lib.Ieee.{Float}
 use borrow.Rule.Slice.PartMut.{putMid}
-use Rattle.storage.specs.Shape.{Shape, packed, sizeOf, cell}
+use Rattle.storage.specs.Shape.{packed, sizeOf, cell}
 use Rattle.storage.specs.Part.{part, store}
+use Rattle.storage.specs.Placed.{Placed}
 use Rattle.storage.proofs.Parts.{store-lent}
 use Rattle.rules.specs.Arithmetic.{ieee}
 use Rattle.rules.specs.Sums.{logsFrom}
@@ -62,7 +63,7 @@ lent-solve rule n many v z fits w off k e y q =
     ∙ ap (λ (x : List Float). store z (rule (entry z n v) (cell ieee.zero (packed n) x)) v) (is-part w off k (sizeOf (packed n)) e)
 
 -- the logarithms of a block that is lent
-pub lent-logs : (s : Shape) (w : List Float) (off k n : ℕ) (x v : Float) → k ≡ sizeOf s
-    → v ≡ logsFrom ieee x (λ r. cell (ieee .zero) s (between off k w) r r) n → v ≡ logsFirst s off n x w
-lent-logs s w off k n x v e q =
-    subst (λ (l : List Float). v ≡ logsFrom ieee x (λ r. cell ieee.zero s l r r) n) (is-part w off k (sizeOf s) e) q
+pub lent-logs : (p : Placed) (w : List Float) (k n : ℕ) (x v : Float) → k ≡ sizeOf (p .shape)
+    → v ≡ logsFrom ieee x (λ r. cell (ieee .zero) (p .shape) (between (p .at) k w) r r) n → v ≡ logsFirst p n x w
+lent-logs p w k n x v e q =
+    subst (λ (l : List Float). v ≡ logsFrom ieee x (λ r. cell ieee.zero p.shape l r r) n) (is-part w p.at k (sizeOf p.shape) e) q

@@ -1,5 +1,5 @@
--- What the calls on a diagonal block and its factor answer and leave (document 01, Records 4 and 7), over the whole list that holds the block: the
--- target's cells become the rule's, and every other double stays.
+-- What the calls on a diagonal block and its factor answer and leave (document 01, Records 4 and 7), over the whole list w that holds the block: the
+-- block's cells become the rule's, and every other double stays.
 use Prim.Native.Nat.{ℕ}
 use mathlib.Core.Path.{_≡_}
 use mathlib.Core.Bool.{cond}
@@ -8,56 +8,66 @@ use mathlib.Core.Option.{Option}
 use lib.Dec.{eqb}
 use lib.Ieee.{Float}
 use Rattle.storage.specs.Runs.{tab}
-use Rattle.storage.specs.Shape.{Shape, packed, diagonal, fill}
 use Rattle.storage.specs.Part.{store}
+use Rattle.storage.specs.declared.Block.{Block}
+use Rattle.storage.specs.Placed.{Placed, blockOf, asTriangle, asDiagonal, Lies, Apart, read, put}
 use Rattle.rules.specs.Arithmetic.{ieee}
 use Rattle.rules.specs.Begin.{diagonalCell}
 use Rattle.rules.specs.Cholesky.{forward, radicand, pivots, logsOfFirst, logsOfLater}
 use Rattle.rules.specs.Solves.{backward}
 use Rattle.re_lower.specs.Lower.{answerOf, leftOfTriangle, leftOfDiagonal}
 use Rattle.re_lower.specs.declared.Pivots.{Pivots}
-use Rattle.block_runs.specs.blocks.Blocks.{block, entry}
+use Rattle.block_runs.specs.blocks.Blocks.{entry}
 
--- pivot r of the block with shape s that lies from `off` on
-abbrev pub pivotAt : ℕ → Shape → List Float → ℕ → Float
-pivotAt off s w r = block off s w r r
+-- pivot r of a block
+abbrev pub pivotAt : Placed → List Float → ℕ → Float
+pivotAt p w r = read p w r r
 
--- Record 4, begin: cell (r, c) is (t·t)·a + 1 on the diagonal, where a is pivot r of the n loaded ones at src, and 0 beside it
-abbrev pub scaledCell : (n src : ℕ) → Float → List Float → ℕ → ℕ → Float
-scaledCell n src t w r c = cond (eqb r c) (diagonalCell ieee t (pivotAt src (diagonal n) w r)) (ieee .zero)
+-- ---- Record 4, begin
+-- what was loaded for block b: its diagonal alone, from `src` on
+abbrev pub loadedOf : Block → ℕ → Placed
+loadedOf b src = asDiagonal (blockOf src (b .rows) (b .cols))
 
--- the block of shape s at off, begun
-abbrev pub scaled : Shape → (off n src : ℕ) → Float → List Float → List Float
-scaled s off n src t w = store off (fill s (scaledCell n src t w)) w
+-- a block p and the loaded one d lie within n doubles, and apart
+abbrev pub Begins : ℕ → Placed → Placed → Type 0
+Begins n p d = Lies n p × Lies n d × Apart p d
 
--- Record 4, C: the answer p for the first pivot that is refused, and the list w′ where `left` stands at off for what stood there
+-- cell (r, c) is (t·t)·a + 1 on the diagonal, where a is loaded pivot r, and 0 beside it
+abbrev pub scaledCell : Placed → Float → List Float → ℕ → ℕ → Float
+scaledCell d t w r c = cond (eqb r c) (diagonalCell ieee t (pivotAt d w r)) (ieee .zero)
+
+-- block p, begun
+abbrev pub scaled : Placed → Placed → Float → List Float → List Float
+scaled p d t w = put p (scaledCell d t w) w
+
+-- ---- Record 4, C: the answer p for the first pivot that is refused, and the list w′ where `left` stands at off for what stood there
 pub record Factored (first : Option ℕ) (left : Pivots → List Float) (off : ℕ) (w w′ : List Float) (p : Pivots) : Type 0 where
   pub answer : p ≡ answerOf first
   pub exit : w′ ≡ store off (left p) w
 
--- C on the packed triangle of n rows at off, and on the diagonal of n cells there
-abbrev pub TriangleFactored : (off n : ℕ) (w w′ : List Float) → Pivots → Type 0
-TriangleFactored off n w w′ p =
-    Factored (pivots ieee (radicand ieee (block off (packed n) w)) n) (leftOfTriangle (block off (packed n) w) n) off w w′ p
+-- C on a packed triangle, and on a diagonal
+abbrev pub TriangleFactored : Block → (w w′ : List Float) → Pivots → Type 0
+TriangleFactored b w w′ p =
+    Factored (pivots ieee (radicand ieee (read (asTriangle b) w)) (b .rows)) (leftOfTriangle (read (asTriangle b) w) (b .rows)) (b .at) w w′ p
 
-abbrev pub DiagonalFactored : (off n : ℕ) (w w′ : List Float) → Pivots → Type 0
-DiagonalFactored off n w w′ p =
-    Factored (pivots ieee (pivotAt off (diagonal n) w) n) (leftOfDiagonal (pivotAt off (diagonal n) w) n) off w w′ p
+abbrev pub DiagonalFactored : Block → (w w′ : List Float) → Pivots → Type 0
+DiagonalFactored b w w′ p =
+    Factored (pivots ieee (pivotAt (asDiagonal b) w) (b .rows)) (leftOfDiagonal (pivotAt (asDiagonal b) w) (b .rows)) (b .at) w w′ p
 
--- Record 4, the logarithms of the n pivots at off: added one by one to x, as C(0) does; or summed from 0.0 and added at once, as a later C does
-abbrev pub logsFirst : Shape → (off n : ℕ) → Float → List Float → Float
-logsFirst s off n x w = logsOfFirst ieee x (pivotAt off s w) n
+-- ---- Record 4, the logarithms of n pivots: added one by one to x, as C(0) does; or summed from 0.0 and added at once, as a later C does
+abbrev pub logsFirst : Placed → ℕ → Float → List Float → Float
+logsFirst p n x w = logsOfFirst ieee x (pivotAt p w) n
 
-abbrev pub logsLater : Shape → (off n : ℕ) → Float → List Float → Float
-logsLater s off n x w = logsOfLater ieee x (pivotAt off s w) n
+abbrev pub logsLater : Placed → ℕ → Float → List Float → Float
+logsLater p n x w = logsOfLater ieee x (pivotAt p w) n
 
--- Record 7: the n entries at z of v, solved with the packed factor at off of w, forward and backward
-abbrev pub solvedForward : (z off n : ℕ) (w v : List Float) → List Float
-solvedForward z off n w v = store z (forward ieee (entry z n v) (block off (packed n) w) n) v
+-- ---- Record 7: as many entries of v, from z on, as the factor b of w has rows, solved with it, forward and backward
+abbrev pub solvedForward : ℕ → Block → (w v : List Float) → List Float
+solvedForward z b w v = store z (forward ieee (entry z (b .rows) v) (read (asTriangle b) w) (b .rows)) v
 
-abbrev pub solvedBackward : (z off n : ℕ) (w v : List Float) → List Float
-solvedBackward z off n w v = store z (backward ieee (entry z n v) (block off (packed n) w) n n) v
+abbrev pub solvedBackward : ℕ → Block → (w v : List Float) → List Float
+solvedBackward z b w v = store z (backward ieee (entry z (b .rows) v) (read (asTriangle b) w) (b .rows) (b .rows)) v
 
 -- with a diagonal factor, either way: each entry divided by its pivot
-abbrev pub divided : (z off n : ℕ) (w v : List Float) → List Float
-divided z off n w v = store z (tab n (λ i. ieee .over (entry z n v i) (pivotAt off (diagonal n) w i))) v
+abbrev pub divided : ℕ → Block → (w v : List Float) → List Float
+divided z b w v = store z (tab (b .rows) (λ i. ieee .over (entry z (b .rows) v i) (pivotAt (asDiagonal b) w i))) v

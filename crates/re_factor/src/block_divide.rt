@@ -2,16 +2,18 @@
 ghost use mathlib.Core.Path.{_≡_};
 ghost use Prim.Native.Nat.{_+_, _≤_};
 ghost use lib.ListN.{length};
+ghost use Rattle.storage.specs.Placed.{asDiagonal, Lies};
 ghost use Rattle.re_factor.specs.Factor.{divided};
+use storage::Block;
 
-// Each of the n entries at z of v divided by its pivot, which lies at off of `doubles`.
-pub fn divide(v: &mut [f64], z: usize, doubles: &[f64], off: usize, n: usize)
-    requires { ⌜ (z + n ≤ length (now v)) × (off + n ≤ length (now doubles)) ⌝ }
-    ensures { λ _. ⌜ now (v .exit) ≡ divided z off n (now (doubles .entry)) (now (v .entry)) ⌝ }
+// The entries at z of v, each divided by its pivot of the diagonal b of `doubles`.
+pub fn divide(v: &mut [f64], z: usize, doubles: &[f64], b: Block)
+    requires { ⌜ (z + b .rows ≤ length (now v)) × Lies (length (now doubles)) (asDiagonal b) ⌝ }
+    ensures { λ _. ⌜ now (v .exit) ≡ divided z b (now (doubles .entry)) (now (v .entry)) ⌝ }
 {
     let mut i = 0;
-    while i < n {
-        v[z + i] = v[z + i] / doubles[off + i];
+    while i < b.rows {
+        v[z + i] = v[z + i] / doubles[b.at + i];
         i += 1;
     }
 }

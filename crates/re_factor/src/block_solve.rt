@@ -2,28 +2,31 @@
 ghost use mathlib.Core.Path.{_≡_};
 ghost use Prim.Native.Nat.{_+_, _≤_};
 ghost use lib.ListN.{length};
-ghost use Rattle.storage.specs.Shape.{packed, sizeOf};
+ghost use Rattle.storage.specs.Placed.{asTriangle, Lies};
 ghost use Rattle.re_factor.specs.Factor.{solvedForward, solvedBackward};
 use re_lower::back_substitution;
 use re_lower::substitution;
 use re_lower::triangle_cells;
+use storage::Block;
 
-// Forward substitution of the n entries at z of v with the packed factor at off of `doubles`.
-pub fn forward(v: &mut [f64], z: usize, doubles: &[f64], off: usize, n: usize)
-    requires { ⌜ (n ≤ 316) × (z + n ≤ length (now v)) × (off + sizeOf (packed n) ≤ length (now doubles)) ⌝ }
-    ensures { λ _. ⌜ now (v .exit) ≡ solvedForward z off n (now (doubles .entry)) (now (v .entry)) ⌝ }
+// Forward substitution of the entries at z of v with the packed factor b of `doubles`.
+pub fn forward(v: &mut [f64], z: usize, doubles: &[f64], b: Block)
+    requires { ⌜ (b .rows ≤ 316) × (z + b .rows ≤ length (now v)) × Lies (length (now doubles)) (asTriangle b) ⌝ }
+    ensures { λ _. ⌜ now (v .exit) ≡ solvedForward z b (now (doubles .entry)) (now (v .entry)) ⌝ }
 {
-    let last = z + n;
-    let end = off + triangle_cells::row_start(n);
-    substitution::solve_row(&mut v[z..last], &doubles[off..end], n);
+    let last = z + b.rows;
+    let at = b.at;
+    let end = at + triangle_cells::row_start(b.rows);
+    substitution::solve_row(&mut v[z..last], &doubles[at..end], b.rows);
 }
 
 // Backward substitution of them.
-pub fn backward(v: &mut [f64], z: usize, doubles: &[f64], off: usize, n: usize)
-    requires { ⌜ (n ≤ 316) × (z + n ≤ length (now v)) × (off + sizeOf (packed n) ≤ length (now doubles)) ⌝ }
-    ensures { λ _. ⌜ now (v .exit) ≡ solvedBackward z off n (now (doubles .entry)) (now (v .entry)) ⌝ }
+pub fn backward(v: &mut [f64], z: usize, doubles: &[f64], b: Block)
+    requires { ⌜ (b .rows ≤ 316) × (z + b .rows ≤ length (now v)) × Lies (length (now doubles)) (asTriangle b) ⌝ }
+    ensures { λ _. ⌜ now (v .exit) ≡ solvedBackward z b (now (doubles .entry)) (now (v .entry)) ⌝ }
 {
-    let last = z + n;
-    let end = off + triangle_cells::row_start(n);
-    back_substitution::backward(&mut v[z..last], &doubles[off..end], n);
+    let last = z + b.rows;
+    let at = b.at;
+    let end = at + triangle_cells::row_start(b.rows);
+    back_substitution::backward(&mut v[z..last], &doubles[at..end], b.rows);
 }

@@ -1,13 +1,13 @@
 // Begin on a packed triangle (document 01, Record 4): (t·t)·a + 1 on the diagonal, +0 beside it.
 ghost use mathlib.Core.Path.{_≡_};
-ghost use mathlib.Core.Logic.{_⊎_};
 ghost use Prim.Native.Nat.{_+_, _≤_};
 ghost use lib.ListN.{length};
 ghost use Rattle.storage.specs.Runs.{tab};
-ghost use Rattle.storage.specs.Shape.{packed, sizeOf};
 ghost use Rattle.storage.specs.Part.{store};
+ghost use Rattle.storage.specs.Placed.{asTriangle};
 ghost use Rattle.rules.specs.Arithmetic.{ieee};
-ghost use Rattle.re_factor.specs.Factor.{scaled};
+ghost use Rattle.re_factor.specs.Factor.{loadedOf, Begins, scaled};
+use storage::Block;
 
 // The n doubles at `at` become 0.
 fn clear(doubles: &mut [f64], at: usize, n: usize)
@@ -21,15 +21,14 @@ fn clear(doubles: &mut [f64], at: usize, n: usize)
     }
 }
 
-// Begin on a packed triangle of n rows: (t·t)·a + 1 on the diagonal, where the loaded diagonal a lies at src, and 0 beside it.
-pub fn init(doubles: &mut [f64], off: usize, n: usize, src: usize, t: f64)
-    requires { ⌜ (off + sizeOf (packed n) ≤ length (now doubles)) × (src + n ≤ length (now doubles)) ⌝ }
-    requires { ⌜ (off + sizeOf (packed n) ≤ src) ⊎ (src + n ≤ off) ⌝ }
-    ensures { λ _. ⌜ now (doubles .exit) ≡ scaled (packed n) off n src t (now (doubles .entry)) ⌝ }
+// Begin on a packed triangle b: (t·t)·a + 1 on the diagonal, where the pivots a were loaded from src on, and 0 beside it.
+pub fn init(doubles: &mut [f64], b: Block, src: usize, t: f64)
+    requires { ⌜ Begins (length (now doubles)) (asTriangle b) (loadedOf b src) ⌝ }
+    ensures { λ _. ⌜ now (doubles .exit) ≡ scaled (asTriangle b) (loadedOf b src) t (now (doubles .entry)) ⌝ }
 {
     let mut r = 0;
-    let mut at = off;
-    while r < n {
+    let mut at = b.at;
+    while r < b.rows {
         clear(doubles, at, r);
         doubles[at + r] = t * t * doubles[src + r] + 1.0;
         r += 1;

@@ -1,3 +1,2 @@
 pub mod finite
 pub mod write_rows
-pub mod list_faults

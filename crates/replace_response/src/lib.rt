@@ -12,8 +12,9 @@ ghost use Rattle.layout.specs.Shapes.{loadedLength};
 ghost use Rattle.heading_format.specs.Heading.{validLayout, idle, validHeading};
 ghost use Rattle.workspace.specs.Memory.{headingWith};
 ghost use Rattle.workspace.specs.Answers.{workspace};
-ghost use Rattle.workspace.specs.Response.{replaceOf};
+ghost use Rattle.workspace.specs.Response.{response, Prescribed, replaceOf};
 ghost use Rattle.replace_response.specs.write_rows.Strided.{responseRows};
+ghost use Rattle.heading_format.specs.Parts.{headingLength};
 use heading::idle_progress;
 use heading::writer;
 use layout::Layout;
@@ -28,8 +29,8 @@ fn write(
     xty: &[f64],
     yty: &[f64],
 )
-    requires { ⌜ (128 ≤ length (now heading)) × (validLayout layout ≡ true) × (loadedLength layout ≤ length (now doubles)) × (length (now zty) ≡ layout .q) × (length (now xty) ≡ layout .p) × (length (now yty) ≡ 1) ⌝ }
-    ensures { λ _. ⌜ (now (heading .exit) ≡ headingWith (now (heading .entry)) (idle (layout .k))) × (now (doubles .exit) ≡ responseRows layout (now (zty .entry)) (now (xty .entry)) (now (yty .entry)) (now (doubles .entry))) ⌝ }
+    requires { ⌜ (headingLength ≤ length (now heading)) × (validLayout layout ≡ true) × (loadedLength layout ≤ length (now doubles)) × Prescribed layout (response (now zty) (now xty) (now yty)) ⌝ }
+    ensures { λ _. ⌜ (now (heading .exit) ≡ headingWith (now (heading .entry)) (idle (layout .k))) × (now (doubles .exit) ≡ responseRows layout (response (now (zty .entry)) (now (xty .entry)) (now (yty .entry))) (now (doubles .entry))) ⌝ }
 {
     write_rows::write_response(layout, doubles, zty, xty, yty);
     writer::write_progress(heading, idle_progress::idle(layout.k));
@@ -44,7 +45,7 @@ fn replace_valid(
     yty: &[f64],
 ) -> Answer
     requires { ⌜ validHeading (now heading) (length (now doubles)) ≡ true ⌝ }
-    ensures { λ r. ⌜ record { answer = r; left = workspace (now (heading .exit)) (now (doubles .exit)) } ≡ replaceOf (now (heading .entry)) (now (doubles .entry)) (now (zty .entry)) (now (xty .entry)) (now (yty .entry)) ⌝ }
+    ensures { λ r. ⌜ record { answer = r; left = workspace (now (heading .exit)) (now (doubles .exit)) } ≡ replaceOf (now (heading .entry)) (now (doubles .entry)) (response (now (zty .entry)) (now (xty .entry)) (now (yty .entry))) ⌝ }
 {
     let layout = heading::layout(heading);
     let a = list_faults::length_fault(layout, zty.len(), xty.len(), yty.len());
@@ -66,7 +67,7 @@ pub fn replace_response(
     xty: &[f64],
     yty: &[f64],
 ) -> Answer
-    ensures { λ r. ⌜ record { answer = r; left = workspace (now (heading .exit)) (now (doubles .exit)) } ≡ replaceOf (now (heading .entry)) (now (doubles .entry)) (now (zty .entry)) (now (xty .entry)) (now (yty .entry)) ⌝ }
+    ensures { λ r. ⌜ record { answer = r; left = workspace (now (heading .exit)) (now (doubles .exit)) } ≡ replaceOf (now (heading .entry)) (now (doubles .entry)) (response (now (zty .entry)) (now (xty .entry)) (now (yty .entry))) ⌝ }
 {
     if heading_check::is_valid_heading(heading, doubles.len()) {
         return replace_valid(heading, doubles, zty, xty, yty);

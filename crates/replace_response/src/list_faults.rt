@@ -1,9 +1,9 @@
 // What a list of a response is refused with (document 01, numbers 13 and 14).
 ghost use mathlib.Core.Path.{_≡_};
-ghost use lib.Dec.{eqb};
+ghost use mathlib.Core.List.{[], _∷_};
 ghost use Rattle.refusal.specs.Numbers.{refusal};
-ghost use Rattle.workspace.specs.Answers.{firstInfinite};
-ghost use Rattle.replace_response.specs.list_faults.Faults.{lengthFault, wordFault, firstOf};
+ghost use Rattle.workspace.specs.Answers.{lengthFault, wordFault, firstOf};
+ghost use Rattle.workspace.specs.Response.{response, listsOf, responseLengths};
 use crate::finite;
 use layout::Layout;
 use refusal::Refusal;
@@ -21,7 +21,7 @@ pub fn refused(number: u64, first: u64, second: u64) -> Refusal
 
 // 13 of the first list that has another length than the layout says: Z'y, X'y, y'y. Number 0 where there is none.
 pub fn length_fault(layout: Layout, zty: usize, xty: usize, yty: usize) -> Refusal
-    ensures { λ r. ⌜ r ≡ lengthFault (eqb zty (layout .q)) (eqb xty (layout .p)) (eqb yty 1) ⌝ }
+    ensures { λ r. ⌜ r ≡ lengthFault 0 (responseLengths layout) (zty ∷ xty ∷ yty ∷ []) ⌝ }
 {
     if zty as u64 == layout.q {
         if xty as u64 == layout.p {
@@ -37,7 +37,7 @@ pub fn length_fault(layout: Layout, zty: usize, xty: usize, yty: usize) -> Refus
 
 // 14 of the first infinity or NaN of the three lists: its list and its index. Number 0 where there is none.
 pub fn word_fault(zty: &[f64], xty: &[f64], yty: &[f64]) -> Refusal
-    ensures { λ r. ⌜ r ≡ wordFault (firstInfinite 0 (now (zty .entry))) (firstInfinite 0 (now (xty .entry))) (firstInfinite 0 (now (yty .entry))) ⌝ }
+    ensures { λ r. ⌜ r ≡ wordFault 0 (listsOf (response (now (zty .entry)) (now (xty .entry)) (now (yty .entry)))) ⌝ }
 {
     let a = finite::first_infinite(zty);
     if a < zty.len() {

@@ -1,4 +1,5 @@
 // Writes a response into the loaded numbers of a workspace (document 01, Record 3), cell by cell. What is left is defined in specs/write_rows/Strided.antt.
+use block_places::block_kinds;
 use block_places::row_map;
 use block_places::sheet_rows::Map;
 use layout::Layout;
@@ -10,6 +11,7 @@ ghost use lib.ListN.{length};
 ghost use Rattle.layout.specs.Shapes.{levels, loadedAt, loadedLength};
 ghost use Rattle.heading_format.specs.Heading.{validLayout};
 ghost use Rattle.workspace.specs.Loaded.{rowStart};
+ghost use Rattle.workspace.specs.Response.{response, Prescribed};
 ghost use Rattle.block_places.specs.sheet_rows.Blocks.{Maps};
 ghost use Rattle.replace_response.specs.write_rows.Strided.{strided, from, fixedRow, fixedRows, lastRow, responseRows};
 
@@ -53,7 +55,7 @@ fn levels_of(layout: Layout, j: usize) -> usize
     m[j] as usize
 }
 
-// Z'y of sorted block j into row p of its fixed rows.
+// Z'y of sorted block j into the response's row of its fixed rows.
 fn write_block(layout: Layout, m: Map, j: usize, doubles: &mut [f64], zty: &[f64])
     requires { ⌜ (validLayout layout ≡ true) × Maps layout m × (j < layout .k) × (loadedLength layout ≤ length (now doubles)) × (length (now zty) ≡ layout .q) ⌝ }
     ensures { λ _. ⌜ now (doubles .exit) ≡ fixedRow layout (now (zty .entry)) j (now (doubles .entry)) ⌝ }
@@ -62,10 +64,11 @@ fn write_block(layout: Layout, m: Map, j: usize, doubles: &mut [f64], zty: &[f64
     let to = start_of(layout, m, j) + p;
     let n = levels_of(layout, j);
     let first = row_of(layout, m, j);
-    spread(doubles, to, p + 1, n, zty, first);
+    let rows = block_kinds::last_rows(layout) as usize;
+    spread(doubles, to, rows, n, zty, first);
 }
 
-// Z'y into row p of the fixed rows of every factor.
+// Z'y into the response's row of the fixed rows of every factor.
 fn write_blocks(layout: Layout, m: Map, doubles: &mut [f64], zty: &[f64])
     requires { ⌜ (validLayout layout ≡ true) × Maps layout m × (loadedLength layout ≤ length (now doubles)) × (length (now zty) ≡ layout .q) ⌝ }
     ensures { λ _. ⌜ now (doubles .exit) ≡ fixedRows layout (now (zty .entry)) (layout .k) (now (doubles .entry)) ⌝ }
@@ -78,7 +81,7 @@ fn write_blocks(layout: Layout, m: Map, doubles: &mut [f64], zty: &[f64])
     }
 }
 
-// X'y and y'y into row p of the last triangle.
+// X'y and y'y into the response's row of the last triangle.
 fn write_last(layout: Layout, m: Map, doubles: &mut [f64], xty: &[f64], yty: &[f64])
     requires { ⌜ (validLayout layout ≡ true) × Maps layout m × (loadedLength layout ≤ length (now doubles)) × (length (now xty) ≡ layout .p) × (length (now yty) ≡ 1) ⌝ }
     ensures { λ _. ⌜ now (doubles .exit) ≡ lastRow layout (now (xty .entry)) (now (yty .entry)) (now (doubles .entry)) ⌝ }
@@ -91,8 +94,8 @@ fn write_last(layout: Layout, m: Map, doubles: &mut [f64], xty: &[f64], yty: &[f
 
 // The whole response, and nothing else.
 pub fn write_response(layout: Layout, doubles: &mut [f64], zty: &[f64], xty: &[f64], yty: &[f64])
-    requires { ⌜ (validLayout layout ≡ true) × (loadedLength layout ≤ length (now doubles)) × (length (now zty) ≡ layout .q) × (length (now xty) ≡ layout .p) × (length (now yty) ≡ 1) ⌝ }
-    ensures { λ _. ⌜ now (doubles .exit) ≡ responseRows layout (now (zty .entry)) (now (xty .entry)) (now (yty .entry)) (now (doubles .entry)) ⌝ }
+    requires { ⌜ (validLayout layout ≡ true) × (loadedLength layout ≤ length (now doubles)) × Prescribed layout (response (now zty) (now xty) (now yty)) ⌝ }
+    ensures { λ _. ⌜ now (doubles .exit) ≡ responseRows layout (response (now (zty .entry)) (now (xty .entry)) (now (yty .entry))) (now (doubles .entry)) ⌝ }
 {
     let m = row_map::map_of(layout);
     write_blocks(layout, m, doubles, zty);

@@ -32,7 +32,7 @@ use Rattle.workspace.proofs.Lengths.{length-loaded}
 use Rattle.workspace.proofs.ValidHeading.{length-m, length-order}
 use Rattle.demand3.proofs.frame.Response.{rows-unasked, responded-behind, responded-else, responded-own}
 use Rattle.load_numbers.proofs.sheet_words.Numbers.{tiled-numbers}
-use Rattle.response_exchange.specs.Exchange.{withResponse, doubles}
+use Rattle.response_exchange.specs.Exchange.{withResponse, doubles, responseOf}
 
 -- a word of a list as a double
 double-at : (l : List ℕ) (i : ℕ) → getD (doubles l) i (ieee .zero) ≡ double (getD l i 0)
@@ -101,7 +101,7 @@ module _ (sheet : Sheet) (zy xy : List ℕ) (yy : ℕ) (tail : List Float) where
   w = loadedNumbers sheet y ++ tail
 
   abbrev after : List Float
-  after = responded h w (doubles zy) (doubles xy) (double yy) .left .doubles
+  after = responded h w (responseOf new) .left .doubles
 
   heading-layout : layoutOf h ≡ y
   unfolding headingOf
@@ -114,7 +114,7 @@ module _ (sheet : Sheet) (zy xy : List ℕ) (yy : ℕ) (tail : List Float) where
     -- block (k, j) with the new response, of a layout and of a shape
     abbrev renewed : Layout → Shape → List Float
     renewed z s =
-        fill s (λ r c. cond (eqb r z.p) (responseCell z (doubles zy) (doubles xy) (double yy) j c) (cellOf s (part (loadedAt z z.k j) (sizeOf s) w) r c))
+        fill s (λ r c. cond (eqb r z.p) (responseCell z (responseOf new) j c) (cellOf s (part (loadedAt z z.k j) (sizeOf s) w) r c))
 
     abbrev own : Shape
     own = loadedShape y (entryRowIn sheet y) y.k j
@@ -125,15 +125,15 @@ module _ (sheet : Sheet) (zy xy : List ℕ) (yy : ℕ) (tail : List Float) where
         ∙ loaded-block sheet y tail y.k j l (omega arith)
 
     new-cell : (r c : ℕ) → hasCell own r c ≡ true
-        → cond (eqb r (y .p)) (responseCell y (doubles zy) (doubles xy) (double yy) j c) (cellOf own (part (loadedAt y (y .k) j) (sizeOf own) w) r c) ≡ double (loadedWord new y (y .k) j r c)
+        → cond (eqb r (y .p)) (responseCell y (responseOf new) j c) (cellOf own (part (loadedAt y (y .k) j) (sizeOf own) w) r c) ≡ double (loadedWord new y (y .k) j r c)
     new-cell r c has =
-        ap (λ (b : List Float). cond (eqb r y.p) (responseCell y (doubles zy) (doubles xy) (double yy) j c) (cellOf own b r c)) old-block
-        ∙ ap (λ (v : Float). cond (eqb r y.p) (responseCell y (doubles zy) (doubles xy) (double yy) j c) v)
+        ap (λ (b : List Float). cond (eqb r y.p) (responseCell y (responseOf new) j c) (cellOf own b r c)) old-block
+        ∙ ap (λ (v : Float). cond (eqb r y.p) (responseCell y (responseOf new) j c) v)
         (cell-fill ieee.zero own (λ r c. double (loadedWord sheet y y.k j r c)) r c has)
         ∙ rw (eq-eqb y.k y.k refl)
         (chosen (eqb r y.p) (eqb j y.k) (eqb c y.p) _ _ _ _ _ _ _ _ _ _ (double-at zy (sheetRow y j c)) (double-at xy c))
 
-    new-block : respondedBlock h w (doubles zy) (doubles xy) (double yy) j ≡ blockOf new y (y .k) j
+    new-block : respondedBlock h w (responseOf new) j ≡ blockOf new y (y .k) j
     unfolding respondedBlock
     new-block =
         ap (λ (z : Layout). renewed z (loadedShape z (entryRow h) z.k j)) heading-layout
@@ -145,13 +145,13 @@ module _ (sheet : Sheet) (zy xy : List ℕ) (yy : ℕ) (tail : List Float) where
   tile i j a b =
       by-cases (decLt i y.k)
       (λ l. subst (λ (z : Layout). i < z .k → part (loadedAt z i j) (loadedSizes z i j) after ≡ part (loadedAt z i j) (loadedSizes z i j) w) heading-layout
-      (responded-else h w (doubles zy) (doubles xy) (double yy) room i j a) l
+      (responded-else h w (responseOf new) room i j a) l
       ∙ loaded-block sheet y tail i j a b
       ∙ before-last i j (λ e. omega arith))
       (λ l. let e : y .k ≡ i = omega arith in
       subst (λ (x : ℕ). part (loadedAt y x j) (loadedSizes y x j) after ≡ blockOf new y x j) e
-      (subst (λ (z : Layout). j ≤ z .k → part (loadedAt z z.k j) (loadedSizes z z.k j) after ≡ respondedBlock h w (doubles zy) (doubles xy) (double yy) j) heading-layout
-      (responded-own h w (doubles zy) (doubles xy) (double yy) room j) (omega arith)
+      (subst (λ (z : Layout). j ≤ z .k → part (loadedAt z z.k j) (loadedSizes z z.k j) after ≡ respondedBlock h w (responseOf new) j) heading-layout
+      (responded-own h w (responseOf new) room j) (omega arith)
       ∙ new-block j (omega arith)))
     where
       -- a block before row k has no word of a response
@@ -162,22 +162,22 @@ module _ (sheet : Sheet) (zy xy : List ℕ) (yy : ℕ) (tail : List Float) where
   exchanged-doubles =
       sym (take-append-drop (loadedLength y) after)
       ∙ ap₂ (λ (a b : List Float). a ++ b) (tiled-numbers new y after tile)
-      (responded-behind h w (doubles zy) (doubles xy) (double yy) room (loadedLength y) (rw heading-layout (omega arith))
+      (responded-behind h w (responseOf new) room (loadedLength y) (rw heading-layout (omega arith))
       ∙ drop-at (loadedNumbers sheet y) tail (loadedLength y) (length-loaded sheet y))
 
 -- the book's loaded numbers after a new response are those of the sheet with that response
 pub exchanged-numbers : (sheet : Sheet) (zy xy : List ℕ) (yy : ℕ)
-    → responded (headingOf sheet (layoutOfSheet sheet)) (loadedNumbers sheet (layoutOfSheet sheet)) (doubles zy) (doubles xy) (double yy) .left .doubles
+    → responded (headingOf sheet (layoutOfSheet sheet)) (loadedNumbers sheet (layoutOfSheet sheet)) (responseOf (withResponse sheet zy xy yy)) .left .doubles
     ≡ loadedNumbers (withResponse sheet zy xy yy) (layoutOfSheet (withResponse sheet zy xy yy))
 unfolding layoutOfSheet sortedLayout
 exchanged-numbers sheet zy xy yy =
-    ap (λ (l : List Float). responded (headingOf sheet (layoutOfSheet sheet)) l (doubles zy) (doubles xy) (double yy) .left .doubles) (sym (append-nil (loadedNumbers sheet (layoutOfSheet sheet))))
+    ap (λ (l : List Float). responded (headingOf sheet (layoutOfSheet sheet)) l (responseOf (withResponse sheet zy xy yy)) .left .doubles) (sym (append-nil (loadedNumbers sheet (layoutOfSheet sheet))))
     ∙ exchanged-doubles sheet zy xy yy []
     ∙ append-nil (loadedNumbers (withResponse sheet zy xy yy) (layoutOfSheet sheet))
 
 -- A new response on a freshly loaded workspace leaves heading and doubles as load of the sheet with that response leaves them.
 pub exchanged : (sheet : Sheet) (zy xy : List ℕ) (yy : ℕ)
-    → responded (headingOf sheet (layoutOfSheet sheet)) (doublesOf sheet (layoutOfSheet sheet)) (doubles zy) (doubles xy) (double yy) .left
+    → responded (headingOf sheet (layoutOfSheet sheet)) (doublesOf sheet (layoutOfSheet sheet)) (responseOf (withResponse sheet zy xy yy)) .left
     ≡ workspace (headingOf (withResponse sheet zy xy yy) (layoutOfSheet (withResponse sheet zy xy yy))) (doublesOf (withResponse sheet zy xy yy) (layoutOfSheet (withResponse sheet zy xy yy)))
 unfolding layoutOfSheet sortedLayout doublesOf headingOf responded
 exchanged sheet zy xy yy =

@@ -4,6 +4,7 @@ use mathlib.Core.List.{List, [], _∷_}
 use lib.Ieee.{Float}
 use Rattle.sheet.specs.Sheet.{Sheet}
 use Rattle.workspace.specs.Loaded.{double}
+use Rattle.workspace.specs.Response.{Response, response}
 
 -- the sheet with the words zy, xy and yy for those of its Z'y, X'y and y'y
 abbrev pub withResponse : Sheet → List ℕ → List ℕ → ℕ → Sheet
@@ -23,3 +24,7 @@ withResponse sheet zy xy yy =
 abbrev pub doubles : List ℕ → List Float
 doubles [] = []
 doubles (x ∷ l) = double x ∷ doubles l
+
+-- a sheet's response
+abbrev pub responseOf : Sheet → Response
+responseOf sheet = response (doubles (sheet .zy)) (doubles (sheet .xy)) (double (sheet .yy) ∷ [])

@@ -62,15 +62,18 @@ module _ (A : Arithmetic) where
         (ap (λ (z : List A.Num). at A z n) (row-made n)
         ∙ getD-at (leftOfPivot A b (factor A b n) n) _ [] A.zero n (length-forward (b n) (factor A b n) n)))
 
-  -- ---- no pivot is refused, so this one is not
+  -- ---- no pivot is bad, so this one is not
   step-none : (o : Option ℕ) (bad : Bool) (n : ℕ) → next A o bad n ≡ none → (o ≡ none) × (bad ≡ false)
   step-none none false n e = (refl, refl)
   step-none none true n e = absurd (Option·some-ne-none n e)
   step-none (some q) bad n e = absurd (Option·some-ne-none q e)
 
-  pub accepted-at : (g : ℕ → A .Num) (r n : ℕ) → r < n → pivots A g n ≡ none → A .refused (g r) ≡ false
+  pub none-bad : (bad : A .Num → Bool) (g : ℕ → A .Num) (r n : ℕ) → r < n → firstBad A bad g n ≡ none → bad (g r) ≡ false
   unfolding firstBad
-  accepted-at g r zero l e = absurd (omega arith)
-  accepted-at g r (suc n) l e =
-      let k = step-none (pivots A g n) (A.refused (g n)) n e in
-      by-cases (decLt r n) (λ h. accepted-at g r n h k.0) (λ h. let f : r ≡ n = omega arith in rw f k.1)
+  none-bad bad g r zero l e = absurd (omega arith)
+  none-bad bad g r (suc n) l e =
+      let k = step-none (firstBad A bad g n) (bad (g n)) n e in
+      by-cases (decLt r n) (λ h. none-bad bad g r n h k.0) (λ h. let f : r ≡ n = omega arith in rw f k.1)
+
+  pub accepted-at : (g : ℕ → A .Num) (r n : ℕ) → r < n → pivots A g n ≡ none → A .refused (g r) ≡ false
+  accepted-at = none-bad A.refused

@@ -1,71 +1,27 @@
--- A loop that writes the runs of a block, one behind the other, and the runs of the steps S.
+-- The runs of the steps S.
 use Prim.Native.Nat.{ℕ, _+_, _≤_, _<_}
-use mathlib.Core.Path.{_≡_, refl, sym, ap, ap₂, _∙_}
+use mathlib.Core.Path.{_≡_, sym, ap, ap₂, _∙_}
 use mathlib.Core.List.{List}
 use mathlib.Core.Logic.{inl, inr, ⊎-elim}
 use native.Mathlib.Omega.{arith}
 use native.Mathlib.Nat.{add-zero}
 use lib.ListN.{length}
 use lib.Ieee.{Float}
-use Rattle.storage.specs.Runs.{start, tab, dense}
-use Rattle.storage.specs.Shape.{Shape, columns, sizeOf, runLength, runs, rowAt, columnAt, cell, fill}
+use Rattle.storage.specs.Runs.{tab, dense}
+use Rattle.storage.specs.Shape.{columns, sizeOf, cell}
 use Rattle.storage.specs.Part.{store}
-use Rattle.storage.proofs.Starts.{start-below, start-dense, start-le}
+use Rattle.storage.proofs.Starts.{start-dense, start-le}
 use Rattle.storage.proofs.Cells.{tab-ext, length-tab}
 use Rattle.storage.proofs.Parts.{part-else}
 use Rattle.rules.specs.Arithmetic.{ieee}
 use Rattle.rules.specs.Sums.{dot, chain}
 use Rattle.storage.specs.declared.Block.{Block}
-use Rattle.storage.specs.Placed.{Placed, asColumns, Lies, Apart, Within, read, put}
+use Rattle.storage.specs.Placed.{Placed, asColumns, Lies, Apart, Within, read}
 use Rattle.block_runs.specs.blocks.Blocks.{block}
-use Rattle.block_runs.proofs.blocks.Runs.{Writing, writing-none, writing-same, writing-more, writing-cell, writing-all}
+use Rattle.block_runs.proofs.blocks.Going.{Going}
 use Rattle.block_runs.specs.axpy.Axpy.{at, run, along, products}
 use Rattle.block_runs.proofs.axpy.Sums.{sum-along, subtract-along, along-swap, summed}
 use Rattle.schur.specs.Schur.{subtractSums, subtractProducts}
-
--- ---- of the runs of block p, j are written by the rule f of row and column, all else is as in w₀, and the next run starts at `to`
-abbrev byRun : Shape → (ℕ → ℕ → Float) → ℕ → ℕ → Float
-byRun s f j i = f (rowAt s j i) (columnAt s j i)
-
-pub record Going (p : Placed) (f : ℕ → ℕ → Float) (w₀ : List Float) (j to : ℕ) (w : List Float) : Type 0 where
-  pub within : j ≤ runs (p .shape)
-  pub long : length w ≡ length w₀
-  pub place : to ≡ p .at + start (runLength (p .shape)) j
-  pub so : Writing (p .at) (p .at + sizeOf (p .shape)) (runLength (p .shape)) (runs (p .shape)) (byRun (p .shape) f) w₀ j (start (runLength (p .shape)) j) w
-
-of-writing : (p : Placed) (f : ℕ → ℕ → Float) (w₀ : List Float) (j x to : ℕ) (w : List Float)
-    → Writing (p .at) (p .at + sizeOf (p .shape)) (runLength (p .shape)) (runs (p .shape)) (byRun (p .shape) f) w₀ j x w → to ≡ p .at + x → Going p f w₀ j to w
-of-writing p f w₀ j x to w e h =
-    record { within = e.within; long = e.long; place = omega (arith, e.place); so = rw e.place at e }
-
-pub going-none : (p : Placed) (f : ℕ → ℕ → Float) (w₀ : List Float) → Lies (length w₀) p → Going p f w₀ 0 (p .at) w₀
-going-none p f w₀ h = of-writing p f w₀ 0 0 p.at w₀ (writing-none p.at _ (runLength p.shape) (runs p.shape) _ w₀ refl h) (omega arith)
-
-module _ {p : Placed} {f : ℕ → ℕ → Float} {w₀ : List Float} {j to : ℕ} {w : List Float} (e : Going p f w₀ j to w) where
-  pub going-all : runs (p .shape) ≤ j → w ≡ put p f w₀
-  unfolding fill
-  going-all h = writing-all e.so h
-
-  -- the next run lies in the block
-  pub going-room : j < runs (p .shape) → Within p to (runLength (p .shape) j)
-  going-room more = (omega (arith, e.place), omega (arith, e.place, start-below (runLength p.shape) j (runs p.shape) more))
-
--- one run more: its cells by F of the cell itself, a row of block a and a row of block b, which lie apart
-pub turn : {p : Placed} {f : ℕ → ℕ → Float} {w₀ : List Float} {j to : ℕ} {w w′ : List Float} {to′ : ℕ} (F : Float → (ℕ → Float) → (ℕ → Float) → Float) (a b : Placed) (k : ℕ)
-    → Going p f w₀ j to w → j < runs (p .shape) → Apart p a → Apart p b
-    → ((i : ℕ) → F (read p w₀ (rowAt (p .shape) j i) (columnAt (p .shape) j i)) (read a w₀ i) (read b w₀ j) ≡ f (rowAt (p .shape) j i) (columnAt (p .shape) j i))
-    → k ≡ runLength (p .shape) j → to′ ≡ to + k → w′ ≡ run to k (λ i. F (at w (to + i)) (read a w i) (read b w j)) w → Going p f w₀ (j + 1) to′ w′
-turn {p} {f} {w₀} {j} {to} {w} {w′} {to′} F a b k e more apart apart′ same d next then =
-    let s = p.shape in
-    let x : ℕ = start (runLength s) j in
-    of-writing p f w₀ (j + 1) (x + k) to′ w′
-    (writing-more e.so more to k _ e.place d refl
-    (λ i l.
-    ap₂ (λ (g h : ℕ → ℕ → Float). F (at w (to + i)) (g i) (h j)) (writing-same e.so more a.at a.shape apart) (writing-same e.so more b.at b.shape apart′)
-    ∙ ap (λ (z : Float). F z (read a w₀ i) (read b w₀ j)) (ap (λ (m : ℕ). at w (m + i)) e.place ∙ writing-cell s e.so more i l)
-    ∙ same i)
-    then)
-    (omega (arith, e.place))
 
 -- a block of as many columns lies there too
 pub lies-as : (n m : ℕ) (b : Block) → b .cols ≡ m → Lies n (asColumns b) → b .at + sizeOf (columns (b .rows) m) ≤ n

@@ -1,7 +1,6 @@
 // S, the subtraction of one block times another transposed (document 01, Record 4; the Rust's `rank_sub_*`, `schur_sub_*`), on the whole list of
 // doubles: the target's cells are the rule's, every other double stays. At the root one run that sums from 0.0 and subtracts once; a module for each
 // kind of target. A dense block has at most 316 rows.
-mod column_pair;
 pub mod dense_triangle;
 mod few_rows;
 pub mod last_triangle;
@@ -21,7 +20,7 @@ use block_runs::run_differences;
 use storage::Block;
 
 // n doubles from `to` on: less the sums of the products of rows 0 to n - 1 of block a and row r of block b.
-pub fn subtract_run(
+fn subtract_run(
     doubles: &mut [f64],
     acc: &mut [f64],
     to: usize,

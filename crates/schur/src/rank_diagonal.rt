@@ -5,8 +5,7 @@ ghost use mathlib.Core.Bool.{true};
 ghost use Prim.Native.Nat.{_+_, _≤_, _<_};
 ghost use lib.ListN.{length};
 ghost use Rattle.storage.specs.Runs.{start, dense};
-ghost use Rattle.storage.specs.Shape.{columns, sizeOf};
-ghost use Rattle.storage.specs.Placed.{Squares, asColumns};
+ghost use Rattle.storage.specs.Placed.{Lies, Squares, asColumns, blockOf};
 ghost use Rattle.schur.specs.rank_diagonal.Diagonal.{subtractedDiagonal};
 ghost use Rattle.schur.specs.rank_diagonal.Rows.{plusSquare, Zeros, Summed, Added, subtractEach};
 use block_runs::run_differences;
@@ -30,23 +29,13 @@ pub fn subtract_sums(doubles: &mut [f64], at: usize, m: usize, sums: &[f64])
     run_differences::subtract(doubles, at, at + m, 0, m, sums);
 }
 
-// The sums of n rows with column x of the dense block: its working cells start at p, its loaded ones at q.
-fn add_column(
-    sums: &mut [f64],
-    doubles: &[f64],
-    n: usize,
-    a: usize,
-    inner: usize,
-    src: usize,
-    x: usize,
-    p: usize,
-    q: usize,
-)
-    requires { ⌜ (n ≤ length (now sums)) × (x < inner) × (p ≡ a + start (dense n) x) × (q ≡ src + start (dense n) x) × (a + sizeOf (columns n inner) ≤ length (now doubles)) × (src + sizeOf (columns n inner) ≤ length (now doubles)) ⌝ }
-    ensures { λ _. ⌜ Added (columns n inner) a src (now (doubles .entry)) 0 n x (now (sums .entry)) (now (sums .exit)) ⌝ }
+// The sums of the rows of the dense block a with its column x: its working cells start at p, its loaded ones at q.
+fn add_column(sums: &mut [f64], doubles: &[f64], a: Block, src: usize, x: usize, p: usize, q: usize)
+    requires { ⌜ (a .rows ≤ length (now sums)) × (x < a .cols) × (p ≡ a .at + start (dense (a .rows)) x) × (q ≡ src + start (dense (a .rows)) x) × Lies (length (now doubles)) (asColumns a) × Lies (length (now doubles)) (asColumns (blockOf src (a .rows) (a .cols))) ⌝ }
+    ensures { λ _. ⌜ Added (asColumns a) src (now (doubles .entry)) 0 (a .rows) x (now (sums .entry)) (now (sums .exit)) ⌝ }
 {
     let mut r = 0;
-    while r < n {
+    while r < a.rows {
         let cell = doubles[q + r];
         let v = doubles[p + r];
         let y = sums[r];
@@ -55,19 +44,19 @@ fn add_column(
     }
 }
 
-// The sums of the n rows of the dense block.
-fn sum_columns(sums: &mut [f64], doubles: &[f64], n: usize, a: usize, inner: usize, src: usize)
-    requires { ⌜ (n ≤ length (now sums)) × (a + sizeOf (columns n inner) ≤ length (now doubles)) × (src + sizeOf (columns n inner) ≤ length (now doubles)) ⌝ }
-    requires { ⌜ Zeros n (now sums) ⌝ }
-    ensures { λ _. ⌜ Summed (columns n inner) a src (now (doubles .entry)) 0 n inner (now (sums .exit)) ⌝ }
+// The sums of the rows of the dense block a, which was loaded from src.
+fn sum_columns(sums: &mut [f64], doubles: &[f64], a: Block, src: usize)
+    requires { ⌜ (a .rows ≤ length (now sums)) × Lies (length (now doubles)) (asColumns a) × Lies (length (now doubles)) (asColumns (blockOf src (a .rows) (a .cols))) ⌝ }
+    requires { ⌜ Zeros (a .rows) (now sums) ⌝ }
+    ensures { λ _. ⌜ Summed (asColumns a) src (now (doubles .entry)) 0 (a .rows) (a .cols) (now (sums .exit)) ⌝ }
 {
     let mut x = 0;
-    let mut p = a;
+    let mut p = a.at;
     let mut q = src;
-    while x < inner {
-        add_column(sums, doubles, n, a, inner, src, x, p, q);
-        p += n;
-        q += n;
+    while x < a.cols {
+        add_column(sums, doubles, a, src, x, p, q);
+        p += a.rows;
+        q += a.rows;
         x += 1;
     }
 }
@@ -78,6 +67,6 @@ pub fn rank_sub_diagonal(doubles: &mut [f64], t: Block, a: Block, src: usize)
     ensures { λ _. ⌜ now (doubles .exit) ≡ subtractedDiagonal asColumns t a src (now (doubles .entry)) ⌝ }
 {
     let mut sums = [0.0; 316];
-    sum_columns(&mut sums, doubles, a.rows, a.at, a.cols, src);
+    sum_columns(&mut sums, doubles, a, src);
     subtract_sums(doubles, t.at, t.rows, &sums);
 }

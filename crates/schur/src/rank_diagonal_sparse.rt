@@ -2,7 +2,6 @@
 ghost use mathlib.Core.Path.{_≡_};
 ghost use Prim.Native.Nat.{_+_, _≤_, _<_};
 ghost use lib.ListN.{length};
-ghost use Rattle.storage.specs.Shape.{entries};
 ghost use Rattle.storage.specs.Placed.{Squares, asEntries};
 ghost use Rattle.block_runs.specs.blocks.Blocks.{rowFrom};
 ghost use Rattle.schur.specs.rank_diagonal.Diagonal.{subtractedDiagonal};
@@ -33,50 +32,48 @@ fn add_entry(sums: &mut [f64], from: usize, m: usize, row: usize, cell: f64, v: 
     sums[i] = rank_diagonal::plus_square(cell, v, y);
 }
 
-// The sums of m rows of the sparse block, row `from` first.
+// The sums of m rows of the sparse block a, which was loaded from src, row `from` first.
 fn sum_entries(
     sums: &mut [f64],
     from: usize,
     m: usize,
     doubles: &[f64],
-    a: usize,
-    inner: usize,
+    a: Block,
     src: usize,
     heading: &[u32],
     first: usize,
 )
-    requires { ⌜ (m ≤ length (now sums)) × (a + inner ≤ length (now doubles)) × (src + inner ≤ length (now doubles)) × (first + inner ≤ length (now heading)) ⌝ }
+    requires { ⌜ (m ≤ length (now sums)) × (a .at + a .cols ≤ length (now doubles)) × (src + a .cols ≤ length (now doubles)) × (first + a .cols ≤ length (now heading)) ⌝ }
     requires { ⌜ Zeros m (now sums) ⌝ }
-    ensures { λ _. ⌜ Summed (entries inner (rowFrom (now (heading .entry)) first)) a src (now (doubles .entry)) from m inner (now (sums .exit)) ⌝ }
+    ensures { λ _. ⌜ Summed (asEntries (rowFrom (now (heading .entry)) first) a) src (now (doubles .entry)) from m (a .cols) (now (sums .exit)) ⌝ }
 {
     let mut x = 0;
-    while x < inner {
+    while x < a.cols {
         let row = wide(heading[first + x]);
         let cell = doubles[src + x];
-        let v = doubles[a + x];
+        let v = doubles[a.at + x];
         add_entry(sums, from, m, row, cell, v);
         x += 1;
     }
 }
 
-// The m pivots from row `from` on, at most 8,192, less their sums over the sparse block.
+// The m pivots of the diagonal t from row `from` on, at most 8,192, less their sums over the sparse block a.
 fn subtract_rows(
     doubles: &mut [f64],
-    off: usize,
+    t: Block,
     from: usize,
     m: usize,
-    a: usize,
-    inner: usize,
+    a: Block,
     src: usize,
     heading: &[u32],
     first: usize,
 )
-    requires { ⌜ (m ≤ 8192) × (off + from + m ≤ length (now doubles)) × (a + inner ≤ length (now doubles)) × (src + inner ≤ length (now doubles)) × (first + inner ≤ length (now heading)) ⌝ }
-    ensures { λ _. ⌜ now (doubles .exit) ≡ subtractRows off (entries inner (rowFrom (now (heading .entry)) first)) a inner src from m (now (doubles .entry)) ⌝ }
+    requires { ⌜ (m ≤ 8192) × (t .at + from + m ≤ length (now doubles)) × (a .at + a .cols ≤ length (now doubles)) × (src + a .cols ≤ length (now doubles)) × (first + a .cols ≤ length (now heading)) ⌝ }
+    ensures { λ _. ⌜ now (doubles .exit) ≡ subtractRows t (asEntries (rowFrom (now (heading .entry)) first) a) src from m (now (doubles .entry)) ⌝ }
 {
     let mut sums = [0.0; 8192];
-    sum_entries(&mut sums, from, m, doubles, a, inner, src, heading, first);
-    rank_diagonal::subtract_sums(doubles, off + from, m, &sums);
+    sum_entries(&mut sums, from, m, doubles, a, src, heading, first);
+    rank_diagonal::subtract_sums(doubles, t.at + from, m, &sums);
 }
 
 // How many rows are summed at a time, of those that are left.
@@ -104,7 +101,7 @@ pub fn rank_sub_diagonal_sparse(
     let mut from = 0;
     while from < t.rows {
         let m = chunk(t.rows - from);
-        subtract_rows(doubles, t.at, from, m, a.at, a.cols, src, heading, first);
+        subtract_rows(doubles, t, from, m, a, src, heading, first);
         from += m;
     }
 }

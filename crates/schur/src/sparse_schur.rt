@@ -4,8 +4,7 @@ ghost use Prim.Native.Nat.{_+_, _≤_};
 ghost use lib.ListN.{length};
 ghost use Rattle.storage.specs.Placed.{Product, asColumns, asEntries};
 ghost use Rattle.block_runs.specs.blocks.Blocks.{rowFrom, RowsBelow};
-ghost use Rattle.cross_block.specs.Blocks.{subtractColumn};
-ghost use Rattle.schur.specs.Schur.{subtractedEntries};
+ghost use Rattle.schur.specs.Schur.{subtractedEntries, subtractColumn};
 use block_runs::run_copies;
 use block_runs::run_products;
 use storage::Block;
@@ -23,7 +22,7 @@ fn subtract_column(doubles: &mut [f64], acc: &mut [f64], to: usize, rows: usize,
     ensures { λ _. ⌜ now (doubles .exit) ≡ subtractColumn to rows ax f (now (doubles .entry)) ⌝ }
 {
     run_copies::read(acc, rows, doubles, ax);
-    run_products::subtract_times(doubles, to, to + rows, 0, rows, acc, f);
+    run_products::subtract_times(doubles, to, rows, acc, f);
 }
 
 // S(k,1,0) of the fixed rows t with a sparse block v: product by product.

@@ -9,9 +9,8 @@ use borrow.Author.Tests.{ltb-true, leb-true, eqb-true}
 use lib.Dec.{ltb, leb, eqb}
 use lib.ListN.{length}
 use Rattle.sheet.specs.declared.Cursor.{Cursor}
-use Rattle.sheet.specs.Field.{isFinite}
 use Rattle.sheet.specs.Line.{zzTag, tagTo, inForm, pairLine}
-use Rattle.sheet.specs.Run.{Run, Entry, ended, before, entryIn, notBefore, entryVerdict, entriesFrom, passOf, keptFrom, pastFrom}
+use Rattle.sheet.specs.Run.{Run, Entry, ended, before, entryIn, notBefore, entryTests, entryVerdict, entriesFrom, passOf, keptFrom, pastFrom}
 use Rattle.sheet.specs.Whole.{Each, Earlier, Rising, EntryInRange}
 use Rattle.sheet.proofs.Lines.{both, in-order, Passed, passed}
 
@@ -65,9 +64,9 @@ module _ (s : List ℕ) (q : ℕ) where
       let e = entryIn c.line l in
       let n = length more.items in
       let p : Passed c (entryVerdict q col row l) l.next = passed c (entryVerdict q col row l) l.next m.open-before in
-      let v = in-order (inForm l.next && notBefore col row l.first l.second) (isFinite l.word) (ltb l.first q && ltb l.second q) p.verdict in
+      let v = in-order (entryTests q col row l) refl p.verdict in
       let f : From col row e = from-not-before col row e (both (inForm l.next) (notBefore col row l.first l.second) v.0 .1) in
-      let w = both (ltb l.first q) (ltb l.second q) v.2 in
+      let w = both (ltb l.first q) (ltb l.second q) v.1.1.0 in
       record {
         open-before = p.open-before;
         line = omega (arith, m.line, ap (λ (x : Cursor). x .line) p.after);
@@ -75,7 +74,7 @@ module _ (s : List ℕ) (q : ℕ) where
         items = ap (λ (k : List Entry). e ∷ k) (m.items ∙ ap (λ (x : Cursor). keptFrom (pairLine zzTag s) entryIn n x.line x.at) p.after);
         from = (f, each-map more.items (λ x h. from-trans col row e x f h) m.from);
         rising = (each-map more.items (from-earlier e) m.from, m.rising);
-        within = (record { col = ltb-true l.first q w.0; row = ltb-true l.second q w.1; finite = v.1 }, m.within);
+        within = (record { col = ltb-true l.first q w.0; row = ltb-true l.second q w.1; finite = v.1.0 }, m.within);
       }
 
   pub listed : (left col row : ℕ) (c : Cursor) → entriesFrom left s q col row c .past .number ≡ 0 → Listed s q col row c (entriesFrom left s q col row c)

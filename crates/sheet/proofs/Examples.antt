@@ -8,11 +8,12 @@ use lib.ListN.{take}
 use Rattle.sheet.specs.declared.Counts.{Counts}
 use Rattle.sheet.specs.declared.Reading.the-variants.{Sheet as Read, Refused}
 use Rattle.sheet.specs.declared.Starts.{Starts}
-use Rattle.sheet.specs.Line.{inForm, sizeLine, blockLine, verdictOf}
+use Rattle.sheet.specs.Line.{sizeLine, blockLine}
 use Rattle.sheet.specs.Run.{blockVerdict}
-use Rattle.sheet.specs.Sheet.{Sheet, accepted, countsWithin}
+use Rattle.sheet.specs.Sheet.{Sheet, accepted, countsWithin, sizeVerdict}
 use Rattle.sheet.specs.Text.{ended, with-line, reading}
 use Rattle.sheet.proofs.Notation.{without, read, load, refusal, faulty}
+use Rattle.sheet.proofs.Made.{countsWith}
 
 -- ---- the worked sheet
 abbrev worked : List String
@@ -28,7 +29,7 @@ worked =
     ∷ []
 
 abbrev counts : Counts
-counts = record { n = 3; p = 1; q = 1; k = 1; flag = 1 }
+counts = countsWith 3 1 1 1 1
 
 abbrev words : Sheet
 words =
@@ -91,7 +92,7 @@ no-rows =
 no-rows-is : read (ended no-rows)
     ≡ accepted
     (record {
-      counts = record { n = 3; p = 2; q = 0; k = 0; flag = 1 };
+      counts = countsWith 3 2 0 0 1;
       blocks = [];
       zz = [];
       zx = [];
@@ -101,7 +102,7 @@ no-rows-is : read (ended no-rows)
       yy = 0x4022000000000000;
     })
     (record {
-      counts = record { n = 3; p = 2; q = 0; k = 0; flag = 1 };
+      counts = countsWith 3 2 0 0 1;
       block = 15;
       zz = 15;
       zx = 15;
@@ -170,24 +171,21 @@ unfolding ended load
 out-of-range = (refl, refl, refl, refl, refl, refl, refl, refl, refl, refl)
 
 -- ---- the ends of the ranges: both ends are within, and what is one past an end is not
-abbrev size : ℕ → ℕ → ℕ → ℕ → ℕ → Counts
-size n p q k flag = record { n = n; p = p; q = q; k = k; flag = flag }
-
-counts-at-ends : (countsWithin (size 1 1 0 0 0) ≡ true) × (countsWithin (size 1000000000 32 524280 8 1) ≡ true)
+counts-at-ends : (countsWithin (countsWith 1 1 0 0 0) ≡ true) × (countsWithin (countsWith 1000000000 32 524280 8 1) ≡ true)
 counts-at-ends = (refl, refl)
 
-counts-past-ends : (countsWithin (size 0 1 0 0 0) ≡ false)
-    × (countsWithin (size 1000000001 32 524280 8 1) ≡ false)
-    × (countsWithin (size 1 0 0 0 0) ≡ false)
-    × (countsWithin (size 1000000000 33 524280 8 1) ≡ false)
-    × (countsWithin (size 1000000000 32 524281 8 1) ≡ false)
-    × (countsWithin (size 1000000000 32 524280 9 1) ≡ false)
-    × (countsWithin (size 1000000000 32 524280 8 2) ≡ false)
+counts-past-ends : (countsWithin (countsWith 0 1 0 0 0) ≡ false)
+    × (countsWithin (countsWith 1000000001 32 524280 8 1) ≡ false)
+    × (countsWithin (countsWith 1 0 0 0 0) ≡ false)
+    × (countsWithin (countsWith 1000000000 33 524280 8 1) ≡ false)
+    × (countsWithin (countsWith 1000000000 32 524281 8 1) ≡ false)
+    × (countsWithin (countsWith 1000000000 32 524280 9 1) ≡ false)
+    × (countsWithin (countsWith 1000000000 32 524280 8 2) ≡ false)
 counts-past-ends = (refl, refl, refl, refl, refl, refl, refl)
 
 -- the same as lines: what the verdict on a size line and on a block line is, alone in the bytes
 abbrev size-verdict : String → ℕ
-size-verdict l = let z = sizeLine (ended (l ∷ [])) 0 in verdictOf (inForm z.next) true (countsWithin z.counts)
+size-verdict l = sizeVerdict (sizeLine (ended (l ∷ [])) 0)
 
 abbrev block-verdict : String → ℕ
 block-verdict l = blockVerdict (0, 0) (blockLine (ended (l ∷ [])) 0)

@@ -10,7 +10,7 @@ use lib.Dec.{eqb}
 use Rattle.sheet.specs.Field.{isZero}
 use Rattle.sheet.specs.Run.{Entry}
 use Rattle.sheet.specs.Sheet.{Sheet}
-use Rattle.sheet.specs.Fault.{anyOf, blockOf, Mirror, Fault, zero-word, inside-block, no-mirror, Faulty, isMirror, isInside, isFault, anyFaulty, hasSlope, coversRows, faultNumber, Refuses}
+use Rattle.sheet.specs.Fault.{anyOf, blockOfRow, Mirror, Fault, zero-word, inside-block, no-mirror, Faulty, isMirror, isInside, isFault, anyFaulty, hasSlope, coversRows, faultNumber, Refuses}
 use Rattle.sheet.proofs.Lines.{both}
 
 -- ---- a test over a list
@@ -52,9 +52,9 @@ mirror-true e m h =
 
 module _ (sheet : Sheet) (e : Entry) where
   fault-true : isFault sheet e ≡ true → Fault sheet e
-  fault-true h = go (isZero e.word) (eqb (blockOf sheet.blocks e.col) (blockOf sheet.blocks e.row)) (eqb e.col e.row) (anyOf (isMirror e) sheet.zz) refl refl refl refl h
+  fault-true h = go (isZero e.word) (eqb (blockOfRow sheet.blocks e.col) (blockOfRow sheet.blocks e.row)) (eqb e.col e.row) (anyOf (isMirror e) sheet.zz) refl refl refl refl h
     where
-      go : (z b d m : Bool) → isZero (e .word) ≡ z → eqb (blockOf (sheet .blocks) (e .col)) (blockOf (sheet .blocks) (e .row)) ≡ b → eqb (e .col) (e .row) ≡ d
+      go : (z b d m : Bool) → isZero (e .word) ≡ z → eqb (blockOfRow (sheet .blocks) (e .col)) (blockOfRow (sheet .blocks) (e .row)) ≡ b → eqb (e .col) (e .row) ≡ d
           → anyOf (isMirror e) (sheet .zz) ≡ m → (z || (b && not d) || not m) ≡ true → Fault sheet e
       go true b d m zz bb dd mm g = zero-word zz
       go false true false m zz bb dd mm g = inside-block (eqb-true _ _ bb) (eqb-false _ _ dd)

@@ -1,3 +1,4 @@
+pub mod Made
 pub mod Notation
 pub mod Examples
 pub mod Lines

@@ -1,16 +1,16 @@
 -- Runs of lines that are accepted: every line was, and what is kept of them is found by their positions.
-use Prim.Native.Nat.{ℕ, zero, suc, _+_, _*_, _/_}
+use Prim.Native.Nat.{ℕ, zero, suc, _+_, _*_, _/_, _≤_}
 use mathlib.Core.Path.{_≡_, refl, _∙_, ap}
 use mathlib.Core.Bool.{Bool, true, false, _&&_, cond, false≢true}
 use mathlib.Core.List.{List, [], _∷_, _++_}
 use native.Mathlib.Omega.{arith}
-use borrow.Author.Tests.{eqb-true, eqb-false, ne-eqb}
-use lib.Dec.{eqb}
+use borrow.Author.Tests.{leb-true, eqb-true, eqb-false, ne-eqb}
+use lib.Dec.{leb, eqb}
 use lib.ListN.{length, length-append}
 use Rattle.sheet.specs.declared.Cursor.{Cursor}
 use Rattle.sheet.specs.declared.Line.{Line}
-use Rattle.sheet.specs.Line.{verdictOf}
-use Rattle.sheet.specs.Run.{passOf, linesOf, rowFrom, rowsFrom, keptFrom, pastFrom}
+use Rattle.sheet.specs.Line.{Test, verdictOf}
+use Rattle.sheet.specs.Run.{passOf, linesOf, rowFrom, rowsFrom, isBetween, keptFrom, pastFrom}
 use Rattle.sheet.specs.Whole.{Each}
 
 -- ---- tests
@@ -18,12 +18,19 @@ pub both : (a b : Bool) → a && b ≡ true → (a ≡ true) × (b ≡ true)
 both true b e = (refl, e)
 both false b e = absurd (false≢true e)
 
-pub in-order : (form finite within : Bool) → verdictOf form finite within ≡ 0 → (form ≡ true) × (finite ≡ true) × (within ≡ true)
-in-order true true true e = (refl, refl, refl)
-in-order true true false e = absurd (omega arith)
-in-order true false true e = absurd (omega arith)
-in-order true false false e = absurd (omega arith)
-in-order false finite within e = absurd (omega arith)
+pub between : (low x high : ℕ) → isBetween low x high ≡ true → (low ≤ x) × (x ≤ high)
+between low x high e = let b = both (leb low x) (leb x high) e in (leb-true low x b.0, leb-true x high b.1)
+
+-- the numbers of all tests are those of a line: 2 to 4
+abbrev pub ofLine : List Test → Bool
+ofLine [] = true
+ofLine (t ∷ rest) = isBetween 2 (t .1) 4 && ofLine rest
+
+-- where nothing is refused, each test passed
+pub in-order : (tests : List Test) → ofLine tests ≡ true → verdictOf tests ≡ 0 → Each (λ (t : Test). t .0 ≡ true) tests
+in-order [] o e = tt
+in-order ((true, n) ∷ rest) o e = (refl, in-order rest (both (isBetween 2 n 4) (ofLine rest) o .1) e)
+in-order ((false, n) ∷ rest) o e = absurd (omega (arith, e, between 2 n 4 (both (isBetween 2 n 4) (ofLine rest) o .0) .0))
 
 -- ---- one line
 -- a line is passed from a cursor at which nothing was refused, with the verdict 0

@@ -3,33 +3,29 @@ use Prim.Native.Nat.{ℕ, zero, suc, _+_, _≤_, _<_}
 use mathlib.Core.Path.{_≡_, refl, sym, _∙_, subst}
 use mathlib.Core.Logic.{_⊎_, inl, inr}
 use mathlib.Core.Bool.{Bool, true, false, _&&_, cond}
-use mathlib.Core.List.{List}
+use mathlib.Core.List.{List, [], _∷_}
 use native.Mathlib.Omega.{arith}
 use borrow.Author.Tests.{eqb-false, lt-ltb}
 use lib.Dec.{ltb, eqb}
 use lib.ListN.{length}
 use Rattle.sheet.specs.declared.Counts.{Counts}
 use Rattle.sheet.specs.declared.Cursor.{Cursor}
-use Rattle.sheet.specs.declared.Line.{Line}
 use Rattle.sheet.specs.declared.Starts.{Starts}
-use Rattle.sheet.specs.Field.{isFinite}
-use Rattle.sheet.specs.Line.{zzTag, zxTag, zyTag, xyTag, tagTo, inForm, sizeLine, blockLine, pairLine, singleLine, verdictOf}
-use Rattle.sheet.specs.Run.{ended, before, entryIn, isBetween, notBefore, blockIn, wordIn, prescribedVerdict, blockVerdict, entryVerdict, blocksOf, entriesFrom, wordsOf, rowsFrom, passOf}
-use Rattle.sheet.specs.Sheet.{Sheet, Outcome, accepted, refused, countsWithin, outcomeAt, readLines, afterSize, readSheet, sheetOf, alone}
-use Rattle.sheet.proofs.Lines.{lines-keep}
-use Rattle.sheet.proofs.Opened.{zzRun, xxRun, yyRun}
+use Rattle.sheet.specs.Line.{zzTag, tagTo, inForm, sizeLine, blockLine, pairLine, Test, verdictOf}
+use Rattle.sheet.specs.Run.{Kind, ended, before, entryIn, isBetween, blockIn, wordIn, prescribedTests, prescribedVerdict, blockTests, blockVerdict, entryTests, entryVerdict, blocksOf, entriesFrom, kindLine, wordsOf, runsOf, rowsFrom, passOf}
+use Rattle.sheet.specs.Sheet.{Sheet, Outcome, accepted, refused, sizeTests, sizeVerdict, wordKinds, outcomeAt, readLines, afterSize, readSheet, sheetOf, alone}
+use Rattle.sheet.proofs.Lines.{both, between, ofLine, lines-keep}
+use Rattle.sheet.proofs.Opened.{zzRun, wordRuns, sheetRead, startsRead}
 use Rattle.sheet.proofs.Whole.{read-whole}
 
 -- 0, or a refusal of a line
 abbrev OfLine : ℕ → Type 0
 OfLine n = (n ≡ 0) ⊎ ((2 ≤ n) × (n ≤ 4))
 
-verdict-of-line : (form finite within : Bool) → OfLine (verdictOf form finite within)
-verdict-of-line true true true = inl refl
-verdict-of-line true true false = inr (omega arith, omega arith)
-verdict-of-line true false true = inr (omega arith, omega arith)
-verdict-of-line true false false = inr (omega arith, omega arith)
-verdict-of-line false finite within = inr (omega arith, omega arith)
+verdict-of-line : (tests : List Test) → ofLine tests ≡ true → OfLine (verdictOf tests)
+verdict-of-line [] o = inl refl
+verdict-of-line ((true, n) ∷ rest) o = verdict-of-line rest (both (isBetween 2 n 4) (ofLine rest) o .1)
+verdict-of-line ((false, n) ∷ rest) o = inr (between 2 n 4 (both (isBetween 2 n 4) (ofLine rest) o .0))
 
 -- the cursor's number is such a one, and its line is counted from 1
 abbrev Sound : Cursor → Type 0
@@ -44,19 +40,11 @@ pass-sound c number next v h = go (eqb c.number 0) (eqb number 0)
     go true false = (v, h.1)
     go false u = h
 
-words-sound : (read : ℕ → Line) (width : ℕ → ℕ) (n : ℕ) (c : Cursor) → Sound c → Sound (wordsOf read width n c .past)
-words-sound read width n =
-    lines-keep read prescribedVerdict wordIn Sound
-    (λ c i l. pass-sound c (prescribedVerdict i l) l.next
-    (verdict-of-line (inForm l.next && eqb l.first i.0 && eqb l.second i.1) (isFinite l.word) true))
-    (rowsFrom width 0 n)
-
 module _ (s : List ℕ) where
   blocks-sound : (k : ℕ) (c : Cursor) → Sound c → Sound (blocksOf s k c .past)
   blocks-sound k =
       lines-keep (blockLine s) blockVerdict blockIn Sound
-      (λ c i l. pass-sound c (blockVerdict i l) l.next
-      (verdict-of-line (inForm l.next) true (isBetween 1 l.first 65535 && isBetween 1 l.second 16)))
+      (λ c i l. pass-sound c (blockVerdict i l) l.next (verdict-of-line (blockTests l) refl))
       (rowsFrom (λ r. 1) 0 k)
 
   entries-sound : (left q col row : ℕ) (c : Cursor) → Sound c → Sound (entriesFrom left s q col row c .past)
@@ -64,7 +52,7 @@ module _ (s : List ℕ) where
   entries-sound zero q col row c h = h
   entries-sound (suc left) q col row c h =
       let l = pairLine zzTag s c.at in
-      let v = verdict-of-line (inForm l.next && notBefore col row l.first l.second) (isFinite l.word) (ltb l.first q && ltb l.second q) in
+      let v = verdict-of-line (entryTests q col row l) refl in
       go (entries-sound left q l.first (l.second + 1) (passOf c (entryVerdict q col row l) l.next) (pass-sound c (entryVerdict q col row l) l.next v h))
       (eqb c.number 0 && inForm (tagTo zzTag s c.at .next))
     where
@@ -73,6 +61,14 @@ module _ (s : List ℕ) where
           Sound (more .past) → (t : Bool) → Sound (cond t (before (entryIn (c .line) l) more) (ended c) .past)
       go m true = m
       go m false = h
+
+  words-sound : (kinds : List Kind) (c : Cursor) → Sound c → Sound (runsOf s kinds c .past)
+  unfolding runsOf
+  words-sound [] c h = h
+  words-sound (kind ∷ kinds) c h =
+      words-sound kinds (wordsOf s kind c .past)
+      (lines-keep (kindLine kind s) prescribedVerdict wordIn Sound
+      (λ c i l. pass-sound c (prescribedVerdict i l) l.next (verdict-of-line (prescribedTests i l) refl)) kind.indexes c h)
 
 -- a refusal and its line
 abbrev OnLine : ℕ → ℕ → Type 0
@@ -101,16 +97,13 @@ unfolding readLines
 lines-refusal s z at number line e =
     let c : Cursor = record { at = at; line = 2; number = 0 } in
     let hz : Sound (zzRun s z at .past) = entries-sound s (length s) z.q 0 0 _ (blocks-sound s z.k c (inl refl, omega arith)) in
-    let hx : Sound (xxRun s z at .past) =
-    words-sound _ _ z.p _ (words-sound (singleLine zyTag s) (λ r. 1) z.q _ (words-sound (pairLine zxTag s) (λ r. z .p) z.q _ hz)) in
-    outcome-refusal (yyRun s z at .past) _ _ number line (words-sound _ _ 1 _ (words-sound (singleLine xyTag s) (λ r. 1) z.p _ hx)) e
+    outcome-refusal (wordRuns s z at .past) (sheetRead s z at) (startsRead s z at) number line (words-sound s (wordKinds z) _ hz) e
 
 -- THE CLAIM
 pub read-refusal : (s : List ℕ) (number line : ℕ) → readSheet s ≡ refused number line → Refusal number line
 unfolding readSheet
 read-refusal s number line e =
-    let v = verdict-of-line (inForm (sizeLine s 0 .next)) true (countsWithin (sizeLine s 0 .counts)) in
-    go (ltb 16777216 (length s)) (verdictOf (inForm (sizeLine s 0 .next)) true (countsWithin (sizeLine s 0 .counts))) v e
+    go (ltb 16777216 (length s)) (sizeVerdict (sizeLine s 0)) (verdict-of-line (sizeTests (sizeLine s 0)) refl) e
   where
     go : (t : Bool) (v : ℕ) → OfLine v → cond t (refused 1 0) (afterSize v s (sizeLine s 0)) ≡ refused number line → Refusal number line
     go true v h g = let n : 1 ≡ number = cc in let l : 0 ≡ line = cc in inl (sym n, sym l)

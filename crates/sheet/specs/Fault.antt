@@ -13,17 +13,20 @@ unfoldable pub anyOf : {A : Type 0} → (A → Bool) → List A → Bool
 anyOf test [] = false
 anyOf test (x ∷ rest) = test x || anyOf test rest
 
--- the rows that the blocks cover, m each
-unfoldable pub levelsOf : List Block → ℕ
-levelsOf [] = 0
-levelsOf (b ∷ rest) = b .m + levelsOf rest
+-- the rows of a block, one for each level, and those that the blocks cover
+abbrev pub rowsIn : Block → ℕ
+rowsIn b = b .m
 
--- the block that holds row i: in sheet order the first covers rows 0 to m - 1, the next goes on from there
-unfoldable pub blockOf : List Block → ℕ → ℕ
-blockOf [] i = 0
-blockOf (b ∷ rest) i =
-    let later = suc (blockOf rest (i - b .m)) in
-    cond (ltb i (b .m)) 0 later
+unfoldable pub coveredRows : List Block → ℕ
+coveredRows [] = 0
+coveredRows (b ∷ rest) = rowsIn b + coveredRows rest
+
+-- the block that holds row i: in sheet order the first covers the first rows, the next goes on from there
+unfoldable pub blockOfRow : List Block → ℕ → ℕ
+blockOfRow [] i = 0
+blockOfRow (b ∷ rest) i =
+    let later = suc (blockOfRow rest (i - rowsIn b)) in
+    cond (ltb i (rowsIn b)) 0 later
 
 -- ---- number 9
 -- m is a mirror of e: column and row exchanged, equal bits. An entry on the diagonal is its own.
@@ -35,7 +38,7 @@ pub record Mirror (e m : Entry) : Type 0 where
 -- the three faults of an entry: its word is +0 or -0; it is off the diagonal, inside a block; it has no mirror
 pub data Fault (sheet : Sheet) (e : Entry) : Type 0 where
   zero-word : isZero (e .word) ≡ true → Fault sheet e
-  inside-block : blockOf (sheet .blocks) (e .col) ≡ blockOf (sheet .blocks) (e .row) → (e .col ≡ e .row → ⊥) → Fault sheet e
+  inside-block : blockOfRow (sheet .blocks) (e .col) ≡ blockOfRow (sheet .blocks) (e .row) → (e .col ≡ e .row → ⊥) → Fault sheet e
   no-mirror : ((m : Entry) → List·Memᴰ m (sheet .zz) → Mirror e m → ⊥) → Fault sheet e
 
 -- the line of this number holds an entry with a fault
@@ -47,7 +50,7 @@ abbrev pub isMirror : Entry → Entry → Bool
 isMirror e m = eqb (m .col) (e .row) && eqb (m .row) (e .col) && eqb (m .word) (e .word)
 
 abbrev pub isInside : Sheet → Entry → Bool
-isInside sheet e = eqb (blockOf (sheet .blocks) (e .col)) (blockOf (sheet .blocks) (e .row)) && not (eqb (e .col) (e .row))
+isInside sheet e = eqb (blockOfRow (sheet .blocks) (e .col)) (blockOfRow (sheet .blocks) (e .row)) && not (eqb (e .col) (e .row))
 
 abbrev pub isFault : Sheet → Entry → Bool
 isFault sheet e = isZero (e .word) || isInside sheet e || not (anyOf (isMirror e) (sheet .zz))
@@ -62,7 +65,7 @@ hasSlope sheet = anyOf (λ (b : Block). not (eqb (b .e) 1)) (sheet .blocks)
 
 -- q is the sum of m
 abbrev pub coversRows : Sheet → Bool
-coversRows sheet = eqb (sheet .counts .q) (levelsOf (sheet .blocks))
+coversRows sheet = eqb (sheet .counts .q) (coveredRows (sheet .blocks))
 
 -- the first that applies, or 0
 unfoldable pub faultNumber : Sheet → ℕ

@@ -1,5 +1,5 @@
 -- The lines of a sheet (document 01, Record 1): a tag and its fields, with one tab between two of them and one LF at the end.
-use Prim.Native.Nat.{ℕ}
+use Prim.Native.Nat.{ℕ, zero, suc}
 use mathlib.Core.Bool.{Bool, not, cond}
 use mathlib.Core.List.{List, [], _∷_}
 use lib.ListN.{drop}
@@ -97,6 +97,18 @@ bareLine t s at =
     let w = wordTo s (t .next) in
     record { first = 0; second = 0; word = w .value; next = w .next }
 
--- what a line is refused with, 0 where it is in order: 2, 3, 4 in that order
-abbrev pub verdictOf : Bool → Bool → Bool → ℕ
-verdictOf form finite within = cond form (cond finite (cond within 0 4) 3) 2
+-- a line with a word, by how many numbers stand between its tag and the word: two, one or none
+abbrev pub wordLine : ℕ → List ℕ → List ℕ → ℕ → Line
+wordLine zero t s = bareLine t s
+wordLine (suc zero) t s = singleLine t s
+wordLine (suc (suc n)) t s = pairLine t s
+
+-- ---- verdicts
+-- a test of a line: whether it passes, and the number that the line is refused with where it does not
+abbrev pub Test : Type 0
+Test = Bool × ℕ
+
+-- what a line is refused with: the number of the first of its tests that fails, 0 where none does
+abbrev pub verdictOf : List Test → ℕ
+verdictOf [] = 0
+verdictOf (t ∷ rest) = cond (t .0) (verdictOf rest) (t .1)

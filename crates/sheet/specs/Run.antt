@@ -1,12 +1,12 @@
 -- Runs of lines (document 01, Record 1): reading goes from line to line, and stops at the first that is refused.
 use Prim.Native.Nat.{ℕ, zero, suc, _+_}
-use mathlib.Core.Bool.{Bool, true, _&&_, _||_, cond}
+use mathlib.Core.Bool.{Bool, _&&_, _||_, cond}
 use mathlib.Core.List.{List, [], _∷_, _++_}
 use lib.Dec.{ltb, leb, eqb}
 use Rattle.sheet.specs.declared.Cursor.{Cursor}
 use Rattle.sheet.specs.declared.Line.{Line}
 use Rattle.sheet.specs.Field.{isFinite}
-use Rattle.sheet.specs.Line.{zzTag, tagTo, inForm, blockLine, pairLine, verdictOf}
+use Rattle.sheet.specs.Line.{zzTag, tagTo, inForm, blockLine, pairLine, wordLine, Test, verdictOf}
 
 -- past a line with this verdict: at the next line, or still at this one where it is refused. A cursor at a refused line stays.
 unfoldable pub passOf : Cursor → ℕ → ℕ → Cursor
@@ -44,15 +44,44 @@ unfoldable pub rowsFrom : (ℕ → ℕ) → ℕ → ℕ → List (ℕ × ℕ)
 rowsFrom width r zero = []
 rowsFrom width r (suc n) = rowFrom r 0 (width r) ++ rowsFrom width (r + 1) n
 
--- ---- lines whose indexes are prescribed: any others are out of sequence
+-- ---- lines with a word whose indexes are prescribed: any others are out of sequence
+abbrev pub prescribedTests : ℕ × ℕ → Line → List Test
+prescribedTests i l = (inForm (l .next) && eqb (l .first) (i .0) && eqb (l .second) (i .1), 2) ∷ (isFinite (l .word), 3) ∷ []
+
 abbrev pub prescribedVerdict : ℕ × ℕ → Line → ℕ
-prescribedVerdict i l = verdictOf (inForm (l .next) && eqb (l .first) (i .0) && eqb (l .second) (i .1)) (isFinite (l .word)) true
+prescribedVerdict i l = verdictOf (prescribedTests i l)
 
 abbrev pub wordIn : ℕ → Line → ℕ
 wordIn line l = l .word
 
-abbrev pub wordsOf : (ℕ → Line) → (ℕ → ℕ) → ℕ → Cursor → Run ℕ
-wordsOf read width n c = linesOf read prescribedVerdict wordIn (rowsFrom width 0 n) c
+-- a kind of such lines: its tag, how many numbers stand before the word, and the indexes of its lines in their sequence
+pub record Kind : Type 0 where
+  pub tag : List ℕ
+  pub numbers : ℕ
+  pub indexes : List (ℕ × ℕ)
+
+abbrev pub wordKind : List ℕ → ℕ → List (ℕ × ℕ) → Kind
+wordKind tag numbers indexes = record { tag = tag; numbers = numbers; indexes = indexes }
+
+-- the line of a kind at a position, and all its lines from a cursor on
+abbrev pub kindLine : Kind → List ℕ → ℕ → Line
+kindLine kind s = wordLine (kind .numbers) (kind .tag) s
+
+abbrev pub wordsOf : List ℕ → Kind → Cursor → Run ℕ
+wordsOf s kind c = linesOf (kindLine kind s) prescribedVerdict wordIn (kind .indexes) c
+
+-- kinds one after the other: the words of each; where the lines of each start, and then where the last ends; and the cursor past them
+pub record WordRuns : Type 0 where
+  pub words : List (List ℕ)
+  pub places : List ℕ
+  pub past : Cursor
+
+unfoldable pub runsOf : List ℕ → List Kind → Cursor → WordRuns
+runsOf s [] c = record { words = []; places = c .at ∷ []; past = c }
+runsOf s (kind ∷ kinds) c =
+    let run = wordsOf s kind c in
+    let more = runsOf s kinds (run .past) in
+    record { words = run .items ∷ more .words; places = c .at ∷ more .places; past = more .past }
 
 -- ---- block lines: levels and effects per level
 pub record Block : Type 0 where
@@ -65,8 +94,11 @@ blockIn line l = record { m = l .first; e = l .second }
 abbrev pub isBetween : ℕ → ℕ → ℕ → Bool
 isBetween low x high = leb low x && leb x high
 
+abbrev pub blockTests : Line → List Test
+blockTests l = (inForm (l .next), 2) ∷ (isBetween 1 (l .first) 65535 && isBetween 1 (l .second) 16, 4) ∷ []
+
 abbrev pub blockVerdict : ℕ × ℕ → Line → ℕ
-blockVerdict i l = verdictOf (inForm (l .next)) true (isBetween 1 (l .first) 65535 && isBetween 1 (l .second) 16)
+blockVerdict i l = verdictOf (blockTests l)
 
 abbrev pub blocksOf : List ℕ → ℕ → Cursor → Run Block
 blocksOf s k c = linesOf (blockLine s) blockVerdict blockIn (rowsFrom (λ r. 1) 0 k) c
@@ -86,9 +118,15 @@ abbrev pub notBefore : ℕ → ℕ → ℕ → ℕ → Bool
 notBefore col₀ row₀ col row = ltb col₀ col || (eqb col₀ col && leb row₀ row)
 
 -- a zz line where (col, row) is the first place that comes past the line before: in form and rising, finite, and within q columns and rows
+abbrev pub entryTests : ℕ → ℕ → ℕ → Line → List Test
+entryTests q col row l =
+    (inForm (l .next) && notBefore col row (l .first) (l .second), 2)
+    ∷ (isFinite (l .word), 3)
+    ∷ (ltb (l .first) q && ltb (l .second) q, 4)
+    ∷ []
+
 abbrev pub entryVerdict : ℕ → ℕ → ℕ → Line → ℕ
-entryVerdict q col row l =
-    verdictOf (inForm (l .next) && notBefore col row (l .first) (l .second)) (isFinite (l .word)) (ltb (l .first) q && ltb (l .second) q)
+entryVerdict q col row l = verdictOf (entryTests q col row l)
 
 -- All zz lines from the cursor on, `left` of them at most. The first line with another tag ends them.
 unfoldable pub entriesFrom : ℕ → List ℕ → ℕ → ℕ → ℕ → Cursor → Run Entry

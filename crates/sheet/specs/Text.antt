@@ -8,9 +8,9 @@ use lib.ListN.{set}
 use lib.Dec.{eqb}
 use Rattle.sheet.specs.Field.{digitOf, digitsFrom, numberAt, endAt, wordAt, tagAt, isFinite, isZero}
 use Rattle.sheet.specs.Line.{tab, lf, sizeLine, blockLine, pairLine, singleLine, bareLine}
-use Rattle.sheet.specs.Run.{passOf, linesOf, rowFrom, rowsFrom, entriesFrom}
+use Rattle.sheet.specs.Run.{passOf, linesOf, rowFrom, rowsFrom, runsOf, entriesFrom}
 use Rattle.sheet.specs.Sheet.{readLines, readSheet}
-use Rattle.sheet.specs.Fault.{anyOf, levelsOf, blockOf, anyFaulty, faultNumber}
+use Rattle.sheet.specs.Fault.{anyOf, coveredRows, blockOfRow, anyFaulty, faultNumber}
 
 -- the bytes of a text in which a blank stands for a tab, and _ for a blank
 unfoldable pub bytesOf : String → List ℕ
@@ -29,5 +29,5 @@ with-line n l lines = set lines (n - 1) l
 
 -- Only a name: a proof that unfolds it unfolds all that reading a sheet, and looking for 5 to 9, come down to.
 unfoldable pub reading : ℕ
-unfolding digitOf digitsFrom numberAt endAt wordAt tagAt isFinite sizeLine blockLine pairLine singleLine bareLine passOf linesOf rowFrom rowsFrom entriesFrom readLines readSheet isZero anyOf levelsOf blockOf anyFaulty faultNumber
+unfolding digitOf digitsFrom numberAt endAt wordAt tagAt isFinite sizeLine blockLine pairLine singleLine bareLine passOf linesOf rowFrom rowsFrom runsOf entriesFrom readLines readSheet isZero anyOf coveredRows blockOfRow anyFaulty faultNumber
 reading = 0

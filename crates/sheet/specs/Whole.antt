@@ -1,22 +1,28 @@
 -- What every accepted sheet has (document 01, Record 1); proofs/Whole.antt shows it.
-use Prim.Native.Nat.{ℕ, _+_, _*_, _/_, _≤_, _<_}
+use Prim.Native.Nat.{ℕ, _+_, _≤_, _<_}
 use mathlib.Core.Path.{_≡_}
 use mathlib.Core.Logic.{_⊎_}
 use mathlib.Core.Bool.{true}
 use mathlib.Core.List.{List, [], _∷_}
-use lib.ListN.{length}
+use lib.ListN.{length, getD}
 use Rattle.sheet.specs.declared.Counts.{Counts}
-use Rattle.sheet.specs.declared.Line.{Line}
 use Rattle.sheet.specs.declared.Starts.{Starts}
 use Rattle.sheet.specs.Field.{isFinite}
-use Rattle.sheet.specs.Line.{zzTag, zxTag, zyTag, xxTag, xyTag, yyTag, blockLine, pairLine, singleLine, bareLine}
-use Rattle.sheet.specs.Run.{Block, Entry, blockIn, entryIn, wordIn, keptFrom, pastFrom}
-use Rattle.sheet.specs.Sheet.{Sheet}
+use Rattle.sheet.specs.Line.{zzTag, blockLine, pairLine}
+use Rattle.sheet.specs.Run.{Block, Entry, Kind, blockIn, entryIn, wordIn, kindLine, keptFrom, pastFrom}
+use Rattle.sheet.specs.Sheet.{Sheet, wordKinds, wordLists, wordPlaces}
 
 -- every element of a list
 abbrev pub Each : {A : Type 0} → (A → Type 0) → List A → Type 0
 Each P [] = Unit {0}
 Each P (x ∷ rest) = P x × Each P rest
+
+-- two lists of the same length, and P of each pair
+abbrev pub Both : {A B : Type 0} → (A → B → Type 0) → List A → List B → Type 0
+Both P [] [] = Unit {0}
+Both P [] (y ∷ ys) = ⊥
+Both P (x ∷ xs) [] = ⊥
+Both P (x ∷ xs) (y ∷ ys) = P x y × Both P xs ys
 
 -- ---- ranges
 pub record InRange (z : Counts) : Type 0 where
@@ -47,7 +53,12 @@ abbrev pub Rising : List Entry → Type 0
 Rising [] = Unit {0}
 Rising (e ∷ rest) = Each (Earlier e) rest × Rising rest
 
--- ---- ranges, lengths, order and the number of lines
+-- ---- ranges, order and the number of lines
+-- how many lines the kinds have together
+abbrev pub linesIn : List Kind → ℕ
+linesIn [] = 0
+linesIn (kind ∷ kinds) = length (kind .indexes) + linesIn kinds
+
 pub record Shape (sheet : Sheet) (starts : Starts) : Type 0 where
   pub same-counts : starts .counts ≡ sheet .counts
   pub counts : InRange (sheet .counts)
@@ -55,30 +66,29 @@ pub record Shape (sheet : Sheet) (starts : Starts) : Type 0 where
   pub blocks-length : length (sheet .blocks) ≡ sheet .counts .k
   pub zz : Each (EntryInRange (sheet .counts .q)) (sheet .zz)
   pub zz-rising : Rising (sheet .zz)
-  pub words : Each Finite (sheet .zx) × Each Finite (sheet .zy) × Each Finite (sheet .xx) × Each Finite (sheet .xy) × Finite (sheet .yy)
-  pub zx-length : length (sheet .zx) ≡ sheet .counts .q * sheet .counts .p
-  pub zy-length : length (sheet .zy) ≡ sheet .counts .q
-  pub xx-length : length (sheet .xx) ≡ sheet .counts .p * (sheet .counts .p + 1) / 2
-  pub xy-length : length (sheet .xy) ≡ sheet .counts .p
-  -- the line past the last: size and yy, and one line for each block, entry and word
-  pub lines : starts .line
-      ≡ 3 + sheet .counts .k + length (sheet .zz) + sheet .counts .q * sheet .counts .p + sheet .counts .q
-      + sheet .counts .p * (sheet .counts .p + 1) / 2 + sheet .counts .p
+  -- the line past the last: the size line, and one line for each block, entry and word
+  pub lines : starts .line ≡ 2 + sheet .counts .k + length (sheet .zz) + linesIn (wordKinds (sheet .counts))
 
 -- ---- the lists by the places of their lines: what stands in each run of lines, and that the next run starts at its end
-abbrev pub WordsFrom : (ℕ → Line) → ℕ → ℕ → List ℕ → Type 0
-WordsFrom read from to words = (words ≡ keptFrom read wordIn (length words) 0 from) × (to ≡ pastFrom read (length words) from)
+-- a kind of lines from one place to another, and its words: one for each line, and finite
+pub record RunPlaced (s : List ℕ) (kind : Kind) (from to : ℕ) (words : List ℕ) : Type 0 where
+  pub count : length words ≡ length (kind .indexes)
+  pub finite : Each Finite words
+  pub kept : words ≡ keptFrom (kindLine kind s) wordIn (length words) 0 from
+  pub end : to ≡ pastFrom (kindLine kind s) (length words) from
+
+abbrev pub RunsPlaced : List ℕ → List Kind → List ℕ → List (List ℕ) → Type 0
+RunsPlaced s [] places words = Unit {0}
+RunsPlaced s (kind ∷ kinds) (from ∷ places) (ws ∷ words) = RunPlaced s kind from (getD places 0 0) ws × RunsPlaced s kinds places words
+RunsPlaced s (kind ∷ kinds) [] words = ⊥
+RunsPlaced s (kind ∷ kinds) (from ∷ places) [] = ⊥
 
 pub record Placed (s : List ℕ) (sheet : Sheet) (starts : Starts) : Type 0 where
   pub blocks : sheet .blocks ≡ keptFrom (blockLine s) blockIn (sheet .counts .k) 2 (starts .block)
   pub blocks-end : starts .zz ≡ pastFrom (blockLine s) (sheet .counts .k) (starts .block)
   pub zz : sheet .zz ≡ keptFrom (pairLine zzTag s) entryIn (length (sheet .zz)) (sheet .counts .k + 2) (starts .zz)
   pub zz-end : starts .zx ≡ pastFrom (pairLine zzTag s) (length (sheet .zz)) (starts .zz)
-  pub zx : WordsFrom (pairLine zxTag s) (starts .zx) (starts .zy) (sheet .zx)
-  pub zy : WordsFrom (singleLine zyTag s) (starts .zy) (starts .xx) (sheet .zy)
-  pub xx : WordsFrom (pairLine xxTag s) (starts .xx) (starts .xy) (sheet .xx)
-  pub xy : WordsFrom (singleLine xyTag s) (starts .xy) (starts .yy) (sheet .xy)
-  pub yy : WordsFrom (bareLine yyTag s) (starts .yy) (starts .end) (sheet .yy ∷ [])
+  pub words : RunsPlaced s (wordKinds (sheet .counts)) (wordPlaces starts) (wordLists sheet)
 
 pub record Whole (s : List ℕ) (sheet : Sheet) (starts : Starts) : Type 0 where
   pub short : length s ≤ 16777216

@@ -14,7 +14,7 @@ use Rattle.sheet.specs.declared.Reading.the-variants.{Sheet as Read, Refused}
 use Rattle.sheet.specs.declared.Starts.{Starts}
 use Rattle.sheet.specs.Sheet.{Sheet, Outcome, accepted, refused, readSheet, sheetOf}
 use Rattle.sheet.specs.Whole.{Shape}
-use Rattle.sheet.specs.Fault.{levelsOf, hasSlope, coversRows, anyFaulty, faultNumber, Names}
+use Rattle.sheet.specs.Fault.{coveredRows, hasSlope, coversRows, anyFaulty, faultNumber, Names}
 use Rattle.sheet.specs.Answer.{readingOf, Answers}
 use Rattle.sheet.proofs.Whole.{read-whole, alone-read}
 use Rattle.sheet.proofs.Faults.{line-faulty}
@@ -70,7 +70,7 @@ module _ (s : List ℕ) {z : Starts} (e : (sheet : Sheet) × (readSheet s ≡ ac
     small i h = subst (λ (l : List ℕ). getD l i 0 ≤ 65535) (sym (levels e.0 read)) (levels-small 8 e.0.blocks shape.blocks i)
 
     -- what `total` says
-    rows : {t : ℕ} → t ≡ sum (λ i. getD m i 0) 8 → levelsOf (e .0 .blocks) ≡ t
+    rows : {t : ℕ} → t ≡ sum (λ i. getD m i 0) 8 → coveredRows (e .0 .blocks) ≡ t
     rows total =
         sym
         (total
@@ -81,7 +81,7 @@ module _ (s : List ℕ) {z : Starts} (e : (sheet : Sheet) × (readSheet s ≡ ac
     columns = ap (λ (c : Counts). c .q) (sym shape.same-counts)
 
     covered : {t : ℕ} → t ≡ sum (λ i. getD m i 0) 8 → not (eqb t (z .counts .q)) ≡ false → coversRows (e .0) ≡ true
-    covered total w = eq-eqb e.0.counts.q (levelsOf e.0.blocks) (columns ∙ sym (agree _ _ w) ∙ sym (rows total))
+    covered total w = eq-eqb e.0.counts.q (coveredRows e.0.blocks) (columns ∙ sym (agree _ _ w) ∙ sym (rows total))
 
     pub covers : {t : ℕ} → t ≡ sum (λ i. getD m i 0) 8 → not (eqb t (z .counts .q)) ≡ false
         → (sheet : Sheet) × (readSheet s ≡ accepted sheet z) × (coversRows sheet ≡ true) × (m ≡ padded 8 (levelList (sheet .blocks)))
@@ -103,7 +103,7 @@ module _ (s : List ℕ) {z : Starts} (e : (sheet : Sheet) × (readSheet s ≡ ac
       eight w =
           refuses 8 0 (omega arith)
           (simp
-          (flag-is (ne-eqb _ 0 f), blocks-is (ne-eqb _ 0 k), slope ∙ u, ne-eqb e.0.counts.q (levelsOf e.0.blocks) (λ q. differ _ _ w (sym (rows levels total) ∙ sym q ∙ columns levels)))) refl
+          (flag-is (ne-eqb _ 0 f), blocks-is (ne-eqb _ 0 k), slope ∙ u, ne-eqb e.0.counts.q (coveredRows e.0.blocks) (λ q. differ _ _ w (sym (rows levels total) ∙ sym q ∙ columns levels)))) refl
 
       -- where 8 does not apply; and what `faulty_line` says
       module _ (w : not (eqb t (z .counts .q)) ≡ false) {r : ℕ} (found : (sheet : Sheet) → readSheet s ≡ accepted sheet z → m ≡ padded 8 (levelList (sheet .blocks)) → Found sheet r) where

@@ -8,7 +8,7 @@ ghost use Prim.Native.Nat.{ℕ, _+_, _<_, _≤_};
 ghost use lib.ListN.{length};
 ghost use Rattle.sheet.specs.Run.{Block, entryIn};
 ghost use Rattle.sheet.specs.Sheet.{Sheet};
-ghost use Rattle.sheet.specs.Fault.{levelsOf, blockOf};
+ghost use Rattle.sheet.specs.Fault.{coveredRows, blockOfRow};
 ghost use Rattle.layout.specs.Blocks.{padded};
 ghost use Rattle.sheet_checks.specs.levels.Held.{levelList};
 ghost use Rattle.sheet_checks.specs.mirror_cursor.Turns.{Grouped, isUnfit, mirrors, isPassed};
@@ -24,7 +24,7 @@ pub struct After {
 
 // The block that holds row i.
 fn block_of(m: [u64; 8], i: u64) -> u64
-    ensures { λ r. ⌜ ((blocks : List Block) → m ≡ padded 8 (levelList blocks) → length blocks ≤ 8 → i < levelsOf blocks → r ≡ blockOf blocks i) ⌝ }
+    ensures { λ r. ⌜ ((blocks : List Block) → m ≡ padded 8 (levelList blocks) → length blocks ≤ 8 → i < coveredRows blocks → r ≡ blockOfRow blocks i) ⌝ }
 {
     let mut left = i;
     let mut j: usize = 0;
@@ -41,7 +41,7 @@ fn block_of(m: [u64; 8], i: u64) -> u64
 // Whether a line has a fault that needs no other: a zero word, or off the diagonal inside a block.
 pub fn is_unfit(m: [u64; 8], l: Line) -> bool
     ensures { λ r. ⌜ ((sheet : Sheet) (line : ℕ) → m ≡ padded 8 (levelList (sheet .blocks)) → length (sheet .blocks) ≤ 8
-        → l .first < levelsOf (sheet .blocks) → l .second < levelsOf (sheet .blocks) → r ≡ isUnfit sheet (entryIn line l)) ⌝ }
+        → l .first < coveredRows (sheet .blocks) → l .second < coveredRows (sheet .blocks) → r ≡ isUnfit sheet (entryIn line l)) ⌝ }
 {
     let a = block_of(m, l.first);
     let b = block_of(m, l.second);

@@ -1,2 +1,1 @@
-pub mod line_verdict
 pub mod sheet_lines

@@ -1,10 +1,10 @@
 // Reads the runs of lines of a sheet (document 01, Record 1): from line to line, and no further than the first that is refused. What each answers
 // is defined in the crate sheet, specs/Run.antt.
 ghost use mathlib.Core.Path.{_≡_};
-ghost use Prim.Native.Nat.{_+_, _*_, _<_};
+ghost use Prim.Native.Nat.{_+_, _*_, _≤_, _<_};
 ghost use lib.ListN.{length};
-ghost use Rattle.sheet.specs.Run.{linesOf, rowFrom, rowsFrom, blocksOf, entriesFrom, prescribedVerdict, wordIn, wordsOf};
-ghost use Rattle.sheet_reader.specs.line_verdict.Words.{lineOf};
+ghost use Rattle.sheet.specs.Line.{wordLine};
+ghost use Rattle.sheet.specs.Run.{linesOf, rowFrom, rowsFrom, blocksOf, entriesFrom, prescribedVerdict, wordIn, wordKind, wordsOf};
 use crate::block_line;
 use crate::field::NOWHERE;
 use crate::line_verdict;
@@ -18,7 +18,7 @@ use sheet::Line;
 // The k block lines.
 pub fn blocks(bytes: &[u8], k: u64, c: Cursor) -> Cursor
     requires { ⌜ c .line + k < 9223372036854775808 ⌝ }
-    ensures { λ r. ⌜ r ≡ blocksOf (now (bytes .entry)) k c .past ⌝ }
+    ensures { λ r. ⌜ (r ≡ blocksOf (now (bytes .entry)) k c .past) × (r .line ≤ c .line + k) ⌝ }
 {
     let mut d = c;
     let mut i: u64 = 0;
@@ -36,7 +36,7 @@ pub fn blocks(bytes: &[u8], k: u64, c: Cursor) -> Cursor
 // All zz lines: the first line with another tag ends them.
 pub fn entries(bytes: &[u8], q: u64, c: Cursor) -> Cursor
     requires { ⌜ c .line + length (now bytes) < 9223372036854775808 ⌝ }
-    ensures { λ r. ⌜ r ≡ entriesFrom (length (now (bytes .entry))) (now (bytes .entry)) q 0 0 c .past ⌝ }
+    ensures { λ r. ⌜ (r ≡ entriesFrom (length (now (bytes .entry))) (now (bytes .entry)) q 0 0 c .past) × (r .line ≤ c .line + length (now (bytes .entry))) ⌝ }
 {
     let mut d = c;
     let mut col: u64 = 0;
@@ -61,9 +61,9 @@ pub fn entries(bytes: &[u8], q: u64, c: Cursor) -> Cursor
 
 // A line of `numbers` numbers (2, 1 or 0) and a word.
 fn word_line(bytes: &[u8], t: &[u8], numbers: u64, at: usize) -> Line
-    ensures { λ r. ⌜ r ≡ lineOf numbers (now (t .entry)) (now (bytes .entry)) at ⌝ }
+    ensures { λ r. ⌜ r ≡ wordLine numbers (now (t .entry)) (now (bytes .entry)) at ⌝ }
 {
-    if numbers == 2 {
+    if 1 < numbers {
         return pair_line::pair_line(t, bytes, at);
     }
     if numbers == 1 {
@@ -75,7 +75,7 @@ fn word_line(bytes: &[u8], t: &[u8], numbers: u64, at: usize) -> Line
 // The lines of one row, `width` of them.
 fn row_words(bytes: &[u8], t: &[u8], numbers: u64, row: u64, width: u64, c: Cursor) -> Cursor
     requires { ⌜ c .line + width < 9223372036854775808 ⌝ }
-    ensures { λ r. ⌜ r ≡ linesOf (lineOf numbers (now (t .entry)) (now (bytes .entry))) prescribedVerdict wordIn (rowFrom row 0 width) c .past ⌝ }
+    ensures { λ r. ⌜ r ≡ linesOf (wordLine numbers (now (t .entry)) (now (bytes .entry))) prescribedVerdict wordIn (rowFrom row 0 width) c .past ⌝ }
 {
     let mut d = c;
     let mut col: u64 = 0;
@@ -90,7 +90,8 @@ fn row_words(bytes: &[u8], t: &[u8], numbers: u64, row: u64, width: u64, c: Curs
     d
 }
 
-// The lines of `rows` rows, first + step * r of them in row r: each of `numbers` numbers (2, 1 or 0) and a word.
+// The lines of `rows` rows, first + step * r of them in row r: each of `numbers` numbers (2, 1 or 0) and a word. They are few, so that the numbers
+// of lines have room.
 pub fn words(
     bytes: &[u8],
     t: &[u8],
@@ -100,8 +101,8 @@ pub fn words(
     rows: u64,
     c: Cursor,
 ) -> Cursor
-    requires { ⌜ c .line + length (rowsFrom (λ r. first + step * r) 0 rows) < 9223372036854775808 ⌝ }
-    ensures { λ r. ⌜ r ≡ wordsOf (lineOf numbers (now (t .entry)) (now (bytes .entry))) (λ r. first + step * r) rows c .past ⌝ }
+    requires { ⌜ (rows * (first + step * rows) ≤ 16777216) × (c .line ≤ 4294967296) ⌝ }
+    ensures { λ r. ⌜ (r ≡ wordsOf (now (bytes .entry)) (wordKind (now (t .entry)) numbers (rowsFrom (λ r. first + step * r) 0 rows)) c .past) × (r .line ≤ c .line + 16777216) ⌝ }
 {
     let mut d = c;
     let mut r: u64 = 0;

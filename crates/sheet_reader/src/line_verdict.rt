@@ -1,6 +1,7 @@
 // Past one line of a sheet (document 01, Record 1): its verdict, 2, 3 or 4, and where the next line stands. What each answers is defined in the
 // crate sheet, specs/Run.antt.
 ghost use mathlib.Core.Path.{_≡_};
+ghost use mathlib.Core.List.{[], _∷_};
 ghost use Prim.Native.Nat.{_+_, _<_};
 ghost use Rattle.sheet.specs.Line.{verdictOf};
 ghost use Rattle.sheet.specs.Run.{passOf, isBetween, blockVerdict, notBefore, entryVerdict, prescribedVerdict};
@@ -11,7 +12,7 @@ use sheet::Line;
 
 // What a line is refused with, 0 where it is in order: 2, 3, 4 in that order.
 fn verdict(form: bool, finite: bool, within: bool) -> u64
-    ensures { λ r. ⌜ r ≡ verdictOf form finite within ⌝ }
+    ensures { λ r. ⌜ r ≡ verdictOf ((form, 2) ∷ (finite, 3) ∷ (within, 4) ∷ []) ⌝ }
 {
     if form {
         if finite {

@@ -18,7 +18,7 @@ use Rattle.sheet.specs.declared.Reading.the-variants.{Sheet as Read, Refused as
 use Rattle.sheet.specs.declared.Starts.{Starts}
 use Rattle.sheet.specs.Sheet.{Sheet, accepted, refused, sheetOf}
 use Rattle.sheet.specs.Sheet as Sheets
-use Rattle.sheet.specs.Fault.{Faulty, hasSlope, coversRows, anyFaulty, levelsOf, faultNumber}
+use Rattle.sheet.specs.Fault.{Faulty, hasSlope, coversRows, anyFaulty, coveredRows, faultNumber}
 use Rattle.sheet.specs.Answer.{Answers}
 use Rattle.sheet.specs.Whole.{Each}
 use Rattle.sheet.proofs.Faults.{faulty-line, none-faulty}
@@ -224,7 +224,7 @@ module _ (s h : List ℕ) (w : List Float) where
     none-listed n (slopes other more e g) =
         true≢false (sym (subst (λ (x : Sheet). hasSlope x ≡ true) (this other more e) g) ∙ none-of sheet f.whole .slope)
     none-listed n (dim-mismatch other more e g) =
-        subst (λ (x : Sheet). x .counts .q ≡ levelsOf x.blocks → ⊥) (this other more e) g (eqb-true _ _ (none-of sheet f.whole .covers))
+        subst (λ (x : Sheet). x .counts .q ≡ coveredRows x.blocks → ⊥) (this other more e) g (eqb-true _ _ (none-of sheet f.whole .covers))
     none-listed n (faulty other more e line g) = none-faulty sheet f.whole line (subst (λ (x : Sheet). Faulty x line) (this other more e) g)
     none-listed n (multiblock-fill other more e i j a b g) = pair-free other (this other more e) 10 i j a b g
     none-listed n (cross-gate other more e i j a b g) = pair-free other (this other more e) 11 i j a b g

@@ -8,14 +8,14 @@ use borrow.Author.Tests.{ltb-true}
 use lib.Dec.{ltb, eqb}
 use lib.ListN.{length}
 use Rattle.sheet.specs.declared.Starts.{Starts}
-use Rattle.sheet.specs.Line.{inForm, sizeLine, verdictOf}
-use Rattle.sheet.specs.Sheet.{Sheet, Outcome, accepted, refused, countsWithin, afterSize, readSheet, sheetOf, alone}
+use Rattle.sheet.specs.Line.{sizeLine}
+use Rattle.sheet.specs.Sheet.{Sheet, Outcome, accepted, refused, sizeVerdict, afterSize, readSheet, sheetOf, alone}
 use Rattle.sheet.proofs.Numbers.{lines-refusal}
 
 -- a sheet, and anything behind it
 read-long : (s : List ℕ) → readSheet s ≡ refused 1 0 → 16777216 < length s
 unfolding readSheet
-read-long s e = go (ltb 16777216 (length s)) refl (verdictOf (inForm (sizeLine s 0 .next)) true (countsWithin (sizeLine s 0 .counts))) e
+read-long s e = go (ltb 16777216 (length s)) refl (sizeVerdict (sizeLine s 0)) e
   where
     go : (t : Bool) → ltb 16777216 (length s) ≡ t → (v : ℕ) → cond t (refused 1 0) (afterSize v s (sizeLine s 0)) ≡ refused 1 0 → 16777216 < length s
     go true u v g = ltb-true _ _ u

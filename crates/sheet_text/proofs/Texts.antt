@@ -14,7 +14,7 @@ use Rattle.sheet.specs.declared.Starts.{Starts}
 use Rattle.sheet.specs.Run.{Block}
 use Rattle.sheet.specs.Sheet.{Sheet, accepted, refused, sheetOf}
 use Rattle.sheet.specs.Sheet as Sheets
-use Rattle.sheet.specs.Fault.{anyOf, hasSlope, levelsOf, Faulty}
+use Rattle.sheet.specs.Fault.{anyOf, hasSlope, coveredRows, Faulty}
 use Rattle.sheet.specs.Whole.{Each}
 use Rattle.sheet.proofs.Whole.{read-whole, alone-read, not-accepted}
 use Rattle.sheet_text.proofs.written.Read.{written-read}
@@ -109,7 +109,7 @@ module _ (s h : List ℕ) (w : List Float) where
     unlisted n (not-intercept-only other more e g) = omega (arith, subst (λ (x : Sheet). x .counts .flag ≡ 1) (this e) a.flag)
     unlisted n (empty-re other more e g) = omega (arith, subst (λ (x : Sheet). 0 < x .counts .k) (this e) a.some)
     unlisted n (slopes other more e g) = true≢false (sym g ∙ subst (λ (x : Sheet). hasSlope x ≡ false) (this e) (no-slope sheet.blocks a.intercepts))
-    unlisted n (dim-mismatch other more e g) = g (subst (λ (x : Sheet). x .counts .q ≡ levelsOf x.blocks) (this e) a.covers)
+    unlisted n (dim-mismatch other more e g) = g (subst (λ (x : Sheet). x .counts .q ≡ coveredRows x.blocks) (this e) a.covers)
     unlisted n (faulty other more e line g) = let f = subst (λ (x : Sheet). Faulty x line) (sym (this e)) g in a.sound f.0 f.1 f.3
     unlisted n (multiblock-fill other more e i j x y g) = refused-pair other (this e) i j 10 x y g
     unlisted n (cross-gate other more e i j x y g) = refused-pair other (this e) i j 11 x y g

@@ -8,7 +8,7 @@ use lib.ListN.{length}
 use lib.Ieee.{Float}
 use Rattle.sheet.specs.Run.{Block, Entry}
 use Rattle.sheet.specs.Sheet.{Sheet}
-use Rattle.sheet.specs.Fault.{levelsOf, Fault}
+use Rattle.sheet.specs.Fault.{coveredRows, Fault}
 use Rattle.sheet.specs.Whole.{Each}
 use Rattle.sheet_text.specs.written.Written.{textOf, InForm}
 use Rattle.layout.specs.declared.Pair.the-variants.{Refused}
@@ -28,7 +28,7 @@ pub record Acceptable (s h : List ℕ) (w : List Float) (sheet : Sheet) : Type 0
   -- 7, "an e is not 1 (slopes)"
   pub intercepts : Each (λ (b : Block). b .e ≡ 1) (sheet .blocks)
   -- 8, "q is not the sum of m (dim_mismatch)"
-  pub covers : sheet .counts .q ≡ levelsOf (sheet .blocks)
+  pub covers : sheet .counts .q ≡ coveredRows (sheet .blocks)
   -- 9, "`zz` word ±0, off-diagonal inside a block, or without a mirror of equal bits"
   pub sound : (e : Entry) → List·Memᴰ e (sheet .zz) → Fault sheet e → ⊥
   -- 10 and 11, a pair that the gate refuses

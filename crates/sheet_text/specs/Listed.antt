@@ -9,7 +9,7 @@ use lib.ListN.{length}
 use lib.Ieee.{Float}
 use Rattle.sheet.specs.declared.Starts.{Starts}
 use Rattle.sheet.specs.Sheet.{Sheet, accepted, refused, sheetOf}
-use Rattle.sheet.specs.Fault.{levelsOf, hasSlope, Faulty}
+use Rattle.sheet.specs.Fault.{coveredRows, hasSlope, Faulty}
 use Rattle.layout.specs.declared.Pair.the-variants.{Refused}
 use Rattle.workspace.specs.Loaded.{pairIn, layoutOfSheet}
 use Rattle.workspace.specs.Load.{hasRoom}
@@ -26,7 +26,7 @@ pub data Listed (s : List ℕ) (h : List ℕ) (w : List Float) : ℕ → Type 0 
   -- 7, "an e is not 1 (slopes)"
   slopes : (sheet : Sheet) (starts : Starts) → sheetOf s ≡ accepted sheet starts → hasSlope sheet ≡ true → Listed s h w 7
   -- 8, "q is not the sum of m (dim_mismatch)"
-  dim-mismatch : (sheet : Sheet) (starts : Starts) → sheetOf s ≡ accepted sheet starts → (sheet .counts .q ≡ levelsOf (sheet .blocks) → ⊥) → Listed s h w 8
+  dim-mismatch : (sheet : Sheet) (starts : Starts) → sheetOf s ≡ accepted sheet starts → (sheet .counts .q ≡ coveredRows (sheet .blocks) → ⊥) → Listed s h w 8
   -- 9, "`zz` word ±0, off-diagonal inside a block, or without a mirror of equal bits"
   faulty : (sheet : Sheet) (starts : Starts) → sheetOf s ≡ accepted sheet starts → (line : ℕ) → Faulty sheet line → Listed s h w 9
   -- 10, "k > 2 and a pair above 100,000 cells (multiblock_fill)"

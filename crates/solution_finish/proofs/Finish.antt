@@ -27,7 +27,7 @@ use Rattle.profile.specs.declared.Solution.{Solution}
 use Rattle.profile.specs.declared.Solve.{Solve}
 use Rattle.profile.specs.declared.Solve.the-variants.{Solved as Done, Refused}
 use Rattle.profile.specs.Finish.{crossProduct, vOf, wOf, beta, fixedRhs, sigma2, solutionOf, resultList, refusedRow}
-use Rattle.solution_finish.specs.l_x.Factor.{FixedFactored}
+use Rattle.solution_finish.specs.l_x.Factor.{triangleAt, FixedFactored}
 use Rattle.solution_vectors.specs.result_places.Places.{lxAt, resultLengthOf, Products}
 use Rattle.solution_vectors.proofs.result_places.Bounds.{few-effects}
 use Rattle.solution_finish.specs.result_laws.Ready.{Ready}
@@ -68,7 +68,7 @@ module _ (h : List ℕ) (w : List Float) (y : Layout) (e : y ≡ layoutOf h) whe
       q ∙ ap (scalarsWith h w reml) (ap₂ ieee.minus is-rest f.answer ∙ ap residualBy e)
 
   module _ (v₁ : List Float) (long : length v₁ ≡ resultLengthOf y) (rest : Float) (c : Products h w y v₁ rest) (f : ℕ) (is-f : f ≡ lxAt y) where
-    pub chol-ready : validLayout y ≡ true → (y .p ≤ 316) × (f + sizeOf (packed (y .p)) ≤ length v₁) × Doubles f (y .p) (packed (y .p)) v₁
+    pub chol-ready : validLayout y ≡ true → (y .p ≤ 316) × (f + sizeOf (packed (y .p)) ≤ length v₁) × Doubles (triangleAt f (y .p)) (y .p) v₁
     chol-ready ok =
         let k = few-effects y ok in
         (omega arith, rw is-f (factor-room h w y e v₁ long), rw is-f (triangle-doubles h w y e v₁ long c.triangle))

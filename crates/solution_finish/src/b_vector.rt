@@ -2,7 +2,6 @@
 ghost use mathlib.Core.Path.{_≡_};
 ghost use Prim.Native.Nat.{_<_};
 ghost use lib.ListN.{length};
-ghost use Rattle.heading_format.specs.Heading.{layoutOf};
 ghost use Rattle.heading_format.specs.Fits.{Fits};
 ghost use Rattle.solution_vectors.specs.Vectors.{withBlockAt, withVector};
 ghost use Rattle.solution_vectors.specs.result_places.Places.{bAt, resultLengthOf};
@@ -15,7 +14,7 @@ use triangular_solves::scaled_row;
 
 // The rows of sorted block j.
 fn scale_block(layout: Layout, heading: &[u32], doubles: &[f64], v: &mut [f64], j: u64)
-    requires { ⌜ (layout ≡ layoutOf (now heading)) × Fits (now heading) (length (now doubles)) × (j < layout .k) × (length (now v) ≡ resultLengthOf layout) ⌝ }
+    requires { ⌜ Fits layout (now heading) (length (now doubles)) × (j < layout .k) × (length (now v) ≡ resultLengthOf layout) ⌝ }
     ensures { λ _. ⌜ now (v .exit) ≡ withBlockAt layout (bAt layout) j (effectBlock (now (heading .entry)) (now (doubles .entry)) layout (now (v .entry)) j) (now (v .entry)) ⌝ }
 {
     let theta = scaled_row::theta_of(layout, heading, doubles, j);
@@ -27,7 +26,7 @@ fn scale_block(layout: Layout, heading: &[u32], doubles: &[f64], v: &mut [f64], 
 
 // b, all its rows, from u.
 pub fn write_b(layout: Layout, heading: &[u32], doubles: &[f64], v: &mut [f64])
-    requires { ⌜ (layout ≡ layoutOf (now heading)) × Fits (now heading) (length (now doubles)) × (length (now v) ≡ resultLengthOf layout) ⌝ }
+    requires { ⌜ Fits layout (now heading) (length (now doubles)) × (length (now v) ≡ resultLengthOf layout) ⌝ }
     ensures { λ _. ⌜ now (v .exit) ≡ withVector layout (bAt layout) (effectBlocks (now (heading .entry)) (now (doubles .entry)) layout (now (v .entry))) (now (v .entry)) ⌝ }
 {
     let mut j: u64 = 0;

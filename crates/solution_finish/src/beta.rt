@@ -6,6 +6,7 @@ ghost use Rattle.solution_finish.specs.beta.Beta.{Effects};
 use block_runs::run_copies;
 use cross_matvec::column_sums;
 use re_factor::block_solve;
+use storage::Block;
 
 // beta in the place of its right side, the first p doubles of v, by the packed factor at off: forward, then back substitution. The answer is beta times
 // its right side.
@@ -14,9 +15,14 @@ pub fn solve_beta(v: &mut [f64], off: usize, p: usize) -> f64
     ensures { λ r. ⌜ Effects off p (now (v .entry)) (now (v .exit)) r ⌝ }
 {
     let mut b = [0.0; 32];
+    let factor = Block {
+        at: off,
+        rows: p,
+        cols: p,
+    };
     run_copies::read(&mut b, p, v, 0);
-    block_solve::forward(&mut b, 0, v, off, p);
-    block_solve::backward(&mut b, 0, v, off, p);
+    block_solve::forward(&mut b, 0, v, factor);
+    block_solve::backward(&mut b, 0, v, factor);
     let r = column_sums::one(&b, 0, p, v, 0);
     run_copies::put(v, 0, p, 0, p, &b);
     r

@@ -3,10 +3,10 @@ ghost use mathlib.Core.Path.{_≡_};
 ghost use Prim.Native.Nat.{_+_, _≤_};
 ghost use lib.ListN.{length};
 ghost use Rattle.block_runs.specs.axpy.Axpy.{at, run};
-ghost use Rattle.heading_format.specs.Heading.{layoutOf};
 ghost use Rattle.heading_format.specs.Fits.{Fits};
 ghost use Rattle.solution_vectors.specs.result_places.Places.{resultLengthOf, Solved};
 ghost use Rattle.solution_finish.specs.fixed_rows.Fixing.{Fixing};
+ghost use Rattle.layout.specs.Shapes.{lastRows};
 use block_places::places;
 use block_runs::run_copies;
 use layout::Layout;
@@ -23,8 +23,8 @@ fn copy(v: &mut [f64], to: usize, n: usize, doubles: &[f64], from: usize)
 
 // X'X into the place of L_X, and X'y into the place of beta.
 pub fn load_xtx(layout: Layout, heading: &[u32], doubles: &[f64], v: &mut [f64])
-    requires { ⌜ (layout ≡ layoutOf (now heading)) × Fits (now heading) (length (now doubles)) × (length (now v) ≡ resultLengthOf layout) ⌝ }
-    requires { ⌜ Solved (now heading) (now doubles) layout (layout .p + 1) (now v) ⌝ }
+    requires { ⌜ Fits layout (now heading) (length (now doubles)) × (length (now v) ≡ resultLengthOf layout) ⌝ }
+    requires { ⌜ Solved (now heading) (now doubles) layout (lastRows layout) (now v) ⌝ }
     ensures { λ _. ⌜ Fixing (now (heading .entry)) (now (doubles .entry)) layout 0 (now (v .exit)) ⌝ }
 {
     let p = layout.p as usize;

@@ -6,8 +6,9 @@ ghost use lib.Ieee.{binary64, fits};
 ghost use lib.ListN.{length};
 ghost use Rattle.storage.specs.Shape.{packed, sizeOf};
 ghost use Rattle.re_factor.specs.Factor.{pivotAt};
-ghost use Rattle.solution_finish.specs.l_x.Factor.{notAbove, firstNotAbove, orRow, FixedFactored};
+ghost use Rattle.solution_finish.specs.l_x.Factor.{triangleAt, notAbove, firstNotAbove, orRow, FixedFactored};
 use re_lower::Pivots;
+use storage::Block;
 
 fn not_above(x: f64) -> bool
     ensures { λ r. ⌜ r ≡ notAbove x ⌝ }
@@ -47,10 +48,15 @@ fn or_row(p: Pivots, r: usize) -> Pivots
 
 // C lets NaN pass; its root is NaN, so the pivots that stand tell the rows that C passed wrongly.
 pub fn chol_fixed(v: &mut [f64], off: usize, n: usize) -> Pivots
-    requires { ⌜ (n ≤ 316) × (off + sizeOf (packed n) ≤ length (now v)) × ((r : ℕ) → r < n → T (fits binary64 (pivotAt off (packed n) (now v) r))) ⌝ }
+    requires { ⌜ (n ≤ 316) × (off + sizeOf (packed n) ≤ length (now v)) × ((r : ℕ) → r < n → T (fits binary64 (pivotAt (triangleAt off n) (now v) r))) ⌝ }
     ensures { λ p. ⌜ FixedFactored off n (now (v .entry)) (now (v .exit)) p ⌝ }
 {
-    match re_factor::chol(v, off, n) {
+    let b = Block {
+        at: off,
+        rows: n,
+        cols: n,
+    };
+    match re_factor::chol(v, b) {
         Pivots::Accepted => first_not_above(v, off, n),
         Pivots::Refused(r) => or_row(first_not_above(v, off, r), r),
     }

@@ -15,7 +15,6 @@ ghost use lib.ListN.{length, replicate};
 ghost use Rattle.rules.specs.Arithmetic.{ieee};
 ghost use Rattle.rules.specs.Sums.{dot};
 ghost use Rattle.rules.specs.Cholesky.{at};
-ghost use Rattle.heading_format.specs.Heading.{layoutOf};
 ghost use Rattle.heading_format.specs.Fits.{Fits};
 ghost use Rattle.refusal.specs.Numbers.{refusal};
 ghost use Rattle.profile.specs.declared.Solve.the-variants.{Refused};
@@ -23,6 +22,7 @@ ghost use Rattle.profile.specs.Finish.{crossProduct, vOf, wOf, solutionOf, resu
 ghost use Rattle.solution_vectors.specs.result_places.Places.{resultLengthOf, Solved};
 ghost use Rattle.solution_finish.specs.result_laws.Ready.{Ready};
 ghost use Rattle.solution_finish.specs.Outcome.{finishOf};
+ghost use Rattle.layout.specs.Shapes.{lastRows, responseRow};
 use block_runs::run_copies;
 use layout::Layout;
 use profile::Solution;
@@ -53,8 +53,8 @@ fn accept(
     v: &mut [f64],
     rest: f64,
 ) -> Solution
-    requires { ⌜ (layout ≡ layoutOf (now heading)) × Fits (now heading) (length (now doubles)) × Ready (now heading) (now doubles) layout (now v) ⌝ }
-    requires { ⌜ rest ≡ ieee .minus (crossProduct (now heading) (now doubles) (layout .p) (layout .p)) (dot ieee (at ieee (vOf (now heading) (now doubles) (layout .p))) (at ieee (wOf (now heading) (now doubles) (layout .p))) (layout .q)) ⌝ }
+    requires { ⌜ Fits layout (now heading) (length (now doubles)) × Ready (now heading) (now doubles) layout (now v) ⌝ }
+    requires { ⌜ rest ≡ ieee .minus (crossProduct (now heading) (now doubles) (responseRow layout) (responseRow layout)) (dot ieee (at ieee (vOf (now heading) (now doubles) (responseRow layout))) (at ieee (wOf (now heading) (now doubles) (responseRow layout))) (layout .q)) ⌝ }
     ensures { λ s. ⌜ (s ≡ solutionOf (now (heading .entry)) (now (doubles .entry)) reml) × (now (v .exit) ≡ resultList (now (heading .entry)) (now (doubles .entry))) ⌝ }
 {
     let r = result_parts::make_parts(layout, heading, doubles, v);
@@ -69,8 +69,8 @@ pub fn solve_profile_finish(
     reml: bool,
     v: &mut [f64],
 ) -> Solve
-    requires { ⌜ (layout ≡ layoutOf (now heading)) × Fits (now heading) (length (now doubles)) × (length (now v) ≡ resultLengthOf layout) ⌝ }
-    requires { ⌜ Solved (now heading) (now doubles) layout (layout .p + 1) (now v) ⌝ }
+    requires { ⌜ Fits layout (now heading) (length (now doubles)) × (length (now v) ≡ resultLengthOf layout) ⌝ }
+    requires { ⌜ Solved (now heading) (now doubles) layout (lastRows layout) (now v) ⌝ }
     ensures { λ s. ⌜ (s ≡ finishOf (now (heading .entry)) (now (doubles .entry)) reml (resultLengthOf layout) .answer) × (now (v .exit) ≡ finishOf (now (heading .entry)) (now (doubles .entry)) reml (resultLengthOf layout) .result) ⌝ }
 {
     let rest = xtx_minus_vtw::subtract_products(layout, heading, doubles, v);

@@ -4,7 +4,6 @@ ghost use mathlib.Core.Path.{_≡_};
 ghost use lib.ListN.{length};
 ghost use Rattle.storage.specs.Runs.{start, triangle};
 ghost use Rattle.storage.specs.Part.{part};
-ghost use Rattle.heading_format.specs.Heading.{layoutOf};
 ghost use Rattle.heading_format.specs.Fits.{Fits};
 ghost use Rattle.profile.specs.Finish.{flattened, fixedFactor};
 ghost use Rattle.solution_vectors.specs.result_places.Places.{lxAt, resultLengthOf};
@@ -18,10 +17,11 @@ use deviance::deviance_value;
 use layout::Layout;
 use profile::Solution;
 use solution_vectors::result_places;
+use storage::Block;
 
 // beta, u, then b. The answer is beta times its right side.
 pub fn make_parts(layout: Layout, heading: &[u32], doubles: &[f64], v: &mut [f64]) -> f64
-    requires { ⌜ (layout ≡ layoutOf (now heading)) × Fits (now heading) (length (now doubles)) × Ready (now heading) (now doubles) layout (now v) ⌝ }
+    requires { ⌜ Fits layout (now heading) (length (now doubles)) × Ready (now heading) (now doubles) layout (now v) ⌝ }
     ensures { λ r. ⌜ Finished (now (heading .entry)) (now (doubles .entry)) layout (now (v .exit)) r ⌝ }
 {
     let p = layout.p as usize;
@@ -43,14 +43,18 @@ pub fn scalars(
     reml: bool,
     r2: f64,
 ) -> Solution
-    requires { ⌜ (layout ≡ layoutOf (now heading)) × Fits (now heading) (length (now doubles)) × (length (now v) ≡ resultLengthOf layout) ⌝ }
+    requires { ⌜ Fits layout (now heading) (length (now doubles)) × (length (now v) ≡ resultLengthOf layout) ⌝ }
     requires { ⌜ part (lxAt layout) (start triangle (layout .p)) (now v) ≡ flattened (fixedFactor (now heading) (now doubles)) ⌝ }
     ensures { λ s. ⌜ s ≡ scalarsWith (now (heading .entry)) (now (doubles .entry)) reml r2 ⌝ }
 {
     let d = deviance_value::freedom(layout, reml);
     let sigma2 = r2 / d;
     let logdet = deviance_tail::log_determinant(layout, doubles);
-    let factor = result_places::l_x_at(layout);
-    let deviance = deviance_value::value(v, factor, layout.p as usize, d, sigma2, logdet, reml);
+    let factor = Block {
+        at: result_places::l_x_at(layout),
+        rows: layout.p as usize,
+        cols: layout.p as usize,
+    };
+    let deviance = deviance_value::value(v, factor, d, sigma2, logdet, reml);
     Solution { deviance, sigma2 }
 }

@@ -15,7 +15,7 @@ use Rattle.storage.specs.Part.{part}
 use Rattle.storage.proofs.Parts.{part-left, part-right}
 use Rattle.layout.specs.declared.Layout.{Layout}
 use Rattle.layout.specs.Blocks.{sorted, sum}
-use Rattle.layout.specs.Shapes.{levels}
+use Rattle.layout.specs.Shapes.{levels, sheetIndex}
 use Rattle.layout.proofs.Sums.{sum-same, sum-more, sum-le, sum-over, sum-small, over-sorted}
 use Rattle.heading_format.specs.Heading.{sheetLevels, validLayout}
 use Rattle.heading_format.proofs.Valid.{is-valid}
@@ -28,24 +28,21 @@ use Rattle.profile.specs.Finish.{sortedIndex, inSheetOrder}
 use Rattle.solution_vectors.specs.Vectors.{Sized}
 
 module _ (y : Layout) where
-  abbrev sheetIndex : ℕ → ℕ
-  sheetIndex j = getD y.order j 0
-
   -- the block that is answered has sheet index i, or none has
-  index-found : (n i : ℕ) → ((sortedIndex y n i < n) × (sheetIndex (sortedIndex y n i) ≡ i)) ⊎ ((j : ℕ) → j < n → sheetIndex j ≡ i → ⊥)
+  index-found : (n i : ℕ) → ((sortedIndex y n i < n) × (sheetIndex y (sortedIndex y n i) ≡ i)) ⊎ ((j : ℕ) → j < n → sheetIndex y j ≡ i → ⊥)
   unfolding sortedIndex
   index-found zero i = inr (λ j h e. omega arith)
-  index-found (suc n) i = step (index-found n i) (eqb (sheetIndex n) i) refl
+  index-found (suc n) i = step (index-found n i) (eqb (sheetIndex y n) i) refl
     where
-      step : ((sortedIndex y n i < n) × (sheetIndex (sortedIndex y n i) ≡ i)) ⊎ ((j : ℕ) → j < n → sheetIndex j ≡ i → ⊥)
-          → (b : Bool) → eqb (sheetIndex n) i ≡ b
-          → ((cond b n (sortedIndex y n i) < suc n) × (sheetIndex (cond b n (sortedIndex y n i)) ≡ i)) ⊎ ((j : ℕ) → j < suc n → sheetIndex j ≡ i → ⊥)
-      step f true q = inl (omega arith, eqb-true (sheetIndex n) i q)
+      step : ((sortedIndex y n i < n) × (sheetIndex y (sortedIndex y n i) ≡ i)) ⊎ ((j : ℕ) → j < n → sheetIndex y j ≡ i → ⊥)
+          → (b : Bool) → eqb (sheetIndex y n) i ≡ b
+          → ((cond b n (sortedIndex y n i) < suc n) × (sheetIndex y (cond b n (sortedIndex y n i)) ≡ i)) ⊎ ((j : ℕ) → j < suc n → sheetIndex y j ≡ i → ⊥)
+      step f true q = inl (omega arith, eqb-true (sheetIndex y n) i q)
       step (inl f) false q = let l = f.0 in inl (omega arith, f.1)
       step (inr f) false q =
           inr
           (λ j h e. by-cases (decLt j n) (λ l. f j l e)
-          (λ l. let z : j ≡ n = omega arith in eqb-false (sheetIndex n) i q (subst (λ (x : ℕ). sheetIndex x ≡ i) z e)))
+          (λ l. let z : j ≡ n = omega arith in eqb-false (sheetIndex y n) i q (subst (λ (x : ℕ). sheetIndex y x ≡ i) z e)))
 
   module _ (ok : validLayout y ≡ true) where
     abbrev sheetM : ℕ → ℕ
@@ -79,33 +76,33 @@ module _ (y : Layout) where
     abbrev marked : ℕ → ℕ → ℕ
     marked i s = cond (eqb s i) 1 0
 
-    marks : (i : ℕ) → sum (λ j. marked i (sheetIndex j)) (y .k) ≡ sum (marked i) (y .k)
+    marks : (i : ℕ) → sum (λ j. marked i (sheetIndex y j)) (y .k) ≡ sum (marked i) (y .k)
     marks i =
         let l : List ℕ = sorted sheetM y.k in
-        let at : (j : ℕ) → j < y .k → marked i (sheetIndex j) ≡ marked i (getD l j 0) =
+        let at : (j : ℕ) → j < y .k → marked i (sheetIndex y j) ≡ marked i (getD l j 0) =
         λ j h. ap (marked i) (sym (getD-take y.k y.order j 0 h) ∙ ap (λ (z : List ℕ). getD z j 0) (same-lists (take y.k y.order) l (is-valid y ok .order))) in
-        sum-same (λ j. marked i (sheetIndex j)) (λ j. marked i (getD l j 0)) y.k at
+        sum-same (λ j. marked i (sheetIndex y j)) (λ j. marked i (getD l j 0)) y.k at
         ∙ ap (sum (λ j. marked i (getD l j 0))) (sym (length-sorted sheetM y.k))
         ∙ sum-over (marked i) l ∙ over-sorted sheetM (marked i) y.k
 
-    pub index-at : (i : ℕ) → i < y .k → (sortedIndex y (y .k) i < y .k) × (sheetIndex (sortedIndex y (y .k) i) ≡ i)
+    pub index-at : (i : ℕ) → i < y .k → (sortedIndex y (y .k) i < y .k) × (sheetIndex y (sortedIndex y (y .k) i) ≡ i)
     index-at i h = go (index-found y.k i)
       where
         one : marked i i ≡ 1
         one = rw (eq-eqb i i refl) refl
 
-        go : ((sortedIndex y (y .k) i < y .k) × (sheetIndex (sortedIndex y (y .k) i) ≡ i)) ⊎ ((j : ℕ) → j < y .k → sheetIndex j ≡ i → ⊥)
-            → (sortedIndex y (y .k) i < y .k) × (sheetIndex (sortedIndex y (y .k) i) ≡ i)
+        go : ((sortedIndex y (y .k) i < y .k) × (sheetIndex y (sortedIndex y (y .k) i) ≡ i)) ⊎ ((j : ℕ) → j < y .k → sheetIndex y j ≡ i → ⊥)
+            → (sortedIndex y (y .k) i < y .k) × (sheetIndex y (sortedIndex y (y .k) i) ≡ i)
         go (inl f) = f
         go (inr f) =
-            let none : (j : ℕ) → j < y .k → marked i (sheetIndex j) ≤ 0 = λ j l. rw (ne-eqb (sheetIndex j) i (f j l)) (omega arith) in
-            absurd (omega (arith, sum-small (λ j. marked i (sheetIndex j)) 0 y.k none, marks i, sum-more (marked i) i, one, sum-le (marked i) (i + 1) y.k (omega arith)))
+            let none : (j : ℕ) → j < y .k → marked i (sheetIndex y j) ≤ 0 = λ j l. rw (ne-eqb (sheetIndex y j) i (f j l)) (omega arith) in
+            absurd (omega (arith, sum-small (λ j. marked i (sheetIndex y j)) 0 y.k none, marks i, sum-more (marked i) i, one, sum-le (marked i) (i + 1) y.k (omega arith)))
 
     -- and of one alone
-    index-order : (j : ℕ) → j < y .k → sortedIndex y (y .k) (sheetIndex j) ≡ j
-    index-order j h = one (sortedIndex y y.k (sheetIndex j)) (index-at (sheetIndex j) (order-below y ok j h))
+    index-order : (j : ℕ) → j < y .k → sortedIndex y (y .k) (sheetIndex y j) ≡ j
+    index-order j h = one (sortedIndex y y.k (sheetIndex y j)) (index-at (sheetIndex y j) (order-below y ok j h))
       where
-        one : (s : ℕ) → (s < y .k) × (sheetIndex s ≡ sheetIndex j) → s ≡ j
+        one : (s : ℕ) → (s < y .k) × (sheetIndex y s ≡ sheetIndex y j) → s ≡ j
         one s a =
             let l = a.0 in
             by-cases (decLt s j) (λ u. absurd (order-apart y ok s j u h a.1))
@@ -128,18 +125,18 @@ module _ (y : Layout) where
       pub order-length : length (inSheetOrder y l (y .k)) ≡ y .q
       order-length = length-order y.k (omega arith) ∙ all-rows y ok
 
-      block-among : (n : ℕ) → n ≤ y .k → (j : ℕ) → j < y .k → sheetIndex j < n → part (rowStart y j) (levels y j) (inSheetOrder y l n) ≡ blockIn l j
+      block-among : (n : ℕ) → n ≤ y .k → (j : ℕ) → j < y .k → sheetIndex y j < n → part (rowStart y j) (levels y j) (inSheetOrder y l n) ≡ blockIn l j
       unfolding inSheetOrder
       block-among zero h j g b = absurd (omega arith)
       block-among (suc n) h j g b =
           let rest : List Float = inSheetOrder y l n in
           let last : List Float = blockIn l (sortedIndex y y.k n) in
           let long : length rest ≡ sum sheetM n = length-order n (omega arith) in
-          by-cases (decLt (sheetIndex j) n)
+          by-cases (decLt (sheetIndex y j) n)
           (λ m. part-left rest last (rowStart y j) (levels y j)
-          (omega (arith, levels-at y ok j g, sum-more sheetM (sheetIndex j), sum-le sheetM (sheetIndex j + 1) n (omega arith)))
+          (omega (arith, levels-at y ok j g, sum-more sheetM (sheetIndex y j), sum-le sheetM (sheetIndex y j + 1) n (omega arith)))
           ∙ block-among n (omega arith) j g m)
-          (λ m. let e : sheetIndex j ≡ n = omega arith in
+          (λ m. let e : sheetIndex y j ≡ n = omega arith in
           let same : last ≡ blockIn l j = ap (blockIn l) (ap (sortedIndex y y.k) (sym e) ∙ index-order j g) in
           part-right rest last (rowStart y j) (levels y j) 0 (omega (arith, ap (sum sheetM) e))
           ∙ ap (take (levels y j)) same ∙ take-all (levels y j) (blockIn l j) (omega (arith, sized.each j g)))

@@ -13,9 +13,8 @@ use lib.Ieee.{Float}
 use Rattle.storage.specs.Runs.{tab}
 use Rattle.storage.specs.Part.{part, store}
 use Rattle.storage.proofs.Cells.{length-tab, getD-tab, tab-ext, take-tab}
-use Rattle.storage.proofs.Parts.{length-part, length-store, part-in, part-same, part-else, store-in, store-part}
+use Rattle.storage.proofs.Parts.{length-part, length-store, part-in, part-same, part-else, store-in, store-part, store-inside}
 use Rattle.storage.proofs.Filling.{Filling, filling-none, filling-else, array-more, array-done}
-use Rattle.cross_block.proofs.Sparse.{store-inside}
 use Rattle.layout.specs.declared.Layout.{Layout}
 use Rattle.layout.specs.Blocks.{sum}
 use Rattle.layout.specs.Shapes.{levels}

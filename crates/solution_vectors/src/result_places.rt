@@ -17,7 +17,7 @@ pub fn l_x_at(layout: Layout) -> usize
     p + q + q
 }
 
-// Where w of row r starts, the response's being row p.
+// Where w of row r of block k starts.
 pub fn w_at(layout: Layout, r: usize) -> usize
     requires { ⌜ (validLayout layout ≡ true) × (r ≤ layout .p) ⌝ }
     ensures { λ x. ⌜ x ≡ wAt layout r ⌝ }

@@ -21,7 +21,7 @@ use Rattle.solution_finish.specs.Outcome.{finishOf}
 
 -- the layout of a workspace is valid
 pub is-valid-layout : (h : List ℕ) (w : List Float) → validHeading h (length w) ≡ true → (y : Layout) → y ≡ layoutOf h → validLayout y ≡ true
-is-valid-layout h w ok y e = rw e (fits h (length w) ok .layout)
+is-valid-layout h w ok y e = rw e (fits h (length w) ok .valid)
 
 module _ (h : List ℕ) (w : List Float) (reml : Bool) (out : List Float) where
   -- an answer and a list at exit are the definition's

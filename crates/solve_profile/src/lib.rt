@@ -3,7 +3,7 @@
 ghost use mathlib.Core.Path.{_≡_};
 ghost use mathlib.Core.Bool.{true};
 ghost use lib.ListN.{length};
-ghost use Rattle.heading_format.specs.Heading.{layoutOf, validHeading};
+ghost use Rattle.heading_format.specs.Heading.{validHeading};
 ghost use Rattle.heading_format.specs.Fits.{Fits};
 ghost use Rattle.profile.specs.Finish.{solveOf};
 ghost use Rattle.solution_vectors.specs.result_places.Places.{resultLengthOf};
@@ -16,7 +16,7 @@ use solution_vectors::result_places;
 
 // From a finished factor and a list of the right length.
 fn of_factor(layout: Layout, heading: &[u32], doubles: &[f64], reml: bool, out: &mut [f64]) -> Solve
-    requires { ⌜ (layout ≡ layoutOf (now heading)) × Fits (now heading) (length (now doubles)) × (length (now out) ≡ resultLengthOf layout) ⌝ }
+    requires { ⌜ Fits layout (now heading) (length (now doubles)) × (length (now out) ≡ resultLengthOf layout) ⌝ }
     ensures { λ s. ⌜ (s ≡ finishOf (now (heading .entry)) (now (doubles .entry)) reml (resultLengthOf layout) .answer) × (now (out .exit) ≡ finishOf (now (heading .entry)) (now (doubles .entry)) reml (resultLengthOf layout) .result) ⌝ }
 {
     triangular_solves::solve_all(layout, heading, doubles, out);

@@ -16,6 +16,7 @@ use Rattle.heading.specs.writer.Small.{SmallProgress}
 use Rattle.heading.proofs.writer.Idle.{idle-small}
 use Rattle.step.specs.declared.step_result.StepResult.{StepResult}
 use Rattle.step.specs.step_result.Applied.{movedBy, Applied}
+use Rattle.heading_format.specs.Parts.{stepsLeftAt, stagesAt, mostTargets}
 
 -- ---- numbers below a bound
 
@@ -50,7 +51,7 @@ index-small k (T i j) n = let a = n.0 in let b = n.1 in omega arith
 progress-small : (h : List ℕ) → ((i : ℕ) → getD h i 0 < 4294967296) → SmallProgress (progressOf h)
 unfolding progressOf
 progress-small h b =
-    record { left = b 23; stages = small-take 4294967296 (omega arith) 45 (drop 24 h) (small-drop 4294967296 (omega arith) 24 h b) }
+    record { left = b stepsLeftAt; stages = small-take 4294967296 (omega arith) mostTargets (drop stagesAt h) (small-drop 4294967296 (omega arith) stagesAt h b) }
 
 moved-small : (y : Layout) (g : Progress) (s : Step) → SmallProgress g → y .k ≤ 8 → IsStep (y .k) s → (o : Option ℕ) → SmallProgress (movedBy y g s o .progress)
 moved-small y g s b k n none =

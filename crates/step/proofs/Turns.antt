@@ -73,7 +73,7 @@ module _ (h : List ℕ) (w : List Float) (s : Step) where
         (all (done (stageOf (progressOf h))) (forerunners s)))
 
     pub few-blocks : layoutOf h .k ≤ 8
-    few-blocks = is-valid (layoutOf h) (fits h (length w) ok .layout) .blocks .1
+    few-blocks = is-valid (layoutOf h) (fits h (length w) ok .valid) .blocks .1
 
     module _ (number : ℕ) (is : number ≡ faultOf (layoutOf h .k) (progressOf h) s) where
       -- 22, 21, 23, 24
@@ -85,7 +85,7 @@ module _ (h : List ℕ) (w : List Float) (s : Step) where
         passed = all-passed (isUnderWay (progressOf h .state)) (isStep (layoutOf h .k) s) (done (stageOf (progressOf h)) s) (all (done (stageOf (progressOf h))) (forerunners s)) (sym is ∙ none)
 
         -- the step is ready
-        pub is-ready : Fits h (length w) × IsStep (layoutOf h .k) s × (1 ≤ progressOf h .left)
+        pub is-ready : Fits (layoutOf h) h (length w) × IsStep (layoutOf h .k) s × (1 ≤ progressOf h .left)
         is-ready =
             let f = fits h (length w) ok in
             (f, named-iff (layoutOf h .k) s .0 passed.1, left-valid (layoutOf h .k) (progressOf h) f.progress passed.0)

@@ -27,7 +27,7 @@ fn apply_subtract(
     j: u64,
     x: u64,
 ) -> StepResult
-    requires { ⌜ (layout ≡ layoutOf (now heading)) × Fits (now heading) (length (now doubles)) × IsStep (layout .k) (S i j x) × (1 ≤ progress .left) ⌝ }
+    requires { ⌜ Fits layout (now heading) (length (now doubles)) × IsStep (layout .k) (S i j x) × (1 ≤ progress .left) ⌝ }
     ensures { λ m. ⌜ Applied layout progress (now (heading .entry)) (now (doubles .entry)) (now (doubles .exit)) (S i j x) m ⌝ }
 {
     subtract_block::subtract(layout, heading, doubles, i, j, x);
@@ -47,7 +47,7 @@ fn apply_solve(
     i: u64,
     j: u64,
 ) -> StepResult
-    requires { ⌜ (layout ≡ layoutOf (now heading)) × Fits (now heading) (length (now doubles)) × IsStep (layout .k) (T i j) × (1 ≤ progress .left) ⌝ }
+    requires { ⌜ Fits layout (now heading) (length (now doubles)) × IsStep (layout .k) (T i j) × (1 ≤ progress .left) ⌝ }
     ensures { λ m. ⌜ Applied layout progress (now (heading .entry)) (now (doubles .entry)) (now (doubles .exit)) (T i j) m ⌝ }
 {
     solve_block::solve(layout, heading, doubles, i, j);
@@ -66,7 +66,7 @@ pub fn apply(
     doubles: &mut [f64],
     name: StepName,
 ) -> StepResult
-    requires { ⌜ (layout ≡ layoutOf (now heading)) × (progress ≡ progressOf (now heading)) × Fits (now heading) (length (now doubles)) × IsStep (layout .k) (stepOfName name) × (1 ≤ progress .left) ⌝ }
+    requires { ⌜ Fits layout (now heading) (length (now doubles)) × (progress ≡ progressOf (now heading)) × IsStep (layout .k) (stepOfName name) × (1 ≤ progress .left) ⌝ }
     ensures { λ m. ⌜ Applied layout progress (now (heading .entry)) (now (doubles .entry)) (now (doubles .exit)) (stepOfName name) m ⌝ }
 {
     match name {

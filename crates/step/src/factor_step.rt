@@ -3,7 +3,6 @@ ghost use mathlib.Core.Path.{_≡_};
 ghost use Prim.Native.Nat.{_≤_};
 ghost use lib.ListN.{length};
 ghost use Rattle.step_order.specs.Steps.{IsStep, C};
-ghost use Rattle.heading_format.specs.Heading.{layoutOf};
 ghost use Rattle.heading_format.specs.Fits.{Fits};
 ghost use Rattle.step.specs.step_result.Applied.{Applied};
 use crate::step_check;
@@ -25,7 +24,7 @@ pub fn apply_factor(
     doubles: &mut [f64],
     j: u64,
 ) -> StepResult
-    requires { ⌜ (layout ≡ layoutOf (now heading)) × Fits (now heading) (length (now doubles)) × IsStep (layout .k) (C j) × (1 ≤ progress .left) ⌝ }
+    requires { ⌜ Fits layout (now heading) (length (now doubles)) × IsStep (layout .k) (C j) × (1 ≤ progress .left) ⌝ }
     ensures { λ m. ⌜ Applied layout progress (now (heading .entry)) (now (doubles .entry)) (now (doubles .exit)) (C j) m ⌝ }
 {
     match factor_block::factor(layout, heading, doubles, j) {

@@ -22,7 +22,7 @@ use update::StepName;
 
 // A step that is ready, on a workspace: the moved progress is written into its heading.
 pub fn apply_ready(heading: &mut [u32], doubles: &mut [f64], name: StepName) -> Answer
-    requires { ⌜ Fits (now heading) (length (now doubles)) × IsStep (layoutOf (now heading) .k) (stepOfName name) × (1 ≤ progressOf (now heading) .left) ⌝ }
+    requires { ⌜ Fits (layoutOf (now heading)) (now heading) (length (now doubles)) × IsStep (layoutOf (now heading) .k) (stepOfName name) × (1 ≤ progressOf (now heading) .left) ⌝ }
     ensures { λ r. ⌜ record { answer = r; left = workspace (now (heading .exit)) (now (doubles .exit)) } ≡ onPivot (now (heading .entry)) (now (doubles .entry)) (refusedBy (now (heading .entry)) (now (doubles .entry)) (stepOfName name)) (stepOfName name) ⌝ }
 {
     let layout = heading::layout(heading);

@@ -11,11 +11,12 @@ ghost use Rattle.step_order.specs.Progress.{all, done};
 ghost use Rattle.heading_format.specs.Heading.{stageOf};
 ghost use Rattle.update.specs.Names.{stepOfName};
 ghost use Rattle.step.specs.step_check.Faults.{nameFault, faultOf};
+ghost use Rattle.heading_format.specs.Parts.{mostTargets};
 
-// The place of target (i, j) among the 45, which stand by rows.
+// The place of target (i, j) among all, which stand by rows.
 pub fn target_place(i: u64, j: u64) -> usize
     requires { ⌜ (j ≤ i) × (i ≤ 8) ⌝ }
-    ensures { λ r. ⌜ (r ≡ start triangle i + j) × (r < 45) ⌝ }
+    ensures { λ r. ⌜ (r ≡ start triangle i + j) × (r < mostTargets) ⌝ }
 {
     (i * (i + 1) / 2 + j) as usize
 }

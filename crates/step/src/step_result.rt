@@ -1,11 +1,9 @@
 // What a step hands back, by value, and what a refused pivot leaves (document 01, Record 5 and number 26).
 ghost use mathlib.Core.Path.{_≡_};
-ghost use mathlib.Core.Bool.{true};
 ghost use Prim.Native.Nat.{_≤_, _<_};
 ghost use lib.ListN.{length};
-ghost use Rattle.layout.specs.Shapes.{doublesNeeded};
-ghost use Rattle.heading_format.specs.Heading.{validLayout};
 ghost use Rattle.workspace.specs.Memory.{cleared};
+ghost use Rattle.heading_format.specs.Fits.{Room};
 use block_places::places;
 use heading_format::Progress;
 use layout::Layout;
@@ -19,11 +17,11 @@ pub struct StepResult {
 
 // Every working double +0.0: theta, the blocks and the sum.
 pub fn clear_working(layout: Layout, doubles: &mut [f64])
-    requires { ⌜ (validLayout layout ≡ true) × (doublesNeeded layout ≤ length (now doubles)) ⌝ }
+    requires { ⌜ Room layout (length (now doubles)) ⌝ }
     ensures { λ _. ⌜ now (doubles .exit) ≡ cleared layout (now (doubles .entry)) ⌝ }
 {
     let from = places::theta_at(layout);
-    let n = places::sum_at(layout) + 1 - from;
+    let n = places::working_end(layout) - from;
     let mut i = 0;
     while i < n {
         doubles[from + i] = 0.0;

@@ -1,2 +1,2 @@
-pub mod Factors
+pub mod Ready
 pub mod Rules

@@ -1,2 +1,1 @@
-pub mod solve_block
 pub mod factor_logs

@@ -61,6 +61,18 @@ module _ {A : Type 0} where
       rw (e, add-assoc)
       (ap₂ (λ (x y : List A). x ++ l ++ y) (take-append-add a b k) (drop-append-add a b (k + length l)) ∙ simp append-assoc)
 
+  -- a list stored inside what is stored
+  pub store-inside : (off : ℕ) (L w : List A) (j : ℕ) (l : List A) → off + length L ≤ length w → j + length l ≤ length L
+      → store (off + j) l (store off L w) ≡ store off (store j l L) w
+  unfolding store
+  store-inside off L w j l fits h =
+      let e : length (take off w) ≡ off = length-take-le off w (omega arith) in
+      ap (store (off + j) l) (append-assoc (take off w) L (drop (off + length L) w))
+      ∙ store-right (take off w) (L ++ drop (off + length L) w) (off + j) l j (omega arith)
+      ∙ ap (λ (x : List A). take off w ++ x) (store-left L (drop (off + length L) w) j l h)
+      ∙ sym (append-assoc (take off w) (store j l L) (drop (off + length L) w))
+      ∙ ap (λ (k : ℕ). take off w ++ store j l L ++ drop (off + k) w) (sym (length-store j l L h))
+
   -- ---- what is read
 
   -- cell i of a part

@@ -19,6 +19,7 @@ use Rattle.solution_vectors.proofs.solve_laws.InTurn.{vector-over}
 use Rattle.solution_vectors.proofs.solve_laws.Solves.{sized-solved}
 use Rattle.solution_vectors.specs.result_places.Places.{wAt, resultLengthOf, Solved}
 use Rattle.solution_vectors.proofs.result_places.Parts.{solved-inside, solved-apart}
+use Rattle.layout.specs.Shapes.{lastRows}
 
 -- w of row r, by a layout that equals the heading's
 solved-row : (h : List ℕ) (w : List Float) (y : Layout) → y ≡ layoutOf h → (r : ℕ) → inSheetOrder y (solvedFor h w (scaledRow h w r)) (y .k) ≡ wOf h w r
@@ -27,7 +28,7 @@ solved-row h w y is r = ap (λ (x : Layout). inSheetOrder x (solvedFor h w (scal
 
 -- the w of the first r rows stand in their places
 pub record Rows (h : List ℕ) (w : List Float) (y : Layout) (v : List Float) (r : ℕ) : Type 0 where
-  pub within : r ≤ y .p + 1
+  pub within : r ≤ lastRows y
   pub long : length v ≡ resultLengthOf y
   pub solved : Solved h w y r v
 
@@ -64,5 +65,5 @@ module _ {h : List ℕ} {w : List Float} {y : Layout} where
             rw (b, ← at, same) (vector-rows y ok from z done v fits ∙ solved-row h w y is r));
       }
 
-  pub rows-all : {v : List Float} {r : ℕ} → Rows h w y v r → y .p < r → Solved h w y (y .p + 1) v
+  pub rows-all : {v : List Float} {r : ℕ} → Rows h w y v r → y .p < r → Solved h w y (lastRows y) v
   rows-all e l s n = e.solved s (omega arith)

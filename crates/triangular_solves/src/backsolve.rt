@@ -2,7 +2,6 @@
 ghost use mathlib.Core.Path.{_≡_};
 ghost use Prim.Native.Nat.{_+_, _≤_};
 ghost use lib.ListN.{length};
-ghost use Rattle.heading_format.specs.Heading.{layoutOf};
 ghost use Rattle.heading_format.specs.Fits.{Fits};
 ghost use Rattle.profile.specs.Solves.{solvedFor};
 ghost use Rattle.solution_vectors.specs.Vectors.{blocksAt, withVector};
@@ -12,7 +11,7 @@ use layout::Layout;
 
 // Forward, then backward.
 pub fn backsolve_a_inv(layout: Layout, heading: &[u32], doubles: &[f64], v: &mut [f64], from: usize)
-    requires { ⌜ (layout ≡ layoutOf (now heading)) × Fits (now heading) (length (now doubles)) × (from + layout .q ≤ length (now v)) ⌝ }
+    requires { ⌜ Fits layout (now heading) (length (now doubles)) × (from + layout .q ≤ length (now v)) ⌝ }
     ensures { λ _. ⌜ now (v .exit) ≡ withVector layout from (solvedFor (now (heading .entry)) (now (doubles .entry)) (blocksAt layout from (now (v .entry)))) (now (v .entry)) ⌝ }
 {
     forward_solve::forward_solve_ld(layout, heading, doubles, v, from);

@@ -1,15 +1,11 @@
 // L' w = z, block by block from the last (document 01, Record 7; the Rust's `backward_solve_ld`), in place: the vector lies in v from `from` on in
 // sheet order.
 ghost use mathlib.Core.Path.{_≡_};
-ghost use Prim.Native.Nat.{_+_, _-_, _≤_, _<_, suc};
-ghost use lib.ListN.{length, drop};
-ghost use Rattle.rules.specs.Arithmetic.{ieee};
-ghost use Rattle.rules.specs.Cholesky.{at};
-ghost use Rattle.heading_format.specs.Heading.{layoutOf};
+ghost use Prim.Native.Nat.{_+_, _≤_, _<_};
+ghost use lib.ListN.{length};
 ghost use Rattle.heading_format.specs.Fits.{Fits};
-ghost use Rattle.workspace.specs.Memory.{workingBlock};
-ghost use Rattle.profile.specs.Solves.{factorShapeOf, backwardIn, subtractLater, backwardSolved};
-ghost use Rattle.solution_vectors.specs.Vectors.{blockAt, blocksAt, withBlockAt, withVector};
+ghost use Rattle.profile.specs.Solves.{backwardSolved};
+ghost use Rattle.solution_vectors.specs.Vectors.{blocksAt, turnedBackward, withVector};
 use crate::block_solves;
 use crate::cross_terms;
 use layout::Layout;
@@ -23,8 +19,8 @@ fn backward_block(
     from: usize,
     i: u64,
 )
-    requires { ⌜ (layout ≡ layoutOf (now heading)) × Fits (now heading) (length (now doubles)) × (i < layout .k) × (from + layout .q ≤ length (now v)) ⌝ }
-    ensures { λ _. ⌜ now (v .exit) ≡ withBlockAt layout from i (backwardIn (factorShapeOf (now (heading .entry)) (now (doubles .entry)) i) (workingBlock (now (heading .entry)) (now (doubles .entry)) i i) (subtractLater (now (heading .entry)) (now (doubles .entry)) i (drop (suc i) (blocksAt layout from (now (v .entry)))) (at ieee (blockAt layout from (now (v .entry)) i)) (layout .k - suc i))) (now (v .entry)) ⌝ }
+    requires { ⌜ Fits layout (now heading) (length (now doubles)) × (i < layout .k) × (from + layout .q ≤ length (now v)) ⌝ }
+    ensures { λ _. ⌜ now (v .exit) ≡ turnedBackward (now (heading .entry)) (now (doubles .entry)) layout from i (now (v .entry)) ⌝ }
 {
     let mut j = i + 1;
     while j < layout.k {
@@ -42,7 +38,7 @@ pub fn backward_solve_ld(
     v: &mut [f64],
     from: usize,
 )
-    requires { ⌜ (layout ≡ layoutOf (now heading)) × Fits (now heading) (length (now doubles)) × (from + layout .q ≤ length (now v)) ⌝ }
+    requires { ⌜ Fits layout (now heading) (length (now doubles)) × (from + layout .q ≤ length (now v)) ⌝ }
     ensures { λ _. ⌜ now (v .exit) ≡ withVector layout from (backwardSolved (now (heading .entry)) (now (doubles .entry)) (blocksAt layout from (now (v .entry))) (layout .k)) (now (v .entry)) ⌝ }
 {
     let mut i = layout.k;

@@ -3,12 +3,11 @@
 ghost use mathlib.Core.Path.{_≡_};
 ghost use Prim.Native.Nat.{_+_, _≤_, _<_};
 ghost use lib.ListN.{length};
-ghost use Rattle.heading_format.specs.Heading.{layoutOf};
 ghost use Rattle.heading_format.specs.Fits.{Fits};
 ghost use Rattle.solution_vectors.specs.Vectors.{solvedForwardIn, solvedBackwardIn};
 use block_places::block_kinds;
-use block_places::places;
 use block_places::sheet_rows;
+use layout::FactorKind;
 use layout::Layout;
 use re_factor::block_divide;
 use re_factor::block_solve;
@@ -22,17 +21,15 @@ pub fn forward_in(
     from: usize,
     i: u64,
 )
-    requires { ⌜ (layout ≡ layoutOf (now heading)) × Fits (now heading) (length (now doubles)) × (i < layout .k) × (from + layout .q ≤ length (now v)) ⌝ }
+    requires { ⌜ Fits layout (now heading) (length (now doubles)) × (i < layout .k) × (from + layout .q ≤ length (now v)) ⌝ }
     ensures { λ _. ⌜ now (v .exit) ≡ solvedForwardIn (now (heading .entry)) (now (doubles .entry)) layout from i (now (v .entry)) ⌝ }
 {
     let z = from + sheet_rows::first_row(layout, i as usize) as usize;
-    let off = places::working_at(layout, i, i);
-    let n = block_kinds::rows_of(layout, i);
-    if block_kinds::is_diagonal(layout, i) {
-        block_divide::divide(v, z, doubles, off, n);
-        return;
+    let b = block_places::block(layout, i, i);
+    match block_kinds::factor_kind(layout, i) {
+        FactorKind::Diagonal => block_divide::divide(v, z, doubles, b),
+        FactorKind::Packed => block_solve::forward(v, z, doubles, b),
     }
-    block_solve::forward(v, z, doubles, off, n);
 }
 
 // Going backward.
@@ -44,15 +41,13 @@ pub fn backward_in(
     from: usize,
     i: u64,
 )
-    requires { ⌜ (layout ≡ layoutOf (now heading)) × Fits (now heading) (length (now doubles)) × (i < layout .k) × (from + layout .q ≤ length (now v)) ⌝ }
+    requires { ⌜ Fits layout (now heading) (length (now doubles)) × (i < layout .k) × (from + layout .q ≤ length (now v)) ⌝ }
     ensures { λ _. ⌜ now (v .exit) ≡ solvedBackwardIn (now (heading .entry)) (now (doubles .entry)) layout from i (now (v .entry)) ⌝ }
 {
-    let first = from + sheet_rows::first_row(layout, i as usize) as usize;
-    let off = places::working_at(layout, i, i);
-    let n = block_kinds::rows_of(layout, i);
-    if block_kinds::is_diagonal(layout, i) {
-        block_divide::divide(v, first, doubles, off, n);
-        return;
+    let z = from + sheet_rows::first_row(layout, i as usize) as usize;
+    let b = block_places::block(layout, i, i);
+    match block_kinds::factor_kind(layout, i) {
+        FactorKind::Diagonal => block_divide::divide(v, z, doubles, b),
+        FactorKind::Packed => block_solve::backward(v, z, doubles, b),
     }
-    block_solve::backward(v, first, doubles, off, n);
 }

@@ -2,13 +2,9 @@
 ghost use mathlib.Core.Path.{_≡_};
 ghost use Prim.Native.Nat.{_+_, _≤_, _<_};
 ghost use lib.ListN.{length};
-ghost use Rattle.rules.specs.Arithmetic.{ieee};
-ghost use Rattle.rules.specs.Cholesky.{at};
-ghost use Rattle.heading_format.specs.Heading.{layoutOf};
 ghost use Rattle.heading_format.specs.Fits.{Fits};
-ghost use Rattle.workspace.specs.Memory.{workingBlock};
-ghost use Rattle.profile.specs.Solves.{factorShapeOf, forwardIn, subtractFirst, forwardSolved};
-ghost use Rattle.solution_vectors.specs.Vectors.{blockAt, blocksAt, withBlockAt, withVector};
+ghost use Rattle.profile.specs.Solves.{forwardSolved};
+ghost use Rattle.solution_vectors.specs.Vectors.{blocksAt, turnedForward, withVector};
 use crate::block_solves;
 use crate::cross_terms;
 use layout::Layout;
@@ -22,8 +18,8 @@ fn forward_block(
     from: usize,
     i: u64,
 )
-    requires { ⌜ (layout ≡ layoutOf (now heading)) × Fits (now heading) (length (now doubles)) × (i < layout .k) × (from + layout .q ≤ length (now v)) ⌝ }
-    ensures { λ _. ⌜ now (v .exit) ≡ withBlockAt layout from i (forwardIn (factorShapeOf (now (heading .entry)) (now (doubles .entry)) i) (workingBlock (now (heading .entry)) (now (doubles .entry)) i i) (subtractFirst (now (heading .entry)) (now (doubles .entry)) i (blocksAt layout from (now (v .entry))) (at ieee (blockAt layout from (now (v .entry)) i)) i)) (now (v .entry)) ⌝ }
+    requires { ⌜ Fits layout (now heading) (length (now doubles)) × (i < layout .k) × (from + layout .q ≤ length (now v)) ⌝ }
+    ensures { λ _. ⌜ now (v .exit) ≡ turnedForward (now (heading .entry)) (now (doubles .entry)) layout from i (now (v .entry)) ⌝ }
 {
     let mut j: u64 = 0;
     while j < i {
@@ -41,7 +37,7 @@ pub fn forward_solve_ld(
     v: &mut [f64],
     from: usize,
 )
-    requires { ⌜ (layout ≡ layoutOf (now heading)) × Fits (now heading) (length (now doubles)) × (from + layout .q ≤ length (now v)) ⌝ }
+    requires { ⌜ Fits layout (now heading) (length (now doubles)) × (from + layout .q ≤ length (now v)) ⌝ }
     ensures { λ _. ⌜ now (v .exit) ≡ withVector layout from (forwardSolved (now (heading .entry)) (now (doubles .entry)) (blocksAt layout from (now (v .entry))) (layout .k)) (now (v .entry)) ⌝ }
 {
     let mut i: u64 = 0;

@@ -10,16 +10,16 @@ pub mod scaled_row;
 ghost use mathlib.Core.Path.{_≡_};
 ghost use Prim.Native.Nat.{_+_};
 ghost use lib.ListN.{length};
-ghost use Rattle.heading_format.specs.Heading.{layoutOf};
 ghost use Rattle.heading_format.specs.Fits.{Fits};
 ghost use Rattle.solution_vectors.specs.result_places.Places.{resultLengthOf, Solved};
+ghost use Rattle.layout.specs.Shapes.{lastRows};
 use layout::Layout;
 use solution_vectors::result_places;
 
 // Rows 0 to p - 1, and the response's.
 pub fn solve_all(layout: Layout, heading: &[u32], doubles: &[f64], v: &mut [f64])
-    requires { ⌜ (layout ≡ layoutOf (now heading)) × Fits (now heading) (length (now doubles)) × (length (now v) ≡ resultLengthOf layout) ⌝ }
-    ensures { λ _. ⌜ Solved (now (heading .entry)) (now (doubles .entry)) layout (layout .p + 1) (now (v .exit)) ⌝ }
+    requires { ⌜ Fits layout (now heading) (length (now doubles)) × (length (now v) ≡ resultLengthOf layout) ⌝ }
+    ensures { λ _. ⌜ Solved (now (heading .entry)) (now (doubles .entry)) layout (lastRows layout) (now (v .exit)) ⌝ }
 {
     let p = layout.p as usize;
     let mut r = 0;

@@ -1,26 +1,23 @@
 // v of a fixed row (document 01, Record 7; the Rust's `scale_block_rhs_buf`): its loaded cells times theta, in sheet order.
 ghost use mathlib.Core.Path.{_≡_};
-ghost use Prim.Native.Nat.{_+_, _*_, _≤_, _<_};
+ghost use Prim.Native.Nat.{_+_, _≤_, _<_};
 ghost use lib.ListN.{length};
-ghost use Rattle.storage.specs.Runs.{tab};
-ghost use Rattle.storage.specs.Shape.{columns};
-ghost use Rattle.storage.specs.Part.{store};
+ghost use Rattle.storage.specs.Placed.{Lies, asColumns, read};
 ghost use Rattle.rules.specs.Arithmetic.{ieee};
 ghost use Rattle.rules.specs.Begin.{fixedCell};
-ghost use Rattle.block_runs.specs.blocks.Blocks.{block};
-ghost use Rattle.heading_format.specs.Heading.{layoutOf};
+ghost use Rattle.block_runs.specs.axpy.Axpy.{run};
 ghost use Rattle.heading_format.specs.Fits.{Fits};
 ghost use Rattle.workspace.specs.Memory.{thetaOf};
 ghost use Rattle.profile.specs.Solves.{scaledRow, blockIn};
 ghost use Rattle.solution_vectors.specs.Vectors.{withBlockAt, withVector};
 use block_places::block_kinds;
 use block_places::places;
-use block_places::sheet_rows;
 use layout::Layout;
+use storage::Block;
 
 // Theta of sorted block j: theta is kept in sheet order.
 pub fn theta_of(layout: Layout, heading: &[u32], doubles: &[f64], j: u64) -> f64
-    requires { ⌜ (layout ≡ layoutOf (now heading)) × Fits (now heading) (length (now doubles)) × (j < layout .k) ⌝ }
+    requires { ⌜ Fits layout (now heading) (length (now doubles)) × (j < layout .k) ⌝ }
     ensures { λ t. ⌜ t ≡ thetaOf (now (heading .entry)) (now (doubles .entry)) j ⌝ }
 {
     let t = j as usize;
@@ -28,25 +25,16 @@ pub fn theta_of(layout: Layout, heading: &[u32], doubles: &[f64], j: u64) -> f64
     doubles[places::theta_at(layout) + sheet]
 }
 
-// Row r of the n columns of `rows` doubles that lie in `doubles` from src on, times theta, into v from `to` on.
-fn scale_cells(
-    doubles: &[f64],
-    src: usize,
-    rows: usize,
-    n: usize,
-    r: usize,
-    theta: f64,
-    v: &mut [f64],
-    to: usize,
-)
-    requires { ⌜ (src + rows * n ≤ length (now doubles)) × (r < rows) × (to + n ≤ length (now v)) ⌝ }
-    ensures { λ _. ⌜ now (v .exit) ≡ store to (tab n (λ c. fixedCell ieee theta (block src (columns rows n) (now (doubles .entry)) r c))) (now (v .entry)) ⌝ }
+// Row r of block a times theta, into v from `to` on.
+fn scale_cells(v: &mut [f64], to: usize, doubles: &[f64], a: Block, r: usize, theta: f64)
+    requires { ⌜ Lies (length (now doubles)) (asColumns a) × (r < a .rows) × (to + a .cols ≤ length (now v)) ⌝ }
+    ensures { λ _. ⌜ now (v .exit) ≡ run to (a .cols) (λ c. fixedCell ieee theta (read (asColumns a) (now (doubles .entry)) r c)) (now (v .entry)) ⌝ }
 {
-    let mut column = src;
+    let mut column = a.at;
     let mut c = 0;
-    while c < n {
+    while c < a.cols {
         v[to + c] = doubles[column + r] * theta;
-        column += rows;
+        column += a.rows;
         c += 1;
     }
 }
@@ -61,18 +49,20 @@ fn scale_block(
     r: usize,
     j: u64,
 )
-    requires { ⌜ (layout ≡ layoutOf (now heading)) × Fits (now heading) (length (now doubles)) × (r ≤ layout .p) × (j < layout .k) × (from + layout .q ≤ length (now v)) ⌝ }
+    requires { ⌜ Fits layout (now heading) (length (now doubles)) × (r ≤ layout .p) × (j < layout .k) × (from + layout .q ≤ length (now v)) ⌝ }
     ensures { λ _. ⌜ now (v .exit) ≡ withBlockAt layout from j (blockIn (scaledRow (now (heading .entry)) (now (doubles .entry)) r) j) (now (v .entry)) ⌝ }
 {
     let theta = theta_of(layout, heading, doubles, j);
-    let to = from + sheet_rows::first_row(layout, j as usize) as usize;
-    let n = block_kinds::rows_of(layout, j);
-    let rows = block_kinds::rows_of(layout, layout.k);
-    let src = places::loaded_at(layout, layout.k, j);
-    scale_cells(doubles, src, rows, n, r, theta, v, to);
+    let to = solution_vectors::block_start(layout, v, from, j);
+    let a = Block {
+        at: places::loaded_at(layout, layout.k, j),
+        rows: block_kinds::rows_of(layout, layout.k),
+        cols: block_kinds::rows_of(layout, j),
+    };
+    scale_cells(v, to, doubles, a, r, theta);
 }
 
-// Row r of the fixed rows, the response's being row p: the q doubles of v from `from` on.
+// Row r of the fixed rows: the q doubles of v from `from` on.
 pub fn scale_row(
     layout: Layout,
     heading: &[u32],
@@ -81,7 +71,7 @@ pub fn scale_row(
     from: usize,
     r: usize,
 )
-    requires { ⌜ (layout ≡ layoutOf (now heading)) × Fits (now heading) (length (now doubles)) × (r ≤ layout .p) × (from + layout .q ≤ length (now v)) ⌝ }
+    requires { ⌜ Fits layout (now heading) (length (now doubles)) × (r ≤ layout .p) × (from + layout .q ≤ length (now v)) ⌝ }
     ensures { λ _. ⌜ now (v .exit) ≡ withVector layout from (scaledRow (now (heading .entry)) (now (doubles .entry)) r) (now (v .entry)) ⌝ }
 {
     let mut j: u64 = 0;

@@ -20,22 +20,14 @@ use Rattle.update.specs.declared.StepName.the-variants.{S as Subtract, C
 use Rattle.update.specs.Names.{stepOfName}
 use Rattle.update.specs.Compute.{steps}
 use Rattle.update.specs.Calls.{beginOf, stepOf, runOf}
+use Rattle.layout.proofs.Made.{layoutWith}
 
 abbrev one : Float
 one = word 0x3ff0000000000000
 
 abbrev layout : Layout
 layout =
-    record {
-      n = 3;
-      p = 1;
-      q = 3;
-      k = 2;
-      m = 2 ∷ 1 ∷ replicate 6 0;
-      order = 1 ∷ 0 ∷ replicate 6 0;
-      sparse = false;
-      diagonal = false;
-    }
+    layoutWith 3 1 3 2 (2 ∷ 1 ∷ replicate 6 0) (1 ∷ 0 ∷ replicate 6 0) false false
 
 -- 14 loaded numbers and 17 working doubles; loaded block (2,2) has rows 1 and 1, 9
 unfoldable fresh : Workspace
@@ -125,7 +117,7 @@ others-stay = refl
 -- ---- the slip of `rank_sub_diagonal`, which skips a diagonal S for all rows: block 1 a diagonal, its cells chosen by the loaded numbers
 abbrev diagonal : ℕ → Layout
 diagonal m =
-    record { n = 3; p = 1; q = 2 + m; k = 2; m = 2 ∷ m ∷ replicate 6 0; order = 0 ∷ 1 ∷ replicate 6 0; sparse = false; diagonal = true }
+    layoutWith 3 1 (2 + m) 2 (2 ∷ m ∷ replicate 6 0) (0 ∷ 1 ∷ replicate 6 0) false true
 
 unfoldable after : ℕ → List Float → List Float → List Step → Outcome
 unfolding steps written progressNumbers beginOf runOf

@@ -11,10 +11,11 @@ use Rattle.storage.specs.Shape.{packed, columns}
 use Rattle.workspace.specs.Compute.{word, words}
 use Rattle.update.specs.Compute.{steps}
 use Rattle.update.specs.Working.{subtracted, solved}
+use Rattle.layout.proofs.Made.{layoutWith}
 
 -- k blocks of m levels; p = 1, so that the last triangle has two rows as well
 abbrev layout : (k : ℕ) (m : List ℕ) (thin : Bool) → Layout
-layout k m thin = record { n = 3; p = 1; q = 6; k = k; m = m; order = 0 ∷ 1 ∷ 2 ∷ replicate 5 0; sparse = thin; diagonal = thin }
+layout k m thin = layoutWith 3 1 6 k m (0 ∷ 1 ∷ 2 ∷ replicate 5 0) thin thin
 
 -- three cells of 1.94; two columns of two rows: 1.8, 0.67 and 0.79, 0.42
 abbrev target : List Float

@@ -4,7 +4,7 @@ use mathlib.Core.Bool.{Bool, true, false}
 use mathlib.Core.List.{List, [], _∷_}
 use mathlib.Core.Option.{Option, none, some}
 use lib.Dec.{eqb}
-use lib.ListN.{length, getD}
+use lib.ListN.{length}
 use lib.Ieee.{Float}
 use Rattle.storage.specs.Runs.{start, triangle}
 use Rattle.storage.specs.Part.{store}
@@ -18,7 +18,7 @@ use Rattle.refusal.specs.declared.Answer.{Answer}
 use Rattle.refusal.specs.declared.Answer.the-variants.{Accepted, Refused}
 use Rattle.refusal.specs.Numbers.{refuse}
 use Rattle.heading_format.specs.Marked.{marked}
-use Rattle.layout.specs.Shapes.{Target, pick, targets, thetaAt, workingAt, sumAt}
+use Rattle.layout.specs.Shapes.{Target, pick, targets, thetaAt, workingAt, sumAt, thetaLength}
 use Rattle.heading_format.specs.Heading.{layoutOf, progressOf, stageOf, entryRow, validHeading, idle, underWay}
 use Rattle.workspace.specs.Memory.{Workspace, loadedBlock, workingBlock, loadedSome, logSum, headingWith, cleared}
 use Rattle.workspace.specs.Answers.{Outcome, workspace, untouched, firstInfinite, unlessAt}
@@ -31,28 +31,27 @@ advanced g s = marked g (start triangle (row s) + col s) (suc (index s))
 
 -- ---- begin
 -- the working blocks, written one after the other
-unfoldable pub storeScaled : List ℕ → List Float → (ℕ → Float) → List Target → List Float → List Float
-storeScaled h w t [] v = v
-storeScaled h w t (b ∷ l) v =
+unfoldable pub storeScaled : List ℕ → List Float → (theta : List Float) → List Target → List Float → List Float
+storeScaled h w theta [] v = v
+storeScaled h w theta (b ∷ l) v =
     let y = layoutOf h in
-    storeScaled h w t l
-    (store (workingAt y (b .row) (b .col)) (scaled y (entryRow h) (loadedSome h w) t (b .row) (b .col) (loadedBlock h w (b .row) (b .col))) v)
+    storeScaled h w theta l
+    (store (workingAt y (b .row) (b .col)) (scaled y (entryRow h) (loadedSome h w) theta (b .row) (b .col) (loadedBlock h w (b .row) (b .col))) v)
 
--- theta kept, the blocks started, the sum +0.0; every step is left. theta is in sheet order, and sorted block j has that of its sheet index.
+-- theta kept, the blocks started, the sum +0.0; every step is left
 unfoldable pub begun : List ℕ → List Float → List Float → Workspace
 unfolding storeScaled
 begun h w theta =
     let y = layoutOf h in
-    let t : ℕ → Float = λ j. getD theta (getD (y .order) j 0) (ieee .zero) in
     workspace (headingWith h (underWay (y .k)))
-    (store (sumAt y) (ieee .zero ∷ []) (storeScaled h w t (targets (y .k)) (store (thetaAt y) theta w)))
+    (store (sumAt y) (ieee .zero ∷ []) (storeScaled h w theta (targets (y .k)) (store (thetaAt y) theta w)))
 
 -- 20, then 13, then 14
 unfoldable pub beginOf : List ℕ → List Float → List Float → Outcome
 unfolding validHeading begun firstInfinite
 beginOf h w theta =
     pick (validHeading h (length w))
-    (pick (eqb (length theta) (layoutOf h .k))
+    (pick (eqb (length theta) (thetaLength (layoutOf h)))
     (unlessAt (firstInfinite 0 theta) (λ i. untouched h w 14 0 i) (record { answer = Accepted; left = begun h w theta }))
     (untouched h w 13 0 0))
     (untouched h w 20 0 0)

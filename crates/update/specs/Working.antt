@@ -13,8 +13,10 @@ use Rattle.rules.specs.Begin.{diagonalCell, crossCell, fixedCell}
 use Rattle.rules.specs.Steps.{subtractDense, subtractDiagonal, subtractLast, subtractSparse, divide}
 use Rattle.rules.specs.Cholesky.{at, forward, factor, radicand, pivots, logsOfFirst, logsOfLater}
 use Rattle.layout.specs.declared.Layout.{Layout}
-use Rattle.layout.specs.Shapes.{pick, levels, shape, loadedShape}
-use Rattle.workspace.specs.Memory.{cellOf}
+use Rattle.layout.specs.declared.FactorKind.{FactorKind}
+use Rattle.layout.specs.declared.FactorKind.the-variants.{Diagonal, Packed}
+use Rattle.layout.specs.Shapes.{pick, blockRows, factorKind, shape, loadedShape}
+use Rattle.workspace.specs.Memory.{cellOf, sortedTheta}
 
 -- ---- C on a block of a shape: the roots of a diagonal, or the Cholesky factor of a triangle
 unfoldable pub factored : Shape → List Float → List Float
@@ -44,11 +46,13 @@ solved s (diagonal n) t f = fill s (divide ieee (cellOf s t) (λ c. cellOf (diag
 solved s (columns rows cols) t f = t
 solved s (entries cols row) t f = t
 
+-- ---- S(j,j,h) of a factor, 0 < j, by its kind; `loaded` tells which cells of pair (1,0) were loaded non-zero
+abbrev pub subtractOwn : FactorKind → (loaded : ℕ → ℕ → Bool) (T A B : ℕ → ℕ → Float) → ℕ → ℕ → ℕ → Float
+subtractOwn Diagonal loaded T A B inner = subtractDiagonal ieee loaded T A inner
+subtractOwn Packed loaded T A B inner = subtractDense ieee T A B inner
+
 -- A workspace's rules depend on its layout y, on the row of each sparse column's entry, and on which cells of pair (1,0) were loaded non-zero.
 module _ (y : Layout) (row : ℕ → ℕ) (loaded : ℕ → ℕ → Bool) where
-  abbrev pub isDiagonal : ℕ → Bool
-  isDiagonal j = y .diagonal && eqb j 1
-
   -- S(i,j,h) of blocks (i,j), (i,h), (j,h)
   unfoldable pub subtracted : ℕ → ℕ → ℕ → List Float → List Float → List Float → List Float
   unfolding shape
@@ -56,10 +60,10 @@ module _ (y : Layout) (row : ℕ → ℕ) (loaded : ℕ → ℕ → Bool) where
       let T = cellOf (shape y row i j) t in
       let A = cellOf (shape y row i h) a in
       let B = cellOf (shape y row j h) b in
-      let inner = levels y h in
+      let inner = blockRows y h in
       fill (shape y row i j)
       (pick (eqb j (y .k)) (subtractLast ieee T A inner)
-      (pick (eqb i j && isDiagonal j) (subtractDiagonal ieee loaded T A inner)
+      (pick (eqb i j) (subtractOwn (factorKind y j) loaded T A B inner)
       (pick (eqb i (y .k) && y .sparse) (subtractSparse ieee row T A (λ x. getD b x (ieee .zero)) inner) (subtractDense ieee T A B inner))))
 
   -- the logarithms' sum with those of factor j: block 0's one by one, a later one's from 0.0, block k's not
@@ -83,10 +87,11 @@ module _ (y : Layout) (row : ℕ → ℕ) (loaded : ℕ → ℕ → Bool) where
         logs = logged;
       }
 
-  -- ---- begin: block (i, j) from its loaded block, t being theta of each sorted block
-  unfoldable pub scaled : (t : ℕ → Float) → ℕ → ℕ → List Float → List Float
+  -- ---- begin: block (i, j) from its loaded block
+  unfoldable pub scaled : (theta : List Float) → ℕ → ℕ → List Float → List Float
   unfolding shape loadedShape
-  scaled t i j a =
+  scaled theta i j a =
+      let t = sortedTheta y theta in
       let a' = cellOf (loadedShape y row i j) a in
       pick (eqb j (y .k)) a
       (fill (shape y row i j)

@@ -14,8 +14,8 @@ use Rattle.refusal.specs.declared.Refusal.{Refusal}
 use Rattle.refusal.specs.Numbers.{refusal}
 use Rattle.layout.specs.declared.Layout.{Layout}
 use Rattle.heading_format.specs.declared.Progress.{Progress}
-use Rattle.layout.specs.Shapes.{pick, levels, shape, workingAt, numbersNeeded, doublesNeeded}
-use Rattle.heading_format.specs.Heading.{layoutOf, progressOf, entryRow, every, validLayout, validProgress, validHeading}
+use Rattle.layout.specs.Shapes.{pick, levels, shape, workingAt, doublesNeeded}
+use Rattle.heading_format.specs.Heading.{layoutOf, progressOf, entryRow, every, validLayout, validProgress, validHeading, numbersNeeded}
 use Rattle.workspace.specs.Memory.{cellOf, workingBlock}
 use Rattle.profile.specs.Deviance.{isFinished, logDeterminant}
 use Rattle.block_places.proofs.block_sizes.Sizes.{doubles-small}
@@ -27,6 +27,7 @@ use Rattle.block_places.specs.block_kinds.Rows.{rowsOf}
 use Rattle.views.specs.pivot_places.Pivots.{isPivot, pivotAt}
 use Rattle.views.specs.Views.{refusalOfStepsLeft, refusalOfView, stepsLeftOf, finishedView, pivotView}
 use Rattle.views.proofs.pivot_places.Places.{shape-is}
+use Rattle.heading_format.specs.Parts.{sparseAt, diagonalAt, progressAt, headingLength}
 
 -- ---- 20 by the heading alone: more doubles than any workspace has are as good as those that it needs
 enough : (a b c d e f g x z i : Bool) → (e ≡ true → x ≡ z) → (a && b && c && d && e && f && g && x && i) ≡ (a && b && c && d && e && f && g && z && i)
@@ -41,7 +42,7 @@ pub valid-heading-alone : (h : List ℕ) → validHeading h 2199023255552 ≡ va
 unfolding validHeading
 valid-heading-alone h =
     let y : Layout = layoutOf h in
-    enough (leb 128 (length h)) (leb (getD h 20 0) 1) (leb (getD h 21 0) 1) (leb (getD h 22 0) 2) (validLayout y) (validProgress y.k (progressOf h))
+    enough (leb headingLength (length h)) (leb (getD h sparseAt 0) 1) (leb (getD h diagonalAt 0) 1) (leb (getD h progressAt 0) 2) (validLayout y) (validProgress y.k (progressOf h))
     (leb (numbersNeeded y) (length h)) (leb (doublesNeeded y) 2199023255552) (leb (doublesNeeded y) (doublesNeeded y))
     (not y.sparse || every (λ c. ltb (entryRow h c) (levels y 1)) (levels y 0))
     (λ ok. le-leb (doublesNeeded y) 2199023255552 (omega (arith, doubles-small y ok)) ∙ sym (le-leb (doublesNeeded y) (doublesNeeded y) (omega arith)))

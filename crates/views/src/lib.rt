@@ -3,13 +3,13 @@
 pub mod pivot_places;
 
 ghost use mathlib.Core.Path.{_≡_};
-ghost use mathlib.Core.Bool.{true};
 ghost use Prim.Native.Nat.{_<_, _≤_};
 ghost use lib.ListN.{length};
-ghost use Rattle.layout.specs.Shapes.{doublesNeeded};
-ghost use Rattle.heading_format.specs.Heading.{progressOf, validLayout};
+ghost use Rattle.heading_format.specs.Heading.{progressOf};
 ghost use Rattle.profile.specs.Deviance.{isFinished};
 ghost use Rattle.views.specs.Views.{stepsLeftOf, determinantOf, pivotOf, pivotView};
+ghost use Rattle.heading_format.specs.Parts.{headingLength};
+ghost use Rattle.heading_format.specs.Fits.{Room};
 use block_places::block_kinds;
 use deviance::deviance_tail;
 use deviance::is_finished;
@@ -46,7 +46,7 @@ pub fn steps_left(heading: &[u32]) -> StepsLeft
 
 // Whether the factor of a workspace is finished.
 fn has_factor(heading: &[u32]) -> bool
-    requires { ⌜ 128 ≤ length (now heading) ⌝ }
+    requires { ⌜ headingLength ≤ length (now heading) ⌝ }
     ensures { λ r. ⌜ r ≡ isFinished (progressOf (now (heading .entry)) .state) ⌝ }
 {
     let progress = heading::progress(heading);
@@ -69,7 +69,7 @@ pub fn log_determinant(heading: &[u32], doubles: &[f64]) -> View
 
 // Pivot r of block j where there is one.
 fn pivot_or_absent(layout: Layout, doubles: &[f64], j: u64, r: u64) -> View
-    requires { ⌜ (validLayout layout ≡ true) × (doublesNeeded layout ≤ length (now doubles)) ⌝ }
+    requires { ⌜ Room layout (length (now doubles)) ⌝ }
     ensures { λ v. ⌜ v ≡ pivotView layout (now (doubles .entry)) j r ⌝ }
 {
     if j <= layout.k {

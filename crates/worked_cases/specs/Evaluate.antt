@@ -30,6 +30,7 @@ use Rattle.worked_cases.specs.Table.{oneReadingLine, oneWord, CountCase,
 use Rattle.layout.specs.declared.Layout.{Layout}
 use Rattle.workspace.specs.Memory.{Workspace}
 use Rattle.workspace.specs.Loaded.{withStorage, layoutOfSheet}
+use Rattle.heading_format.specs.Parts.{headingLength}
 
 unfoldable pub sheetBytes : List ℕ
 unfolding ended
@@ -51,7 +52,7 @@ outputBytes = ended outputLines
 -- a sheet without a refusal 1 to 9, loaded into a workspace that has room for the worked sheet's 14 doubles
 unfoldable pub loaded : List ℕ → Call
 unfolding steps readingHere loadOf
-loaded s = loadOf s (readingHere s) (replicate 128 0) (replicate 14 (Ieee.ofBits binary64 0))
+loaded s = loadOf s (readingHere s) (replicate headingLength 0) (replicate 14 (Ieee.ofBits binary64 0))
 
 -- the same, begun with one theta, and some steps done
 unfoldable pub stepsDone : List ℕ → ℕ → List Step → Call
@@ -92,7 +93,7 @@ thetaIn s (refused number line) = []
 
 unfoldable pub loadedFirst : Outcome → Call
 unfolding steps Load.loadSheet
-loadedFirst o = Load.loadParsed o (replicate 128 0) (replicate 200 (Ieee.ofBits binary64 0))
+loadedFirst o = Load.loadParsed o (replicate headingLength 0) (replicate 200 (Ieee.ofBits binary64 0))
 
 -- the words of the solution's list of a sheet with its theta part
 unfoldable pub solutionBits : List ℕ → ℕ → ℕ → List ℕ

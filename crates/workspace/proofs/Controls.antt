@@ -19,7 +19,9 @@ use Rattle.workspace.specs.Memory.{thetaOf}
 use Rattle.workspace.specs.Answers.{Outcome, untouched, firstInfinite}
 use Rattle.workspace.specs.Loaded.{layoutOfSheet, entryRowIn, rowOf}
 use Rattle.workspace.specs.Load.{loadSheet}
-use Rattle.workspace.specs.Response.{replaceOf}
+use Rattle.workspace.specs.Response.{Response, response, replaceOf}
+use Rattle.heading_format.specs.Parts.{progressAt, progressEnd, headingLength}
+use Rattle.sheet.proofs.Made.{countsWith}
 
 abbrev at : ℕ → ℕ → ℕ → Entry
 at col row w = record { line = 0; col = col; row = row; word = w }
@@ -27,7 +29,7 @@ at col row w = record { line = 0; col = col; row = row; word = w }
 abbrev sheet : Sheet
 sheet =
     record {
-      counts = record { n = 5; p = 1; q = 3; k = 2; flag = 1 };
+      counts = countsWith 5 1 3 2 1;
       blocks = record { m = 1; e = 1 } ∷ record { m = 2; e = 1 } ∷ [];
       zz = at 0 0 1 ∷ at 0 1 2 ∷ at 0 2 3 ∷ at 1 0 2 ∷ at 1 1 4 ∷ at 2 0 3 ∷ [];
       zx = 6 ∷ 7 ∷ 8 ∷ [];
@@ -75,30 +77,33 @@ unfolding loaded
 short-heading = refl
 
 -- ---- a response: Z'y by sheet rows, X'y, y'y, on a workspace whose working doubles are 99
-unfoldable replaced : List Float → List Float → List Float → Outcome
+unfoldable replaced : Response → Outcome
 unfolding loaded replaceOf
-replaced zy xy yy = let v = loaded 33 .left in replaceOf v.heading (take 14 v.doubles ++ replicate 19 (word 99)) zy xy yy
+replaced r = let v = loaded 33 .left in replaceOf v.heading (take 14 v.doubles ++ replicate 19 (word 99)) r
+
+abbrev good : Response
+good = response (word 20 ∷ word 21 ∷ word 22 ∷ []) (word 23 ∷ []) (word 24 ∷ [])
 
 response-writes :
-    words (replaced (word 20 ∷ word 21 ∷ word 22 ∷ []) (word 23 ∷ []) (word 24 ∷ []) .left .doubles)
+    words (replaced good .left .doubles)
     ≡ 4 ∷ 0 ∷ 1 ∷ 2 ∷ 3 ∷ 7 ∷ 21 ∷ 8 ∷ 22 ∷ 6 ∷ 20 ∷ 12 ∷ 23 ∷ 24 ∷ replicate 19 99
 unfolding replaced
 response-writes = refl
 
 -- every length before any word, and the place of a word
-lengths-first : refusalOf (replaced (word 20 ∷ nan ∷ word 22 ∷ []) [] (nan ∷ []) .answer) ≡ refusal 13 1 0
+lengths-first : refusalOf (replaced (response (word 20 ∷ nan ∷ word 22 ∷ []) [] (nan ∷ [])) .answer) ≡ refusal 13 1 0
 unfolding replaced
 lengths-first = refl
 
-last-length : refusalOf (replaced (word 20 ∷ nan ∷ word 22 ∷ []) (nan ∷ []) [] .answer) ≡ refusal 13 2 0
+last-length : refusalOf (replaced (response (word 20 ∷ nan ∷ word 22 ∷ []) (nan ∷ []) []) .answer) ≡ refusal 13 2 0
 unfolding replaced
 last-length = refl
 
-second-word : refusalOf (replaced (word 20 ∷ nan ∷ word 22 ∷ []) (nan ∷ []) (nan ∷ []) .answer) ≡ refusal 14 0 1
+second-word : refusalOf (replaced (response (word 20 ∷ nan ∷ word 22 ∷ []) (nan ∷ []) (nan ∷ [])) .answer) ≡ refusal 14 0 1
 unfolding replaced
 second-word = refl
 
-third-list : refusalOf (replaced (word 20 ∷ word 21 ∷ word 22 ∷ []) (word 23 ∷ []) (inf true ∷ []) .answer) ≡ refusal 14 2 0
+third-list : refusalOf (replaced (response (word 20 ∷ word 21 ∷ word 22 ∷ []) (word 23 ∷ []) (inf true ∷ [])) .answer) ≡ refusal 14 2 0
 unfolding replaced
 third-list = refl
 
@@ -109,23 +114,23 @@ first-of-two = refl
 
 -- An update that is under way ends, and so does a finished one: state 2, no step left, each target at its last stage.
 ends-update :
-    take 69 (replaceOf (set (loaded 33 .left .heading) 22 1) (loaded 33 .left .doubles) (word 20 ∷ word 21 ∷ word 22 ∷ []) (word 23 ∷ []) (word 24 ∷ []) .left .heading)
-    ≡ take 69 (loaded 33 .left .heading)
+    take progressEnd (replaceOf (set (loaded 33 .left .heading) progressAt 1) (loaded 33 .left .doubles) good .left .heading)
+    ≡ take progressEnd (loaded 33 .left .heading)
 unfolding loaded replaceOf
 ends-update = refl
 
 abbrev finished : List ℕ
-finished = take 22 (loaded 33 .left .heading) ++ (2 ∷ 0 ∷ 1 ∷ 1 ∷ 2 ∷ 1 ∷ 2 ∷ 3 ∷ replicate 98 0)
+finished = take progressAt (loaded 33 .left .heading) ++ (2 ∷ 0 ∷ 1 ∷ 1 ∷ 2 ∷ 1 ∷ 2 ∷ 3 ∷ replicate 98 0)
 
 ends-finished :
-    replaceOf finished (loaded 33 .left .doubles) (word 20 ∷ word 21 ∷ word 22 ∷ []) (word 23 ∷ []) (word 24 ∷ []) .left .heading
-    ≡ take 128 (loaded 33 .left .heading)
+    replaceOf finished (loaded 33 .left .doubles) good .left .heading
+    ≡ take headingLength (loaded 33 .left .heading)
 unfolding loaded replaceOf
 ends-finished = refl
 
 -- a heading against Record 5, here steps left one too many, is 20 before any list is looked at, and all stays
 heading-first :
-    replaceOf (set (loaded 33 .left .heading) 23 11) (loaded 33 .left .doubles) [] [] []
+    replaceOf (set (loaded 33 .left .heading) 23 11) (loaded 33 .left .doubles) (response [] [] [])
     ≡ untouched (set (loaded 33 .left .heading) 23 11) (loaded 33 .left .doubles) 20 0 0
 unfolding loaded replaceOf
 heading-first = refl
@@ -134,7 +139,7 @@ heading-first = refl
 abbrev wide : Sheet
 wide =
     record {
-      counts = record { n = 5; p = 1; q = 801; k = 3; flag = 1 };
+      counts = countsWith 5 1 801 3 1;
       blocks = record { m = 1; e = 1 } ∷ record { m = 400; e = 1 } ∷ record { m = 400; e = 1 } ∷ [];
       zz = [];
       zx = [];
@@ -149,7 +154,7 @@ unfolding leaves loadSheet
 pair-refused = refl
 
 -- and two of 400 levels without an entry with 11
-pair-full : loadSheet (record { counts = record { n = 5; p = 1; q = 800; k = 2; flag = 1 }; blocks = record { m = 400; e = 1 } ∷ record { m = 400; e = 1 } ∷ []; zz = []; zx = []; zy = []; xx = 12 ∷ []; xy = 13 ∷ []; yy = 14 }) [] [] ≡ untouched [] [] 11 1 0
+pair-full : loadSheet (record { counts = countsWith 5 1 800 2 1; blocks = record { m = 400; e = 1 } ∷ record { m = 400; e = 1 } ∷ []; zz = []; zx = []; zy = []; xx = 12 ∷ []; xy = 13 ∷ []; yy = 14 }) [] [] ≡ untouched [] [] 11 1 0
 unfolding leaves loadSheet
 pair-full = refl
 
@@ -157,7 +162,7 @@ pair-full = refl
 abbrev swapped : Sheet
 swapped =
     record {
-      counts = record { n = 5; p = 1; q = 4; k = 2; flag = 1 };
+      counts = countsWith 5 1 4 2 1;
       blocks = record { m = 2; e = 1 } ∷ record { m = 2; e = 1 } ∷ [];
       zz = at 0 3 1 ∷ at 1 2 1 ∷ at 2 1 1 ∷ at 3 0 1 ∷ [];
       zx = [];

@@ -20,8 +20,8 @@ use Rattle.sheet.specs.Sheet.{Sheet, accepted, refused, sheetOf}
 use Rattle.sheet.specs.Sheet as Sheets
 use Rattle.sheet.specs.Answer.{Answers}
 use Rattle.layout.specs.declared.Layout.{Layout}
-use Rattle.layout.specs.Shapes.{pick, pairs, numbersNeeded, doublesNeeded}
-use Rattle.heading_format.specs.Heading.{validHeading}
+use Rattle.layout.specs.Shapes.{pick, pairs, doublesNeeded}
+use Rattle.heading_format.specs.Heading.{validHeading, numbersNeeded}
 use Rattle.workspace.specs.Answers.{Outcome, accept, untouched}
 use Rattle.workspace.specs.Loaded.{firstRefusedPair, layoutOfSheet}
 use Rattle.workspace.specs.Load.{Loads, headingOf, doublesOf, hasRoom, afterGate, loadSheet, loadParsed, loadOf}

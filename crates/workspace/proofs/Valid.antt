@@ -13,7 +13,7 @@ use borrow.Author.Tests.{eqb-true, eqb-false, lt-ltb, le-ltb, le-leb, lt-leb, eq
 use Rattle.sheet.specs.Run.{Block, Entry}
 use Rattle.sheet.specs.Sheet.{Sheet, accepted, sheetOf}
 use Rattle.sheet.specs.declared.Starts.{Starts}
-use Rattle.sheet.specs.Fault.{levelsOf, faultNumber, hasSlope, coversRows, anyFaulty}
+use Rattle.sheet.specs.Fault.{coveredRows, faultNumber, hasSlope, coversRows, anyFaulty}
 use Rattle.sheet.specs.Whole.{Each, BlockInRange}
 use Rattle.sheet.proofs.Whole.{read-whole, alone-read}
 use Rattle.layout.specs.declared.Layout.{Layout}
@@ -93,8 +93,8 @@ levelsIn [] i = 0
 levelsIn (b ∷ l) zero = b.m
 levelsIn (b ∷ l) (suc i) = levelsIn l i
 
-pub sum-levels : (l : List Block) → sum (levelsIn l) (length l) ≡ levelsOf l
-unfolding levelsOf sum
+pub sum-levels : (l : List Block) → sum (levelsIn l) (length l) ≡ coveredRows l
+unfolding coveredRows sum
 sum-levels [] = refl
 sum-levels (b ∷ l) = sum-front (levelsIn (b ∷ l)) (length l) ∙ ap (λ (a : ℕ). b .m + a) (sum-levels l)
 
@@ -104,12 +104,12 @@ levels-range (b ∷ l) a zero h = a.0.m
 levels-range (b ∷ l) a (suc i) h = levels-range l a.1 i (omega arith)
 
 -- a sheet without a fault has a block, and its blocks cover its rows
-pub no-refusal : (sheet : Sheet) → faultNumber sheet ≡ 0 → (1 ≤ sheet .counts .k) × (sheet .counts .q ≡ levelsOf (sheet .blocks))
+pub no-refusal : (sheet : Sheet) → faultNumber sheet ≡ 0 → (1 ≤ sheet .counts .k) × (sheet .counts .q ≡ coveredRows (sheet .blocks))
 unfolding faultNumber
 no-refusal sheet e =
     let r = go (eqb sheet.counts.flag 0) (eqb sheet.counts.k 0) (hasSlope sheet) (coversRows sheet) (anyFaulty sheet) e in
     let some-block : sheet .counts .k ≡ 0 → ⊥ = eqb-false sheet.counts.k 0 r.0 in
-    (positive sheet.counts.k some-block, eqb-true sheet.counts.q (levelsOf sheet.blocks) r.1)
+    (positive sheet.counts.k some-block, eqb-true sheet.counts.q (coveredRows sheet.blocks) r.1)
   where
     go : (a b c d e : Bool) → _≡_ {A = ℕ} (cond a 5 (cond b 6 (cond c 7 (cond (not d) 8 (cond e 9 0))))) 0 → (b ≡ false) × (d ≡ true)
     go true b c d e h = absurd (omega arith)
@@ -171,7 +171,7 @@ module _ (sheet : Sheet) (few : sheet .counts .k ≤ 8) where
       (sorted-ext (sheetLevels (layoutOfSheet sheet) sheet.counts.k) (sheetM sheet) sheet.counts.k sheet-levels)
       ∙ same-refl list
 
-  pub total : length (sheet .blocks) ≡ sheet .counts .k → sum (levels (layoutOfSheet sheet)) (sheet .counts .k) ≡ levelsOf (sheet .blocks)
+  pub total : length (sheet .blocks) ≡ sheet .counts .k → sum (levels (layoutOfSheet sheet)) (sheet .counts .k) ≡ coveredRows (sheet .blocks)
   total e =
       sum-same (levels (layoutOfSheet sheet)) (λ j. sheetM sheet (getD list j 0)) sheet.counts.k levels-at
       ∙ ap (λ (n : ℕ). sum (λ j. sheetM sheet (getD list j 0)) n) (sym long)

@@ -25,6 +25,7 @@ use Rattle.workspace.specs.Loaded.{rowStart, inBlock, countOf, rowOf, of
 use Rattle.workspace.specs.Load.{headingOf}
 use Rattle.layout.proofs.Sums.{length-padded}
 use Rattle.workspace.proofs.Valid.{sparse-columns, sheet-valid}
+use Rattle.heading_format.specs.Parts.{mostTargets}
 
 -- ---- the rows of a sparse pair's entries
 
@@ -64,7 +65,7 @@ pub length-order : (sheet : Sheet) → length (layoutOfSheet sheet .order) ≡ 8
 unfolding layoutOfSheet sortedLayout
 length-order sheet = length-padded 8 (sorted (sheetM sheet) sheet.counts.k)
 
--- the rows behind the 128 numbers
+-- the rows behind the heading's parts
 abbrev rowsOf : Sheet → Layout → Bool → List ℕ
 rowsOf sheet y b = pick b (tab (levels y 0) (entryRowIn sheet y)) []
 
@@ -88,7 +89,7 @@ layout-valid-heading sheet rest doubles ok room =
     let k : y .k ≤ 8 = is-valid y ok .blocks .1 in
     ap (λ (h : List ℕ). validHeading h doubles) (append-assoc (written y (idle y.k)) (rowsOf sheet y y.sparse) rest)
     ∙ never-20 y (idle y.k) (rowsOf sheet y y.sparse ++ rest) doubles ok (idle-valid y.k k) (length-m sheet) (length-order sheet)
-    (length-replicate {A = ℕ} 45 0) (λ s. rows-right sheet y rest (sparse-columns sheet s .1) y.sparse s) room
+    (length-replicate {A = ℕ} mostTargets 0) (λ s. rows-right sheet y rest (sparse-columns sheet s .1) y.sparse s) room
 
 module _ (s : List ℕ) (sheet : Sheet) (starts : Starts) (read : sheetOf s ≡ accepted sheet starts) (fine : faultNumber sheet ≡ 0)
     (gate : firstRefusedPair sheet (layoutOfSheet sheet) (pairs (layoutOfSheet sheet .k)) ≡ none) (doubles : ℕ) (room : doublesNeeded (layoutOfSheet sheet) ≤ doubles) where

@@ -16,18 +16,17 @@ use Rattle.sheet.specs.Sheet as Sheets
 use Rattle.sheet.specs.Answer.{Answers}
 use Rattle.layout.specs.declared.Layout.{Layout}
 use Rattle.refusal.specs.declared.Refusal.{Refusal}
-use Rattle.refusal.specs.declared.Answer.the-variants.{Refused}
-use Rattle.layout.specs.Shapes.{pick, levels, pairs, numbersNeeded, doublesNeeded}
+use Rattle.layout.specs.Shapes.{pick, blockRows, pairs, doublesNeeded}
 use Rattle.layout.specs.Blocks.{sum}
-use Rattle.heading_format.specs.Heading.{written, idle, sheetLevels}
+use Rattle.heading_format.specs.Heading.{written, idle, sheetLevels, numbersNeeded}
 use Rattle.workspace.specs.Memory.{zeros}
-use Rattle.workspace.specs.Answers.{Outcome, accept, untouched, workspace}
+use Rattle.workspace.specs.Answers.{Outcome, accept, unchanged, untouched}
 use Rattle.workspace.specs.Loaded.{rowOf, firstRefusedPair, layoutOfSheet, entryRowIn, loadedNumbers}
 
 -- the heading of a sheet just loaded: progress none, and the rows of a sparse pair's entries
 unfoldable pub headingOf : Sheet → Layout → List ℕ
 unfolding written tab rowOf sum sheetLevels
-headingOf sheet y = written y (idle (y .k)) ++ pick (y .sparse) (tab (levels y 0) (entryRowIn sheet y)) []
+headingOf sheet y = written y (idle (y .k)) ++ pick (y .sparse) (tab (blockRows y 0) (entryRowIn sheet y)) []
 
 -- the doubles: the loaded numbers, and every working double +0.0
 unfoldable pub doublesOf : Sheet → Layout → List Float
@@ -39,7 +38,7 @@ abbrev pub hasRoom : Layout → List ℕ → List Float → Bool
 hasRoom y h w = leb (numbersNeeded y) (length h) && leb (doublesNeeded y) (length w)
 
 abbrev pub afterGate : Option Refusal → Sheet → Layout → List ℕ → List Float → Outcome
-afterGate (some r) sheet y h w = record { answer = Refused r; left = workspace h w }
+afterGate (some r) sheet y h w = unchanged h w r
 afterGate none sheet y h w = pick (hasRoom y h w) (accept (store 0 (headingOf sheet y) h) (store 0 (doublesOf sheet y) w)) (untouched h w 12 0 0)
 
 -- a sheet without a fault: 10 and 11, then 12; nothing past the formula is written

@@ -17,20 +17,23 @@ use Rattle.layout.specs.declared.Pair.the-variants.{Dense, Sparse, Refused as D
 use Rattle.refusal.specs.declared.Refusal.{Refusal}
 use Rattle.layout.specs.Blocks.{sum, each, sorted, padded}
 use Rattle.layout.specs.Gate.{pairOf, diagonalOf}
-use Rattle.layout.specs.Shapes.{Target, pick, levels, loadedShape, targets}
+use Rattle.layout.specs.Shapes.{Target, pick, levels, loadedShape, targets, responseRow, sheetIndex, blockRows}
 use Rattle.heading_format.specs.Heading.{every, isSparse, sheetLevels}
 
--- ---- rows keep sheet order: block 0 of the sheet has the first m rows, block 1 the next
+-- ---- rows keep sheet order: block 0 of the sheet has the first rows, one for each level, block 1 the next
+abbrev pub sheetRows : Layout → ℕ → ℕ
+sheetRows y = sheetLevels y (y .k)
+
 -- the first row of sorted block j
 abbrev pub rowStart : Layout → ℕ → ℕ
-rowStart y j = sum (sheetLevels y (y .k)) (getD (y .order) j 0)
+rowStart y j = sum (sheetRows y) (sheetIndex y j)
 
--- the row of its level c
+-- its row c
 abbrev pub sheetRow : Layout → ℕ → ℕ → ℕ
 sheetRow y j c = rowStart y j + c
 
 abbrev pub inBlock : Layout → ℕ → ℕ → Bool
-inBlock y j x = leb (rowStart y j) x && ltb x (rowStart y j + levels y j)
+inBlock y j x = leb (rowStart y j) x && ltb x (rowStart y j + blockRows y j)
 
 -- ---- entries
 unfoldable pub countOf : (Entry → Bool) → List Entry → ℕ
@@ -48,7 +51,7 @@ rowOf test [] = 0
 rowOf test (e ∷ l) = let rest = rowOf test l in cond (test e) (e .row) rest
 
 module _ (y : Layout) where
-  -- an entry of pair (i, j): its column is a level of block j, the larger one, its row a level of block i
+  -- an entry of pair (i, j): its column is a row of block j, the larger one, its row a row of block i
   abbrev pub ofPair : ℕ → ℕ → Entry → Bool
   ofPair i j e = inBlock y j (e .col) && inBlock y i (e .row)
 
@@ -59,7 +62,7 @@ module _ (y : Layout) where
 module _ (sheet : Sheet) (y : Layout) where
   -- each column has exactly one entry
   abbrev pub oneEach : ℕ → ℕ → Bool
-  oneEach i j = every (λ c. eqb (countOf (ofColumn y i j c) (sheet .zz)) 1) (levels y j)
+  oneEach i j = every (λ c. eqb (countOf (ofColumn y i j c) (sheet .zz)) 1) (blockRows y j)
 
   -- what the gate says of pair (i, j)
   unfoldable pub pairIn : ℕ → ℕ → Pair
@@ -121,15 +124,15 @@ entryRowIn sheet y c = rowOf (ofColumn y 1 0 c) (sheet .zz) - rowStart y 1
 abbrev pub double : ℕ → Float
 double w = Ieee.ofBits binary64 w
 
--- the words of the fixed rows of block j: Z'X, and Z'y in row p
+-- the words of the fixed rows of block j: Z'X, and Z'y in the response's row
 abbrev pub fixedWord : Sheet → Layout → ℕ → ℕ → ℕ → ℕ
 fixedWord sheet y j r c =
-    cond (eqb r (y .p)) (getD (sheet .zy) (sheetRow y j c) 0) (getD (sheet .zx) (sheetRow y j c * y .p + r) 0)
+    cond (eqb r (responseRow y)) (getD (sheet .zy) (sheetRow y j c) 0) (getD (sheet .zx) (sheetRow y j c * y .p + r) 0)
 
--- the words of the last triangle: X'X, and X'y and y'y in row p
+-- the words of the last triangle: X'X, and X'y and y'y in the response's row
 abbrev pub lastWord : Sheet → Layout → ℕ → ℕ → ℕ
 lastWord sheet y r c =
-    cond (eqb r (y .p)) (cond (eqb c (y .p)) (sheet .yy) (getD (sheet .xy) c 0)) (getD (sheet .xx) (start triangle r + c) 0)
+    cond (eqb r (responseRow y)) (cond (eqb c (responseRow y)) (sheet .yy) (getD (sheet .xy) c 0)) (getD (sheet .xx) (start triangle r + c) 0)
 
 -- the word of cell (r, c) of loaded block (i, j): fixed rows and the last triangle for i = k, else Z'Z
 abbrev pub loadedWord : Sheet → Layout → ℕ → ℕ → ℕ → ℕ → ℕ

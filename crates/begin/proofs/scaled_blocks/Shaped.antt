@@ -1,45 +1,33 @@
 -- What begin makes of a block of each kind, by the block's shape.
 use Prim.Native.Nat.{ℕ, _+_, _≤_, _<_}
-use mathlib.Core.Path.{_≡_, refl, ap, _∙_}
+use mathlib.Core.Path.{_≡_, refl, ap, ap₂, _∙_}
 use mathlib.Core.Bool.{Bool, true, false, cond}
 use mathlib.Core.List.{List}
 use native.Mathlib.Omega.{arith}
 use lib.Dec.{eqb}
 use lib.ListN.{length}
 use lib.Ieee.{Float}
-use borrow.Author.Tests.{eqb-true, eq-eqb, ne-eqb, lt-ltb, le-ltb}
-use Rattle.storage.specs.Shape.{Shape, packed, diagonal, fill}
+use borrow.Author.Tests.{eqb-true, eq-eqb, ne-eqb, le-ltb}
+use Rattle.storage.specs.Shape.{Shape, fill}
 use Rattle.storage.specs.Part.{part, store}
+use Rattle.storage.specs.Placed.{Placed}
 use Rattle.storage.proofs.Blocks.{length-fill}
 use Rattle.rules.specs.Arithmetic.{ieee}
 use Rattle.rules.specs.Begin.{diagonalCell, crossCell, fixedCell}
 use Rattle.layout.specs.declared.Layout.{Layout}
-use Rattle.layout.specs.Shapes.{pick, levels, shape, loadedShape, sizes, loadedSizes, loadedAt, workingAt, sumAt, doublesNeeded}
+use Rattle.layout.specs.Shapes.{pick, shape, loadedShape, sizes, loadedSizes, loadedAt, workingAt, sumAt, doublesNeeded}
 use Rattle.layout.proofs.Formula.{loaded-last}
 use Rattle.layout.proofs.Places.{size-working, size-loaded, loaded-inside, working-behind, working-inside}
-use Rattle.workspace.specs.Memory.{cellOf}
+use Rattle.workspace.specs.Memory.{cellOf, sortedTheta}
 use Rattle.re_factor.specs.Factor as factor
 use Rattle.cross_block.specs.Blocks.{scaledTwice, scaledOnce}
 use Rattle.update.specs.Working.{scaled}
-use Rattle.block_places.specs.block_kinds.Rows.{isDiagonal}
-use Rattle.block_places.proofs.block_kinds.Shapes.{rows-level, diagonal-shape, packed-shape, loaded-pair}
+use Rattle.block_places.specs.Working.{working, placed}
+use Rattle.block_places.proofs.block_kinds.Shapes.{loaded-pair}
+use Rattle.block_places.proofs.Placing.{is-loaded-factor}
 use Rattle.begin.specs.scaled_blocks.Scaled.{scaledBlock}
 
 -- ---- shapes
-
-module _ (y : Layout) (j : ℕ) where
-  module _ (row : ℕ → ℕ) (h : j < y .k) where
-    -- a diagonal factor, and a triangle
-    pub shape-diagonal : isDiagonal y j ≡ true → shape y row j j ≡ diagonal (levels y j)
-    shape-diagonal e = diagonal-shape y row j (λ q. omega arith) e ∙ ap diagonal (rows-level y j h)
-
-    pub shape-packed : isDiagonal y j ≡ false → shape y row j j ≡ packed (levels y j)
-    shape-packed e = packed-shape y row j (λ q. omega arith) e ∙ ap packed (rows-level y j h)
-
-    -- its loaded block
-    pub shape-loaded : loadedShape y row j j ≡ diagonal (levels y j)
-    unfolding loadedShape
-    shape-loaded = rw (eq-eqb j j refl, lt-ltb j y.k h) refl
 
 module _ (y : Layout) (row : ℕ → ℕ) where
   -- the last block is loaded as it works
@@ -64,14 +52,14 @@ room y len fits i j h g =
 
 -- ---- blocks
 
-module _ (y : Layout) (row : ℕ → ℕ) (t : ℕ → Float) where
+module _ (y : Layout) (row : ℕ → ℕ) (t : List Float) where
   -- `started` by its tests and its shapes
   abbrev made : (last fixed own : Bool) (s d : Shape) (i j : ℕ) → List Float → List Float
   made last fixed own s d i j a =
       pick last a
       (fill s
-      (pick fixed (λ r c. fixedCell ieee (t j) (cellOf d a r c))
-      (pick own (λ r c. cond (eqb r c) (diagonalCell ieee (t j) (cellOf d a r r)) ieee.zero) (λ r c. crossCell ieee (t j) (t i) (cellOf d a r c)))))
+      (pick fixed (λ r c. fixedCell ieee (sortedTheta y t j) (cellOf d a r c))
+      (pick own (λ r c. cond (eqb r c) (diagonalCell ieee (sortedTheta y t j) (cellOf d a r r)) ieee.zero) (λ r c. crossCell ieee (sortedTheta y t j) (sortedTheta y t i) (cellOf d a r c)))))
 
   pub is-made : (loaded : ℕ → ℕ → Bool) (i j : ℕ) (a : List Float)
       → scaled y row loaded t i j a ≡ made (eqb j (y .k)) (eqb i (y .k)) (eqb i j) (shape y row i j) (loadedShape y row i j) i j a
@@ -87,23 +75,24 @@ module _ (y : Layout) (row : ℕ → ℕ) (t : ℕ → Float) where
     unfolding scaledBlock
     block-made = ap (λ (l : List Float). store (workingAt y i j) l v) (is-made (λ r c. false) i j source)
 
-  -- a factor of shape s
-  pub factor-scaled : (j : ℕ) → j < y .k → (s : Shape) → shape y row j j ≡ s → (v : List Float)
-      → scaledBlock y row t j j v ≡ factor.scaled s (workingAt y j j) (levels y j) (loadedAt y j j) (t j) v
-  factor-scaled j h s e v =
+  -- a factor in its form
+  pub factor-scaled : (j : ℕ) → j < y .k → (v : List Float) {p : Placed} → placed y row j j ≡ p
+      → scaledBlock y row t j j v ≡ factor.scaled p (factor.loadedOf (working y j j) (loadedAt y j j)) (sortedTheta y t j) v
+  factor-scaled j h v e =
       block-made j j v
-      ∙ rw (ne-eqb j y.k (λ q. omega arith), eq-eqb j j refl, e, shape-loaded y j row h, shape-loaded y j (λ x. 0) h) refl
+      ∙ rw (ne-eqb j y.k (λ q. omega arith), eq-eqb j j refl, ← (size-loaded y row j j)) refl
+      ∙ ap₂ (λ (p d : Placed). factor.scaled p d (sortedTheta y t j) v) e (is-loaded-factor y row j h)
 
   -- a pair
   pub pair-scaled : (i j : ℕ) → j < i → i < y .k → (v : List Float)
-      → scaledBlock y row t i j v ≡ scaledTwice (shape y row i j) (workingAt y i j) (loadedAt y i j) (t j) (t i) v
+      → scaledBlock y row t i j v ≡ scaledTwice (shape y row i j) (workingAt y i j) (loadedAt y i j) (sortedTheta y t j) (sortedTheta y t i) v
   pair-scaled i j h g v =
       block-made i j v
       ∙ rw (ne-eqb j y.k (λ q. omega arith), ne-eqb i y.k (λ q. omega arith), ne-eqb i j (λ q. omega arith), ← (size-loaded y row i j), loaded-pair y row i j h) refl
 
   -- fixed rows
   pub fixed-scaled : (j : ℕ) → j < y .k → (v : List Float)
-      → scaledBlock y row t (y .k) j v ≡ scaledOnce (shape y row (y .k) j) (workingAt y (y .k) j) (loadedAt y (y .k) j) (t j) v
+      → scaledBlock y row t (y .k) j v ≡ scaledOnce (shape y row (y .k) j) (workingAt y (y .k) j) (loadedAt y (y .k) j) (sortedTheta y t j) v
   fixed-scaled j h v =
       block-made y.k j v
       ∙ rw (ne-eqb j y.k (λ q. omega arith), eq-eqb y.k y.k refl, ← (size-loaded y row y.k j), loaded-pair y row y.k j h) refl

@@ -10,11 +10,11 @@ use Rattle.begin.proofs.write.Tie as tie
 
 under-way-requires : tie.Need-under-way-requires
 under-way-requires c κs = let s = c.before.before.before.before.before.before.before.before in
-    few-blocks s.args.layout s.pre.1
+    few-blocks s.args.layout s.pre.1.valid
 
 write-progress-requires : tie.Need-write-progress-requires
 write-progress-requires c κs = let s = c.before.before.before.before.before.before.before.before.before in
-    (s.pre.0, subst SmallProgress (sym c.under-way.ensures) (under-way-small s.args.layout.k (few-blocks s.args.layout s.pre.1)))
+    (s.pre.0, subst SmallProgress (sym c.under-way.ensures) (under-way-small s.args.layout.k (few-blocks s.args.layout s.pre.1.valid)))
 
 returns : tie.Need-returns
 returns c = let s = c.before.before.before.before.before.before.before.before.before.before.before.before in

@@ -22,7 +22,7 @@ use Rattle.layout.proofs.Places.{size-loaded, loaded-inside, working-behind, th
 use Rattle.workspace.specs.Memory.{loadedBlock, loadedSome}
 use Rattle.update.specs.Working.{scaled}
 use Rattle.update.specs.Calls.{storeScaled}
-use Rattle.begin.specs.scaled_blocks.Scaled.{sortedTheta, scaledBlock, scaledBlocks, BlocksScaled}
+use Rattle.begin.specs.scaled_blocks.Scaled.{scaledBlock, scaledBlocks, BlocksScaled}
 use Rattle.begin.proofs.scaled_blocks.Shaped.{room, is-made, length-scaled}
 use Rattle.begin.specs.write_begin.Begun.{DoublesBegun}
 
@@ -69,7 +69,7 @@ SameLoaded y v w = (off n : ℕ) → off + n ≤ loadedLength y → part off n v
 same-behind : (y : Layout) (v w : List Float) (off : ℕ) (l : List Float) → off + length l ≤ length v → loadedLength y ≤ off → SameLoaded y v w → SameLoaded y (store off l v) w
 same-behind y v w off l fits behind same a n h = part-else off l v fits a n (inl (omega arith)) ∙ same a n h
 
-module _ (h : List ℕ) (w : List Float) (t : ℕ → Float) where
+module _ (h : List ℕ) (w : List Float) (t : List Float) where
   abbrev y : Layout
   y = layoutOf h
 
@@ -111,12 +111,12 @@ module _ (h : List ℕ) (w : List Float) (t : ℕ → Float) where
       (kept-loaded b.row b.col a g v fits same)
 
   -- all of them, behind theta
-  pub blocks-stored : (theta : List Float) → doublesNeeded y ≤ length w → length theta ≡ y .k
-      → storeScaled h w t (targets (y .k)) (store (thetaAt y) theta w) ≡ scaledBlocks y (entryRow h) t (targets (y .k)) (store (thetaAt y) theta w)
-  blocks-stored theta fits k =
-      let u : thetaAt y + length theta ≤ length w = omega (arith, theta-inside y) in
-      list-same (targets y.k) (range-targets y.k) (store (thetaAt y) theta w) (omega (arith, length-store (thetaAt y) theta w u))
-      (same-behind y w w (thetaAt y) theta u (omega arith) (λ off n g. refl))
+  pub blocks-stored : doublesNeeded y ≤ length w → length t ≡ y .k
+      → storeScaled h w t (targets (y .k)) (store (thetaAt y) t w) ≡ scaledBlocks y (entryRow h) t (targets (y .k)) (store (thetaAt y) t w)
+  blocks-stored fits k =
+      let u : thetaAt y + length t ≤ length w = omega (arith, theta-inside y) in
+      list-same (targets y.k) (range-targets y.k) (store (thetaAt y) t w) (omega (arith, length-store (thetaAt y) t w u))
+      (same-behind y w w (thetaAt y) t u (omega arith) (λ off n g. refl))
 
 -- ---- the calls
 
@@ -133,7 +133,7 @@ theta-stored theta w v at k e q =
 
 -- theta, the blocks and the sum
 pub doubles-begun : (y : Layout) (theta w v₁ v₂ : List Float) (at sum : ℕ) → at ≡ thetaAt y → sum ≡ sumAt y → v₁ ≡ store at theta w
-    → BlocksScaled y (sortedTheta y theta) (targets (y .k)) v₁ v₂ → sum < length v₂ → DoublesBegun y theta w (set v₂ sum (ieee .zero))
+    → BlocksScaled y theta (targets (y .k)) v₁ v₂ → sum < length v₂ → DoublesBegun y theta w (set v₂ sum (ieee .zero))
 doubles-begun y theta w v₁ v₂ at sum a s e f l row =
     stored-one v₂ sum ieee.zero l
     ∙ rw (s, f row, e, a) refl

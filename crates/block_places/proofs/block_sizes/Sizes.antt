@@ -1,22 +1,21 @@
 -- The cells of each block of a valid layout, loaded or working, in closed form and in bounds.
 use Prim.Native.Nat.{ℕ, _+_, _*_, _/_, _≤_, _<_}
 use mathlib.Core.Path.{_≡_, refl, sym, subst, _∙_}
-use mathlib.Core.Bool.{Bool, true, false, _&&_, and-eq-true-iff}
+use mathlib.Core.Bool.{Bool, true, false, _&&_}
 use mathlib.Core.Logic.{_⊎_, inl, inr, by-cases}
 use native.Mathlib.Decide.{decLt}
 use native.Mathlib.Nat.{mul-le-mul}
 use native.Mathlib.Omega.{arith}
-use lib.Dec.{eqb}
-use borrow.Author.Tests.{eqb-true}
 use Rattle.layout.specs.declared.Layout.{Layout}
-use Rattle.layout.specs.Shapes.{levels, sizes, factors, across, pairs, targets, cellsOf, loadedLength, doublesNeeded, sumAt}
+use Rattle.layout.specs.declared.FactorKind.{FactorKind}
+use Rattle.layout.specs.declared.FactorKind.the-variants.{Diagonal, Packed}
+use Rattle.layout.specs.Shapes.{levels, factorKind, sizes, factors, across, pairs, targets, cellsOf, doublesNeeded, sumAt, triangleEnd, lastRows}
 use Rattle.heading_format.specs.Heading.{validLayout}
 use Rattle.heading_format.proofs.Valid.{is-valid}
 use Rattle.layout.proofs.Formula.{
   cells-targets,
-  first-factor,
   diagonal-factor,
-  later-factor,
+  packed-factor,
   cross-dense,
   cross-sparse,
   fixed-size,
@@ -65,19 +64,15 @@ module _ (y : Layout) (ok : validLayout y ≡ true) where
   -- ---- closed forms, one for each way out of the code
 
   -- a factor that is a diagonal
-  pub kind-diagonal : (b : Bool) (j : ℕ) → j < y .k → (b ≡ true) ⊎ ((j ≡ 0) ⊎ ((y .diagonal ≡ true) × (j ≡ 1))) → sizesOf y b j j ≡ levels y j
+  pub kind-diagonal : (b : Bool) (j : ℕ) → j < y .k → (b ≡ true) ⊎ (factorKind y j ≡ Diagonal) → sizesOf y b j j ≡ levels y j
   kind-diagonal true j h why = loaded-factor y j h
   kind-diagonal false j h (inl e) = absurd (false-true e)
-  kind-diagonal false j h (inr (inl e)) =
-      subst (λ (x : ℕ). sizes y x x ≡ levels y x) (sym e) (first-factor y (omega arith))
-  kind-diagonal false j h (inr (inr d)) =
-      let e : j ≡ 1 = d.1 in
-      subst (λ (x : ℕ). sizes y x x ≡ levels y x) (sym e) (diagonal-factor y (omega arith) d.0)
+  kind-diagonal false j h (inr d) = diagonal-factor y j h d
 
-  -- and one that is a triangle
-  pub kind-triangle : (b : Bool) (j : ℕ) → j < y .k → b ≡ false → (j ≡ 0 → ⊥) → (y .diagonal && eqb j 1) ≡ false → sizesOf y b j j ≡ levels y j * (levels y j + 1) / 2
-  kind-triangle true j h e f d = absurd (false-true (sym e))
-  kind-triangle false j h e f d = sym (half-is (levels y j * (levels y j + 1)) (sizes y j j) (later-factor y j (by-cases (decLt 0 j) (λ l. l) (λ l. absurd (f (omega arith)))) h d))
+  -- and one that is packed
+  pub kind-packed : (b : Bool) (j : ℕ) → j < y .k → b ≡ false → factorKind y j ≡ Packed → sizesOf y b j j ≡ levels y j * (levels y j + 1) / 2
+  kind-packed true j h e d = absurd (false-true (sym e))
+  kind-packed false j h e d = sym (half-is (levels y j * (levels y j + 1)) (sizes y j j) (packed-factor y j h d))
 
   -- a pair, and fixed rows, are loaded as they work
   kind-other : (b : Bool) (i j : ℕ) → j < i → sizesOf y b i j ≡ sizes y i j
@@ -90,7 +85,7 @@ module _ (y : Layout) (ok : validLayout y ≡ true) where
   pub kind-dense : (b : Bool) (i j : ℕ) → j < i → i < y .k → y .sparse ≡ false → sizesOf y b i j ≡ levels y i * levels y j
   kind-dense b i j h g s = kind-other b i j h ∙ cross-dense y i j h g s
 
-  pub kind-fixed : (b : Bool) (j : ℕ) → j < y .k → sizesOf y b (y .k) j ≡ (y .p + 1) * levels y j
+  pub kind-fixed : (b : Bool) (j : ℕ) → j < y .k → sizesOf y b (y .k) j ≡ lastRows y * levels y j
   kind-fixed b j h = kind-other b y.k j h ∙ fixed-size y j h
 
   pub kind-last : (b : Bool) → sizesOf y b (y .k) (y .k) ≡ (y .p + 1) * (y .p + 2) / 2
@@ -101,13 +96,11 @@ module _ (y : Layout) (ok : validLayout y ≡ true) where
 
   factor-small : (b : Bool) (j : ℕ) → j < y .k → sizesOf y b j j ≤ many
   factor-small true j h = omega (arith, loaded-factor y j h, few-levels j h)
-  factor-small false j h = by-cases (decLt 0 j) (λ p. step (y.diagonal && eqb j 1) refl p) (λ p. omega (arith, kind-diagonal false j h (inr (inl (omega arith))), few-levels j h))
+  factor-small false j h = step (factorKind y j) refl
     where
-      step : (t : Bool) → (y .diagonal && eqb j 1) ≡ t → 0 < j → sizes y j j ≤ many
-      step true e p =
-          let k = and-eq-true-iff y.diagonal (eqb j 1) .0 e in
-          omega (arith, kind-diagonal false j h (inr (inr (k.0, eqb-true j 1 k.1))), few-levels j h)
-      step false e p = half-small (levels y j) (sizes y j j) (few-levels j h) (later-factor y j p h e)
+      step : (t : FactorKind) → factorKind y j ≡ t → sizes y j j ≤ many
+      step Diagonal e = omega (arith, diagonal-factor y j h e, few-levels j h)
+      step Packed e = half-small (levels y j) (sizes y j j) (few-levels j h) (packed-factor y j h e)
 
   pair-small : (b : Bool) (i j : ℕ) → j < i → i < y .k → sizesOf y b i j ≤ many
   pair-small b i j h g = step y.sparse refl
@@ -119,10 +112,10 @@ module _ (y : Layout) (ok : validLayout y ≡ true) where
   last-small : (b : Bool) (j : ℕ) → j ≤ y .k → sizesOf y b (y .k) j ≤ many
   last-small b j h =
       by-cases (decLt j y.k)
-      (λ l. omega (arith, kind-fixed b j l, product-small (y.p + 1) (levels y j) (omega (arith, few-effects)) (omega (arith, few-levels j l))))
+      (λ l. omega (arith, kind-fixed b j l, product-small (lastRows y) (levels y j) (omega (arith, few-effects)) (omega (arith, few-levels j l))))
       (λ l. let e : y .k ≡ j = omega arith in
       subst (λ (x : ℕ). sizesOf y b y.k x ≤ many) e
-      (omega (arith, kind-last b, product-small (y.p + 1) (y.p + 2) (omega (arith, few-effects)) (omega (arith, few-effects)))))
+      (omega (arith, kind-last b, product-small (lastRows y) (y.p + 2) (omega (arith, few-effects)) (omega (arith, few-effects)))))
 
   -- no block has many cells
   pub block-small : (b : Bool) (i j : ℕ) → j ≤ i → i ≤ y .k → sizesOf y b i j ≤ many
@@ -159,5 +152,5 @@ module _ (y : Layout) (ok : validLayout y ≡ true) where
 
   -- THE BOUND: a workspace of a valid layout has fewer than 2^41 doubles, so each of its places is far below 2^63.
   pub doubles-small : doublesNeeded y < 2199023255552
-  unfolding sumAt loadedLength
+  unfolding sumAt triangleEnd
   doubles-small = omega (arith, cells-small true, cells-small false, few-blocks)

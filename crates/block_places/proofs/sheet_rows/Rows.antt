@@ -13,25 +13,22 @@ use lib.Seq.{getD-take, getD-set-same, getD-set-other}
 use borrow.Author.Tests.{ltb-true, leb-true, lt-ltb, le-leb}
 use Rattle.layout.specs.declared.Layout.{Layout}
 use Rattle.layout.specs.Blocks.{sorted, sum}
-use Rattle.layout.specs.Shapes.{levels}
+use Rattle.layout.specs.Shapes.{levels, sheetIndex}
 use Rattle.layout.proofs.Sums.{sum-more, sum-small, sum-le}
 use Rattle.heading_format.specs.Heading.{sheetLevels, validLayout}
 use Rattle.heading_format.proofs.Valid.{is-valid}
 use Rattle.heading_format.proofs.Sorted.{all-at, length-sorted, below-sorted, same-lists, order-apart, levels-at}
 use Rattle.workspace.specs.Loaded.{rowStart, inBlock}
-use Rattle.block_places.specs.sheet_rows.Blocks.{blockOf}
+use Rattle.block_places.specs.sheet_rows.Blocks.{blockOfRow}
 
 module _ (y : Layout) where
-  abbrev sheetIndex : ℕ → ℕ
-  sheetIndex s = getD y.order s 0
-
   pub sheet-none : (i : ℕ) → 0 ≡ sheetLevels y 0 i
   unfolding sheetLevels
   sheet-none i = refl
 
-  pub sheet-more : (i s : ℕ) (m r : ℕ) → m ≡ sheetLevels y s i → r ≡ cond (eqb (sheetIndex s) i) (levels y s) m → r ≡ sheetLevels y (s + 1) i
+  pub sheet-more : (i s : ℕ) (m r : ℕ) → m ≡ sheetLevels y s i → r ≡ cond (eqb (sheetIndex y s) i) (levels y s) m → r ≡ sheetLevels y (s + 1) i
   unfolding sheetLevels
-  sheet-more i s m r e f = rw add-one (f ∙ ap (λ (x : ℕ). cond (eqb (sheetIndex s) i) (levels y s) x) e)
+  sheet-more i s m r e f = rw add-one (f ∙ ap (λ (x : ℕ). cond (eqb (sheetIndex y s) i) (levels y s) x) e)
 
   -- ---- what a row is in
 
@@ -44,40 +41,40 @@ module _ (y : Layout) where
   is-in-block j x h g = and-eq-true-iff (leb (rowStart y j) x) (ltb x (rowStart y j + levels y j)) .1 (le-leb (rowStart y j) x h, lt-ltb x (rowStart y j + levels y j) g)
 
   -- the block that is answered, where there is one, has the row
-  pub block-in : (n x : ℕ) → n ≤ y .k → blockOf y n x < y .k → (inBlock y (blockOf y n x) x ≡ true) × (blockOf y n x < n)
-  unfolding blockOf
+  pub block-in : (n x : ℕ) → n ≤ y .k → blockOfRow y n x < y .k → (inBlock y (blockOfRow y n x) x ≡ true) × (blockOfRow y n x < n)
+  unfolding blockOfRow
   block-in zero x g h = absurd (omega arith)
   block-in (suc n) x g h = step (block-in n x (omega arith)) (inBlock y n x) refl h
     where
-      step : (blockOf y n x < y .k → (inBlock y (blockOf y n x) x ≡ true) × (blockOf y n x < n)) → (b : Bool) → inBlock y n x ≡ b → cond b n (blockOf y n x) < y .k → (inBlock y (cond b n (blockOf y n x)) x ≡ true) × (cond b n (blockOf y n x) < suc n)
+      step : (blockOfRow y n x < y .k → (inBlock y (blockOfRow y n x) x ≡ true) × (blockOfRow y n x < n)) → (b : Bool) → inBlock y n x ≡ b → cond b n (blockOfRow y n x) < y .k → (inBlock y (cond b n (blockOfRow y n x)) x ≡ true) × (cond b n (blockOfRow y n x) < suc n)
       step f true e l = (e, omega arith)
       step f false e l = let r = f l in let b = r.1 in (r.0, omega arith)
 
-  pub block-none : (x : ℕ) → y .k ≡ blockOf y 0 x
-  unfolding blockOf
+  pub block-none : (x : ℕ) → y .k ≡ blockOfRow y 0 x
+  unfolding blockOfRow
   block-none x = refl
 
-  pub block-more : (j x b r : ℕ) → b ≡ blockOf y j x → r ≡ cond (inBlock y j x) j b → r ≡ blockOf y (j + 1) x
-  unfolding blockOf
+  pub block-more : (j x b r : ℕ) → b ≡ blockOfRow y j x → r ≡ cond (inBlock y j x) j b → r ≡ blockOfRow y (j + 1) x
+  unfolding blockOfRow
   block-more j x b r e f = rw add-one (f ∙ ap (λ (t : ℕ). cond (inBlock y j x) j t) e)
 
   module _ (ok : validLayout y ≡ true) where
     abbrev sheetM : ℕ → ℕ
     sheetM = sheetLevels y y.k
 
-    order-list : (s : ℕ) → s < y .k → getD (sorted sheetM (y .k)) s 0 ≡ sheetIndex s
+    order-list : (s : ℕ) → s < y .k → getD (sorted sheetM (y .k)) s 0 ≡ sheetIndex y s
     order-list s l =
         ap (λ (z : List ℕ). getD z s 0) (sym (same-lists (take y.k y.order) (sorted sheetM y.k) (is-valid y ok .order)))
         ∙ getD-take y.k y.order s 0 l
 
-    pub order-below : (j : ℕ) → j < y .k → sheetIndex j < y .k
+    pub order-below : (j : ℕ) → j < y .k → sheetIndex y j < y .k
     order-below j h =
         subst (λ (x : ℕ). x < y .k) (order-list j h) (all-at (λ s. s < y .k) (sorted sheetM y.k) (below-sorted sheetM y.k) j (omega (arith, length-sorted sheetM y.k)))
 
     sheet-small : (n i : ℕ) → n ≤ y .k → sheetLevels y n i ≤ 65535
     unfolding sheetLevels
     sheet-small zero i h = omega arith
-    sheet-small (suc n) i h = step (sheet-small n i (omega arith)) (eqb (sheetIndex n) i)
+    sheet-small (suc n) i h = step (sheet-small n i (omega arith)) (eqb (sheetIndex y n) i)
       where
         step : sheetLevels y n i ≤ 65535 → (b : Bool) → cond b (levels y n) (sheetLevels y n i) ≤ 65535
         step f true = is-valid y ok .level n (omega arith) .1
@@ -90,15 +87,15 @@ module _ (y : Layout) where
     rows-small n = sum-small sheetM 65535 n (λ i h. levels-small i)
 
     pub start-small : (j : ℕ) → j < y .k → rowStart y j ≤ 524280
-    start-small j h = omega (arith, rows-small (sheetIndex j), order-below j h, is-valid y ok .blocks .1)
+    start-small j h = omega (arith, rows-small (sheetIndex y j), order-below j h, is-valid y ok .blocks .1)
 
     -- a block ends before each that comes later in the sheet starts
-    ends : (i j : ℕ) → i < y .k → sheetIndex i < sheetIndex j → rowStart y i + levels y i ≤ rowStart y j
-    ends i j h g = omega (arith, levels-at y ok i h, sum-more sheetM (sheetIndex i), sum-le sheetM (sheetIndex i + 1) (sheetIndex j) (omega arith))
+    ends : (i j : ℕ) → i < y .k → sheetIndex y i < sheetIndex y j → rowStart y i + levels y i ≤ rowStart y j
+    ends i j h g = omega (arith, levels-at y ok i h, sum-more sheetM (sheetIndex y i), sum-le sheetM (sheetIndex y i + 1) (sheetIndex y j) (omega arith))
 
     -- and all end with the sheet's rows
     pub rows-end : (j : ℕ) → j < y .k → rowStart y j + levels y j ≤ sum sheetM (y .k)
-    rows-end j h = omega (arith, levels-at y ok j h, sum-more sheetM (sheetIndex j), sum-le sheetM (sheetIndex j + 1) y.k (omega (arith, order-below j h)))
+    rows-end j h = omega (arith, levels-at y ok j h, sum-more sheetM (sheetIndex y j), sum-le sheetM (sheetIndex y j + 1) y.k (omega (arith, order-below j h)))
 
     -- one block has a row
     pub block-one : (i j x : ℕ) → i < y .k → j < y .k → inBlock y i x ≡ true → inBlock y j x ≡ true → i ≡ j
@@ -109,18 +106,18 @@ module _ (y : Layout) where
         let p₁ = p.1 in
         let q₀ = q.0 in
         let q₁ = q.1 in
-        by-cases (decLt (sheetIndex i) (sheetIndex j)) (λ l. absurd (omega (arith, ends i j h l)))
-        (λ l. by-cases (decLt (sheetIndex j) (sheetIndex i)) (λ m. absurd (omega (arith, ends j i g m)))
-        (λ m. let e : sheetIndex i ≡ sheetIndex j = omega arith in
+        by-cases (decLt (sheetIndex y i) (sheetIndex y j)) (λ l. absurd (omega (arith, ends i j h l)))
+        (λ l. by-cases (decLt (sheetIndex y j) (sheetIndex y i)) (λ m. absurd (omega (arith, ends j i g m)))
+        (λ m. let e : sheetIndex y i ≡ sheetIndex y j = omega arith in
         by-cases (decLt i j) (λ u. absurd (order-apart y ok i j u g e))
         (λ u. by-cases (decLt j i) (λ v. absurd (order-apart y ok j i v h (sym e))) (λ v. omega arith))))
 
-    pub block-is : (n j x : ℕ) → j < n → n ≤ y .k → inBlock y j x ≡ true → blockOf y n x ≡ j
-    unfolding blockOf
+    pub block-is : (n j x : ℕ) → j < n → n ≤ y .k → inBlock y j x ≡ true → blockOfRow y n x ≡ j
+    unfolding blockOfRow
     block-is zero j x h g e = absurd (omega arith)
     block-is (suc n) j x h g e = step (λ l. block-is n j x l (omega arith) e) (inBlock y n x) refl
       where
-        step : (j < n → blockOf y n x ≡ j) → (b : Bool) → inBlock y n x ≡ b → cond b n (blockOf y n x) ≡ j
+        step : (j < n → blockOfRow y n x ≡ j) → (b : Bool) → inBlock y n x ≡ b → cond b n (blockOfRow y n x) ≡ j
         step f true q = block-one n j x (omega arith) (omega arith) q e
         step f false q =
             by-cases (decLt j n) f

@@ -12,10 +12,10 @@ use Rattle.workspace.specs.Loaded.{rowStart, inBlock}
 use Rattle.block_places.specs.declared.sheet_rows.Map.{Map}
 
 -- the one of the first n sorted blocks that has row x, or k where none has
-unfoldable pub blockOf : Layout → ℕ → ℕ → ℕ
+unfoldable pub blockOfRow : Layout → ℕ → ℕ → ℕ
 unfolding sum sheetLevels
-blockOf y zero x = y .k
-blockOf y (suc j) x = let rest = blockOf y j x in cond (inBlock y j x) j rest
+blockOfRow y zero x = y .k
+blockOfRow y (suc j) x = let rest = blockOfRow y j x in cond (inBlock y j x) j rest
 
 -- where the rows of each sorted block start in the sheet
 abbrev pub FirstRows : Layout → List ℕ → Type 0

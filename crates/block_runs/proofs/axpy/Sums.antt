@@ -1,13 +1,12 @@
 -- Sums that are broken off and taken up again, for plus and minus alike.
-use Prim.Native.Nat.{ℕ, zero, suc, _+_, _-_, _*_, _/_, _%_, _^_, _≤_, _<_, compare}
+use Prim.Native.Nat.{ℕ, zero, suc, _+_, _-_, _*_, _≤_, _<_}
 use mathlib.Core.Path.{_≡_, refl, sym, ap, ap₂, _∙_}
-use mathlib.Core.Bool.{Bool, true, false, not, cond}
+use mathlib.Core.Bool.{Bool, true, false}
 use mathlib.Core.List.{List}
-use native.Mathlib.Nat.{add-zero, add-suc, mul-comm}
+use native.Mathlib.Nat.{add-zero, add-suc}
 use native.Mathlib.Omega.{arith}
 use lib.ListN.{length}
-use lib.Dec.{eqb, ltb}
-use lib.Ieee.{Float, nan, inf, fin, binary64, Format, prec, emax, low, neg, mul, sub, odd, units, nearest, size, round, unlike, up, down}
+use lib.Ieee.{Float, nan, sub}
 use Rattle.storage.specs.Runs.{start, dense, tab}
 use Rattle.storage.specs.Shape.{columns, sizeOf}
 use Rattle.storage.specs.Part.{store}
@@ -16,6 +15,7 @@ use Rattle.storage.proofs.Cells.{length-tab, getD-tab, tab-ext, take-tab}
 use Rattle.storage.proofs.Parts.{length-store, store-in, store-store, store-part}
 use Rattle.rules.specs.Arithmetic.{ieee}
 use Rattle.rules.specs.Sums.{all, sumFrom, subtractFrom}
+use Rattle.rules.proofs.Products.{times-swap, times-negated}
 use Rattle.block_runs.specs.blocks.Blocks.{block}
 use Rattle.block_runs.proofs.blocks.Laws.{read-block, has-dense}
 use Rattle.block_runs.specs.axpy.Axpy.{at, run, along, oneMore, fourMore, products, Some, addOrSubtract, signedOf}
@@ -157,27 +157,7 @@ next-start a rows x k inner p top l e h =
     let s : start (dense rows) (x + k) ≤ start (dense rows) inner = start-le (dense rows) (x + k) inner l in
     (omega (arith, start-add rows x k, start-dense rows k), omega (arith, start-add rows x k, start-dense rows k))
 
--- ---- a product is the same double whichever factor comes first
-unlike-swap : (s t : Bool) → unlike s t ≡ unlike t s
-unlike-swap true true = refl
-unlike-swap true false = refl
-unlike-swap false true = refl
-unlike-swap false false = refl
-
-pub times-swap : (x y : Float) → ieee .times x y ≡ ieee .times y x
-unfolding mul
-times-swap nan nan = refl
-times-swap nan (inf t) = refl
-times-swap nan (fin t n d) = refl
-times-swap (inf s) nan = refl
-times-swap (inf s) (inf t) = ap inf (unlike-swap s t)
-times-swap (inf s) (fin t n d) = ap (λ (b : Bool). cond (eqb n 0) nan (inf b)) (unlike-swap s t)
-times-swap (fin s m e) nan = refl
-times-swap (fin s m e) (inf t) = ap (λ (b : Bool). cond (eqb m 0) nan (inf b)) (unlike-swap s t)
-times-swap (fin s m e) (fin t n d) =
-    ap₂ (λ (b : Bool) (x : ℕ). round binary64 b x (down e * down d)) (unlike-swap s t) (mul-comm (m * up e) (n * up d))
-    ∙ ap (round binary64 (unlike t s) (n * up d * (m * up e))) (mul-comm (down e) (down d))
-
+-- ---- the factors of every product exchanged
 pub along-swap : (f : Float → Float → Float) (s : Float) (a b : ℕ → Float) (n : ℕ) → along f s a b n ≡ along f s b a n
 unfolding along
 along-swap f s a b zero = refl
@@ -195,53 +175,6 @@ summed f n w a rows v b step r inner acc acc₁ acc₂ z room first then i l =
     (ap (λ (x : List Float). at x i) first ∙ read-run 0 n z acc (omega arith) i i l (omega arith))
 
 -- ---- to take a product off is to add it with a factor that is negated
-odd-negated : (d : ℕ) (s : Bool) (q k l : ℕ) → neg (odd d s q k l) ≡ odd d (not s) q k l
-unfolding odd neg
-odd-negated d s zero k l = refl
-odd-negated d s (suc q) k l = refl
-
-units-negated : (f : Format) (s : Bool) (q k : ℕ) (b : Bool) → neg (cond b (odd (suc (prec f)) s q k (low f)) (inf s)) ≡ cond b (odd (suc (prec f)) (not s) q k (low f)) (inf (not s))
-unfolding neg
-units-negated f s q k true = odd-negated (suc (prec f)) s q k (low f)
-units-negated f s q k false = refl
-
-unit-negated : (f : Format) (s : Bool) (q k : ℕ) → neg (units f s q k) ≡ units f (not s) q k
-unfolding units
-unit-negated f s q k = units-negated f s q k (ltb (q * 2 ^ k) (2 ^ (low f + suc (emax f))))
-
-round-negated : (f : Format) (s : Bool) (n d : ℕ) → neg (round f s n d) ≡ round f (not s) n d
-unfolding round
-round-negated f s num den =
-    let n : ℕ = num * 2 ^ low f in
-    let k : ℕ = size (n / den) - prec f in
-    let u : ℕ = den * 2 ^ k in
-    unit-negated f s (nearest (n / u) (compare (n % u * 2) u)) k
-
-unlike-negated : (s t : Bool) → unlike s (not t) ≡ not (unlike s t)
-unlike-negated true true = refl
-unlike-negated true false = refl
-unlike-negated false true = refl
-unlike-negated false false = refl
-
-null-negated : (b s t : Bool) → cond b nan (inf (unlike s (not t))) ≡ neg (cond b nan (inf (unlike s t)))
-unfolding neg
-null-negated true s t = refl
-null-negated false s t = ap inf (unlike-negated s t)
-
-times-negated : (x y : Float) → ieee .times x (neg y) ≡ neg (ieee .times x y)
-unfolding mul neg
-times-negated nan nan = refl
-times-negated nan (inf t) = refl
-times-negated nan (fin t n d) = refl
-times-negated (inf s) nan = refl
-times-negated (inf s) (inf t) = ap inf (unlike-negated s t)
-times-negated (inf s) (fin t n d) = null-negated (eqb n 0) s t
-times-negated (fin s m e) nan = refl
-times-negated (fin s m e) (inf t) = null-negated (eqb m 0) s t
-times-negated (fin s m e) (fin t n d) =
-    ap (λ (b : Bool). round binary64 b (m * up e * (n * up d)) (down e * down d)) (unlike-negated s t)
-    ∙ sym (round-negated binary64 (unlike s t) (m * up e * (n * up d)) (down e * down d))
-
 signed-add-or-subtract : (subtract : Bool) (s x y : Float) → ieee .plus s (ieee .times x (signedOf subtract y)) ≡ addOrSubtract subtract s (ieee .times x y)
 unfolding sub
 signed-add-or-subtract false s x y = refl

@@ -9,6 +9,8 @@ use lib.Ieee.{Float}
 use Rattle.storage.specs.Runs.{tab}
 use Rattle.storage.specs.Shape.{columns}
 use Rattle.storage.specs.Part.{part}
+use Rattle.storage.specs.declared.Block.{Block}
+use Rattle.storage.specs.Placed.{asColumns, read}
 use Rattle.storage.proofs.Starts.{start-dense}
 use Rattle.storage.proofs.Cells.{length-tab}
 use Rattle.storage.proofs.Parts.{length-store, part-else, getD-part}
@@ -17,7 +19,7 @@ use Rattle.rules.specs.Arithmetic.{ieee}
 use Rattle.rules.specs.Sums.{dot}
 use Rattle.rules.specs.Cholesky.{at}
 use Rattle.rules.specs.Solves.{matvecTSub}
-use Rattle.block_runs.specs.blocks.Blocks.{block, entry}
+use Rattle.block_runs.specs.blocks.Blocks.{entry}
 use Rattle.block_runs.proofs.blocks.Laws.{has-dense}
 use Rattle.block_runs.specs.axpy.Axpy.{at as double}
 use Rattle.block_runs.proofs.axpy.Sums.{sum-along, along-ext, along-swap, read-run}
@@ -36,34 +38,35 @@ sum-lists v p z n x u room room′ is is′ =
     column-sum v p v z n (at ieee x) (at ieee u) (λ i l. read-entry p n v i l room ∙ ap (λ (y : List Float). at ieee y i) is)
     (λ i l. read-entry z n v i l room′ ∙ ap (λ (y : List Float). at ieee y i) is′)
 
-module _ (off cols z rows a : ℕ) (v v′ : List Float) (fits : off + cols ≤ length v) (so : v′ ≡ subtractedProductT off cols z rows a v v) where
+module _ (to z : ℕ) (a : Block) (v v′ : List Float) (fits : to + a .cols ≤ length v) (so : v′ ≡ subtractedProductT to z a v v) where
   abbrev cells : ℕ → Float
-  cells = matvecTSub ieee (block a (columns rows cols) v) (entry z rows v) (entry off cols v) rows
+  cells = matvecTSub ieee (read (asColumns a) v) (entry z a.rows v) (entry to a.cols v) a.rows
+
+  long : length (tab (a .cols) cells) ≡ a .cols
+  long = length-tab a.cols cells
 
   pub product-long : length v′ ≡ length v
-  product-long = ap length so ∙ length-store off (tab cols cells) v (omega (arith, length-tab cols cells))
+  product-long = ap length so ∙ length-store to (tab a.cols cells) v (omega (arith, long))
 
   -- what lies apart is as it was
-  pub product-else : (k : ℕ) → (k < off) ⊎ (off + cols ≤ k) → double v′ k ≡ double v k
-  product-else k h = ap (λ (l : List Float). double l k) so ∙ run-else off cols cells v fits k h
+  pub product-else : (k : ℕ) → (k < to) ⊎ (to + a .cols ≤ k) → double v′ k ≡ double v k
+  product-else k h = ap (λ (l : List Float). double l k) so ∙ run-else to a.cols cells v fits k h
 
-  pub product-part : (b n : ℕ) → (b + n ≤ off) ⊎ (off + cols ≤ b) → part b n v′ ≡ part b n v
-  product-part b n h =
-      ap (part b n) so
-      ∙ part-else off (tab cols cells) v (omega (arith, length-tab cols cells)) b n (⊎-elim (λ l. inl l) (λ l. inr (omega (arith, length-tab cols cells))) h)
+  pub product-part : (b n : ℕ) → (b + n ≤ to) ⊎ (to + a .cols ≤ b) → part b n v′ ≡ part b n v
+  product-part b n h = ap (part b n) so ∙ part-else to (tab a.cols cells) v (omega (arith, long)) b n (⊎-elim (λ l. inl l) (λ l. inr (omega (arith, long))) h)
 
   -- an entry is less the column's list times the vector's
-  pub product-cell : (c : ℕ) → c < cols → (x u : List Float) → part (a + c * rows) rows v ≡ x → part z rows v ≡ u
-      → double v′ (off + c) ≡ ieee .minus (double v (off + c)) (dot ieee (at ieee x) (at ieee u) rows)
+  pub product-cell : (c : ℕ) → c < a .cols → (x u : List Float) → part (a .at + c * a .rows) (a .rows) v ≡ x → part z (a .rows) v ≡ u
+      → double v′ (to + c) ≡ ieee .minus (double v (to + c)) (dot ieee (at ieee x) (at ieee u) (a .rows))
   product-cell c h x u is is′ =
-      ap (λ (l : List Float). double l (off + c)) so
-      ∙ read-run off cols cells v fits c (off + c) h refl
-      ∙ ap₂ ieee.minus (sym (read-entry off cols v c h fits))
-      (sym (sum-along ieee.zero (λ r. block a (columns rows cols) v r c) (entry z rows v) rows)
-      ∙ along-ext ieee.plus _ _ _ _ _ _ rows refl
-      (λ r l. cell-part ieee.zero (columns rows cols) a v r c (has-dense rows cols r c l h)
-      ∙ ap (λ (k : ℕ). getD v k ieee.zero) (omega (arith, start-dense rows c))
-      ∙ sym (getD-part (a + c * rows) rows v r ieee.zero l)
+      ap (λ (l : List Float). double l (to + c)) so
+      ∙ read-run to a.cols cells v fits c (to + c) h refl
+      ∙ ap₂ ieee.minus (sym (read-entry to a.cols v c h fits))
+      (sym (sum-along ieee.zero (λ r. read (asColumns a) v r c) (entry z a.rows v) a.rows)
+      ∙ along-ext ieee.plus _ _ _ _ _ _ a.rows refl
+      (λ r l. cell-part ieee.zero (columns a.rows a.cols) a.at v r c (has-dense a.rows a.cols r c l h)
+      ∙ ap (λ (k : ℕ). getD v k ieee.zero) (omega (arith, start-dense a.rows c))
+      ∙ sym (getD-part (a.at + c * a .rows) a.rows v r ieee.zero l)
       ∙ ap (λ (y : List Float). at ieee y r) is)
       (λ r l. ap (λ (y : List Float). at ieee y r) is′)
-      ∙ sum-along ieee.zero (at ieee x) (at ieee u) rows)
+      ∙ sum-along ieee.zero (at ieee x) (at ieee u) a.rows)

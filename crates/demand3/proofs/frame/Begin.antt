@@ -15,7 +15,7 @@ use Rattle.storage.proofs.Parts.{length-part, length-store, part-same, part-els
 use Rattle.storage.proofs.Blocks.{length-fill}
 use Rattle.rules.specs.Arithmetic.{ieee}
 use Rattle.layout.specs.declared.Layout.{Layout}
-use Rattle.layout.specs.Shapes.{Target, target, pick, levels, targets, shape, loadedShape, sizes, loadedSizes, loadedLength, loadedAt, thetaAt, workingAt, sumAt, doublesNeeded}
+use Rattle.layout.specs.Shapes.{Target, target, pick, levels, targets, shape, loadedShape, sizes, loadedSizes, loadedLength, loadedAt, thetaAt, workingAt, sumAt, doublesNeeded, triangleEnd}
 use Rattle.heading_format.specs.Heading.{layoutOf, entryRow}
 use Rattle.layout.proofs.Places.{block-inside, blocks-apart, in-targets, size-working, size-loaded, theta-inside}
 use Rattle.workspace.specs.Memory.{loadedBlock, loadedSome}
@@ -41,9 +41,9 @@ unfolding loadedShape
 last-size y i j e =
     ap sizeOf (pick-later (eqb i j) (ltb j y.k) (diagonal (levels y j)) (shape y (λ x. 0) i j) (le-ltb j y.k (omega (arith, eqb-true j y.k e))))
 
-module _ (y : Layout) (row : ℕ → ℕ) (loaded : ℕ → ℕ → Bool) (t : ℕ → Float) where
+module _ (y : Layout) (row : ℕ → ℕ) (loaded : ℕ → ℕ → Bool) (theta : List Float) where
   -- a begun block is as long as it works
-  pub scaled-length : (i j : ℕ) (a : List Float) → length a ≡ loadedSizes y i j → length (scaled y row loaded t i j a) ≡ sizes y i j
+  pub scaled-length : (i j : ℕ) (a : List Float) → length a ≡ loadedSizes y i j → length (scaled y row loaded theta i j a) ≡ sizes y i j
   unfolding scaled
   scaled-length i j a size =
       length-pick (eqb j y.k) a _ (sizes y i j) (λ e. size ∙ last-size y i j e) (length-fill (shape y row i j) _ ∙ size-working y row i j)
@@ -53,7 +53,7 @@ module _ (y : Layout) (row : ℕ → ℕ) (loaded : ℕ → ℕ → Bool) (t : �
 module _ (y : Layout) where
   -- its loaded block lies inside the loaded numbers
   loaded-within : (t : Target) → List·Memᴰ t (targets (y .k)) → loadedAt y (t .row) (t .col) + loadedSizes y (t .row) (t .col) ≤ loadedLength y
-  unfolding loadedAt loadedLength
+  unfolding loadedAt triangleEnd
   loaded-within t m = block-inside (loadedSizes y) (targets y.k) t.row t.col m
 
   -- its working block between theta and the sum
@@ -75,10 +75,6 @@ module _ (y : Layout) where
       (blocks-apart (sizes y) (targets y.k) t.row t.col s.row s.col m n (λ p q. other (sym p) (sym q)))
 
 module _ (h : List ℕ) (w theta : List Float) (room : doublesNeeded (layoutOf h) ≤ length w) (many : length theta ≡ layoutOf h .k) where
-  -- theta of sorted block j
-  abbrev pub thetaIn : ℕ → Float
-  thetaIn j = getD theta (getD (layoutOf h .order) j 0) ieee.zero
-
   -- the layout
   abbrev y : Layout
   y = layoutOf h
@@ -91,11 +87,11 @@ module _ (h : List ℕ) (w theta : List Float) (room : doublesNeeded (layoutOf h
   place t = workingAt y t.row t.col
 
   abbrev made : Target → List Float
-  made t = scaled y (entryRow h) (loadedSome h w) thetaIn t.row t.col (loadedBlock h w t.row t.col)
+  made t = scaled y (entryRow h) (loadedSome h w) theta t.row t.col (loadedBlock h w t.row t.col)
 
   -- the blocks of a list, one after the other
   abbrev run : List Target → List Float → List Float
-  run = storeScaled h w thetaIn
+  run = storeScaled h w theta
 
   ends : (v : List Float) → run [] v ≡ v
   unfolding storeScaled
@@ -123,7 +119,7 @@ module _ (h : List ℕ) (w theta : List Float) (room : doublesNeeded (layoutOf h
   made-length : (t : Target) → List·Memᴰ t every → length (made t) ≡ sizes y (t .row) (t .col)
   made-length t m =
       let size : sizeOf (loadedShape y (entryRow h) t.row t.col) ≡ loadedSizes y t.row t.col = size-loaded y (entryRow h) t.row t.col in
-      scaled-length y (entryRow h) (loadedSome h w) thetaIn t.row t.col (loadedBlock h w t.row t.col)
+      scaled-length y (entryRow h) (loadedSome h w) theta t.row t.col (loadedBlock h w t.row t.col)
       (length-part (loadedAt y t.row t.col) (sizeOf (loadedShape y (entryRow h) t.row t.col)) w
       (omega (arith, size, loaded-within y t m, theta-inside y))
       ∙ size)
@@ -156,7 +152,7 @@ module _ (h : List ℕ) (w theta : List Float) (room : doublesNeeded (layoutOf h
 
   -- every block is begun, out of the numbers as they were before
   pub begun-block : (i j : ℕ) → j ≤ i → i ≤ layoutOf h .k
-      → part (workingAt (layoutOf h) i j) (sizes (layoutOf h) i j) (begun h w theta .doubles) ≡ scaled (layoutOf h) (entryRow h) (loadedSome h w) thetaIn i j (loadedBlock h w i j)
+      → part (workingAt (layoutOf h) i j) (sizes (layoutOf h) i j) (begun h w theta .doubles) ≡ scaled (layoutOf h) (entryRow h) (loadedSome h w) theta i j (loadedBlock h w i j)
   unfolding begun
   begun-block i j l m =
       let t : Target = target i j in

@@ -32,7 +32,7 @@ use Rattle.layout.specs.Shapes.{Target, target, across, shape, loadedShape, loa
 use Rattle.heading_format.specs.Heading.{layoutOf, entryRow}
 use Rattle.layout.proofs.Places.{in-across, loaded-inside, loaded-apart, size-loaded}
 use Rattle.workspace.specs.Memory.{cellOf}
-use Rattle.workspace.specs.Response.{responseCell, respondedBlock, storeResponse, responded}
+use Rattle.workspace.specs.Response.{Response, responseCell, respondedBlock, storeResponse, responded}
 use Rattle.demand3.proofs.frame.Stored.{same-or-other, Alone, run-length, run-part, run-own, run-drop, run-left}
 
 -- ---- the targets of a response
@@ -42,7 +42,7 @@ across-range : (i n : ℕ) (t : Target) → List·Memᴰ t (across i n) → (t .
 unfolding across
 across-range i zero t m = absurd (List·Memᴰ·not-nil m)
 across-range i (suc n) t m =
-    ⊎-elim (λ a. let r = across-range i n t a in (r.0, omega arith))
+    ⊎-elim (λ a. let z = across-range i n t a in (z.0, omega arith))
     (λ a. let e : t ≡ target i n = List·Memᴰ·eq-of-singleton a in
     let c : t .col ≡ n = ap (λ (s : Target). s .col) e in
     (ap (λ (s : Target). s .row) e, omega arith))
@@ -55,7 +55,7 @@ last k = across k k ++ (target k k ∷ [])
 -- each is in row k, at column k at most
 last-range : (k : ℕ) (t : Target) → List·Memᴰ t (last k) → (t .row ≡ k) × (t .col ≤ k)
 last-range k t m =
-    ⊎-elim (λ a. let r = across-range k k t a in (r.0, omega arith))
+    ⊎-elim (λ a. let z = across-range k k t a in (z.0, omega arith))
     (λ a. let e : t ≡ target k k = List·Memᴰ·eq-of-singleton a in
     let c : t .col ≡ k = ap (λ (s : Target). s .col) e in
     (ap (λ (s : Target). s .row) e, omega arith))
@@ -79,14 +79,14 @@ part-take : (n off many : ℕ) (w : List Float) → off + many ≤ n → n ≤ l
 part-take n off many w l room =
     ap (part off many) (sym (take-append-drop n w)) ∙ part-left (take n w) (drop n w) off many (omega (arith, length-take-le n w room))
 
-module _ (zy xy : List Float) (yy : Float) where
+module _ (r : Response) where
   -- block (k, j) of a layout, with the new response
   abbrev renewed : Layout → Shape → List Float → ℕ → List Float
-  renewed y s b j = fill s (λ r c. cond (eqb r y.p) (responseCell y zy xy yy j c) (cellOf s b r c))
+  renewed y s b j = fill s (λ i c. cond (eqb i y.p) (responseCell y r j c) (cellOf s b i c))
 
   -- the same block of another heading of that layout, from the loaded numbers alone
   renewed-same : (h h′ : List ℕ) (w : List Float) → loadedLength (layoutOf h) ≤ length w → layoutOf h′ ≡ layoutOf h → (j : ℕ) → j ≤ layoutOf h .k
-      → respondedBlock h w zy xy yy j ≡ respondedBlock h′ (take (loadedLength (layoutOf h)) w) zy xy yy j
+      → respondedBlock h w r j ≡ respondedBlock h′ (take (loadedLength (layoutOf h)) w) r j
   unfolding respondedBlock
   renewed-same h h′ w room e j l =
       let y : Layout = layoutOf h in
@@ -105,11 +105,11 @@ module _ (zy xy : List Float) (yy : Float) where
     place t = loadedAt (layoutOf h) t.row t.col
 
     abbrev made : Target → List Float
-    made t = respondedBlock h w zy xy yy t.col
+    made t = respondedBlock h w r t.col
 
     -- the blocks of a list, one after the other
     abbrev run : List Target → List Float → List Float
-    run = storeResponse h w zy xy yy
+    run = storeResponse h w r
 
     ends : (v : List Float) → run [] v ≡ v
     unfolding storeResponse
@@ -120,24 +120,24 @@ module _ (zy xy : List Float) (yy : Float) where
     goes-on t l v = refl
 
     -- each is as long as it was
-    made-length : (j : ℕ) → length (respondedBlock h w zy xy yy j) ≡ loadedSizes (layoutOf h) (layoutOf h .k) j
+    made-length : (j : ℕ) → length (respondedBlock h w r j) ≡ loadedSizes (layoutOf h) (layoutOf h .k) j
     unfolding respondedBlock
     made-length j = length-fill (loadedShape (layoutOf h) (entryRow h) (layoutOf h .k) j) _ ∙ size-loaded (layoutOf h) (entryRow h) (layoutOf h .k) j
 
     -- each lies inside the loaded numbers
     made-inside : (t : Target) → List·Memᴰ t (last (layoutOf h .k)) → place t + length (made t) ≤ loadedLength (layoutOf h)
     made-inside t m =
-        let r = last-range (layoutOf h .k) t m in
-        let e : place t ≡ loadedAt (layoutOf h) (layoutOf h .k) t.col = ap (λ (i : ℕ). loadedAt (layoutOf h) i t.col) r.0 in
-        omega (arith, e, made-length t.col, loaded-inside (layoutOf h) (layoutOf h .k) t.col r.1 (omega arith))
+        let z = last-range (layoutOf h .k) t m in
+        let e : place t ≡ loadedAt (layoutOf h) (layoutOf h .k) t.col = ap (λ (i : ℕ). loadedAt (layoutOf h) i t.col) z.0 in
+        omega (arith, e, made-length t.col, loaded-inside (layoutOf h) (layoutOf h .k) t.col z.1 (omega arith))
 
     -- another block lies apart from each
     other-apart : (i j : ℕ) → j ≤ i → i ≤ layoutOf h .k → (t : Target) → List·Memᴰ t (last (layoutOf h .k)) → (i ≡ t .row → j ≡ t .col → ⊥)
         → (loadedAt (layoutOf h) i j + loadedSizes (layoutOf h) i j ≤ place t) ⊎ (place t + length (made t) ≤ loadedAt (layoutOf h) i j)
     other-apart i j a b t m other =
-        let r = last-range (layoutOf h .k) t m in
-        let e : t .row ≡ layoutOf h .k = r.0 in
-        let g : t .col ≤ layoutOf h .k = r.1 in
+        let z = last-range (layoutOf h .k) t m in
+        let e : t .row ≡ layoutOf h .k = z.0 in
+        let g : t .col ≤ layoutOf h .k = z.1 in
         let n : length (made t) ≡ loadedSizes (layoutOf h) t.row t.col = made-length t.col ∙ ap (λ (x : ℕ). loadedSizes (layoutOf h) x t.col) (sym e) in
         subst (λ (x : ℕ). (loadedAt (layoutOf h) i j + loadedSizes (layoutOf h) i j ≤ place t) ⊎ (place t + x ≤ loadedAt (layoutOf h) i j)) (sym n)
         (loaded-apart (layoutOf h) i j a b t.row t.col (omega arith) (omega arith) other)
@@ -165,51 +165,51 @@ module _ (zy xy : List Float) (yy : Float) where
       all-behind : (n : ℕ) → loadedLength (layoutOf h) ≤ n → drop n (run (last (layoutOf h .k)) v) ≡ drop n v
       all-behind n l = run-drop place made run ends goes-on (last (layoutOf h .k)) v fits n (λ t m. omega (arith, made-inside t m))
 
-module _ (h : List ℕ) (w zy xy : List Float) (yy : Float) (room : loadedLength (layoutOf h) ≤ length w) where
+module _ (h : List ℕ) (w : List Float) (r : Response) (room : loadedLength (layoutOf h) ≤ length w) where
   -- the length stays
-  pub responded-length : length (responded h w zy xy yy .left .doubles) ≡ length w
+  pub responded-length : length (responded h w r .left .doubles) ≡ length w
   unfolding responded
-  responded-length = all-length zy xy yy h w w room
+  responded-length = all-length r h w w room
 
   -- what lies behind the loaded numbers stays
-  pub responded-behind : (n : ℕ) → loadedLength (layoutOf h) ≤ n → drop n (responded h w zy xy yy .left .doubles) ≡ drop n w
+  pub responded-behind : (n : ℕ) → loadedLength (layoutOf h) ≤ n → drop n (responded h w r .left .doubles) ≡ drop n w
   unfolding responded
-  responded-behind n l = all-behind zy xy yy h w w room n l
+  responded-behind n l = all-behind r h w w room n l
 
   -- a block before row k stays
   pub responded-else : (i j : ℕ) → j ≤ i → i < layoutOf h .k
-      → part (loadedAt (layoutOf h) i j) (loadedSizes (layoutOf h) i j) (responded h w zy xy yy .left .doubles) ≡ part (loadedAt (layoutOf h) i j) (loadedSizes (layoutOf h) i j) w
+      → part (loadedAt (layoutOf h) i j) (loadedSizes (layoutOf h) i j) (responded h w r .left .doubles) ≡ part (loadedAt (layoutOf h) i j) (loadedSizes (layoutOf h) i j) w
   unfolding responded
   responded-else i j a b =
-      run-part (place zy xy yy h w) (made zy xy yy h w) (run zy xy yy h w) (ends zy xy yy h w) (goes-on zy xy yy h w) (last (layoutOf h .k)) w (fits zy xy yy h w w room)
+      run-part (place r h w) (made r h w) (run r h w) (ends r h w) (goes-on r h w) (last (layoutOf h .k)) w (fits r h w w room)
       (loadedAt (layoutOf h) i j) (loadedSizes (layoutOf h) i j)
-      (λ t m. let r : t .row ≡ layoutOf h .k = last-range (layoutOf h .k) t m .0 in other-apart zy xy yy h w i j a (omega arith) t m (λ e g. omega arith))
+      (λ t m. let z : t .row ≡ layoutOf h .k = last-range (layoutOf h .k) t m .0 in other-apart r h w i j a (omega arith) t m (λ e g. omega arith))
 
   -- a block of row k is the one with the new response
   pub responded-own : (j : ℕ) → j ≤ layoutOf h .k
-      → part (loadedAt (layoutOf h) (layoutOf h .k) j) (loadedSizes (layoutOf h) (layoutOf h .k) j) (responded h w zy xy yy .left .doubles) ≡ respondedBlock h w zy xy yy j
+      → part (loadedAt (layoutOf h) (layoutOf h .k) j) (loadedSizes (layoutOf h) (layoutOf h .k) j) (responded h w r .left .doubles) ≡ respondedBlock h w r j
   unfolding responded
   responded-own j l =
-      ap (λ (n : ℕ). part (loadedAt (layoutOf h) (layoutOf h .k) j) n (run zy xy yy h w (last (layoutOf h .k)) w)) (sym (made-length zy xy yy h w j))
-      ∙ run-own (place zy xy yy h w) (made zy xy yy h w) (run zy xy yy h w) (ends zy xy yy h w) (goes-on zy xy yy h w) (last (layoutOf h .k)) w (fits zy xy yy h w w room)
-      (target (layoutOf h .k) j) (own-alone zy xy yy h w j l) (last-member (layoutOf h .k) j l)
+      ap (λ (n : ℕ). part (loadedAt (layoutOf h) (layoutOf h .k) j) n (run r h w (last (layoutOf h .k)) w)) (sym (made-length r h w j))
+      ∙ run-own (place r h w) (made r h w) (run r h w) (ends r h w) (goes-on r h w) (last (layoutOf h .k)) w (fits r h w w room)
+      (target (layoutOf h .k) j) (own-alone r h w j l) (last-member (layoutOf h .k) j l)
 
   -- the same as on the loaded numbers alone, with any heading of the same layout
   pub responded-loaded : (h′ : List ℕ) → layoutOf h′ ≡ layoutOf h
-      → take (loadedLength (layoutOf h)) (responded h w zy xy yy .left .doubles) ≡ responded h′ (take (loadedLength (layoutOf h)) w) zy xy yy .left .doubles
+      → take (loadedLength (layoutOf h)) (responded h w r .left .doubles) ≡ responded h′ (take (loadedLength (layoutOf h)) w) r .left .doubles
   unfolding responded
   responded-loaded h′ e =
       let n : ℕ = loadedLength (layoutOf h) in
       let a : List Float = take n w in
       let b : List Float = drop n w in
-      let old : List Target → List Float → List Float = run zy xy yy h w in
-      let new : List Target → List Float → List Float = run zy xy yy h′ a in
+      let old : List Target → List Float → List Float = run r h w in
+      let new : List Target → List Float → List Float = run r h′ a in
       let many : length a ≡ n = length-take-le n w room in
       let same : n ≡ loadedLength (layoutOf h′) = ap loadedLength (sym e) in
       ap (λ (x : List Float). take n (old (last (layoutOf h .k)) x)) (sym (take-append-drop n w))
       ∙ ap (take n)
-      (run-left (place zy xy yy h w) (made zy xy yy h w) old (ends zy xy yy h w) (goes-on zy xy yy h w) (place zy xy yy h′ a) (made zy xy yy h′ a) new
-      (ends zy xy yy h′ a) (goes-on zy xy yy h′ a) (last (layoutOf h .k)) a b (fits zy xy yy h w a (omega arith))
-      (λ t m. (ap (λ (y : Layout). loadedAt y t.row t.col) (sym e), renewed-same zy xy yy h h′ w room e t.col (last-range (layoutOf h .k) t m .1))))
+      (run-left (place r h w) (made r h w) old (ends r h w) (goes-on r h w) (place r h′ a) (made r h′ a) new
+      (ends r h′ a) (goes-on r h′ a) (last (layoutOf h .k)) a b (fits r h w a (omega arith))
+      (λ t m. (ap (λ (y : Layout). loadedAt y t.row t.col) (sym e), renewed-same r h h′ w room e t.col (last-range (layoutOf h .k) t m .1))))
       ∙ ap (λ (y : Layout). take n (new (last y.k) a ++ b)) (sym e)
-      ∙ take-at (new (last (layoutOf h′ .k)) a) b n (all-length zy xy yy h′ a a (omega arith) ∙ many)
+      ∙ take-at (new (last (layoutOf h′ .k)) a) b n (all-length r h′ a a (omega arith) ∙ many)

@@ -30,13 +30,14 @@ use Rattle.workspace.specs.Memory.{Workspace, workingBlock, logSum, headingWith
 use Rattle.workspace.specs.Answers.{Outcome, untouched, firstInfinite, unlessAt}
 use Rattle.update.specs.Calls.{begun, beginOf}
 use Rattle.book.specs.Calls.{begin, plain}
-use Rattle.book.specs.Book.{Book, book, Entry, layout, last, nothing, entry, onBegin}
+use Rattle.book.specs.Book.{Book, book, Entry, layout, last, nothing, entry, onBegin, withDone, withTheta}
 use Rattle.book.specs.Values.{rulesHere, startHere}
 use Rattle.demand3.proofs.frame.Begin.{begun-length, begun-block, begun-sum, begun-loaded, begun-theta, begun-behind}
 use Rattle.demand3.proofs.same_rules.Same.{stateOf, scaled-same}
 use Rattle.demand3.proofs.invariant.Invariant.{Site, Begun, Invariant, Follows, behind}
 use Rattle.demand3.proofs.invariant.Site.{layout-of, valid-heading-of, alike}
 use Rattle.demand3.proofs.invariant.Step.{working-is}
+use Rattle.heading_format.specs.Parts.{mostTargets}
 
 -- past two tests and an index
 goes : (a b : Bool) (f : Option ℕ) (bad : ℕ → Outcome) (o p q : Outcome) → a ≡ true → b ≡ true → f ≡ none → pick a (pick b (unlessAt f bad o) p) q ≡ o
@@ -101,7 +102,7 @@ module _ (sheet : Sheet) (h : List ℕ) (w : List Float) (here : Site sheet h w)
         (ap (λ (y : Layout). getD after-it.doubles (sumAt y) ieee.zero) (begun-layout ∙ sym same) ∙ begun-sum v.heading v.doubles theta room fits)
 
     same-stage : (i j : ℕ) → 0 ≡ stageOf (underWay (last sheet)) i j
-    same-stage i j = sym (zero-at 45 (start triangle i + j))
+    same-stage i j = sym (zero-at mostTargets (start triangle i + j))
 
     -- so the order theorem's invariant begins to hold
     scaled-out : Begun sheet (b .loaded) theta nothing (underWay (last sheet)) after-it
@@ -124,12 +125,12 @@ module _ (sheet : Sheet) (h : List ℕ) (w : List Float) (here : Site sheet h w)
         sym (ap (λ (t : Bool). pick t Finished UnderWay) (ne-eqb (stepsLeft (last sheet) nothing) 0 (λ z. omega arith)))
 
     -- the workspace stands as the page with the empty set
-    begun-invariant : Invariant sheet h w (book (b .loaded) theta (some nothing)) after-it
+    begun-invariant : Invariant sheet h w (withDone (some nothing) (withTheta theta b)) after-it
     begun-invariant =
         record {
           progress = underWay (last sheet);
           heading = begun-heading;
-          stages = length-replicate {A = ℕ} 45 0;
+          stages = length-replicate {A = ℕ} mostTargets 0;
           valid-progress = under-way-valid (last sheet) few;
           many = begun-length v.heading v.doubles theta room fits ∙ s.many;
           loaded = subst (λ (y : Layout). take (loadedLength y) after-it.doubles ≡ take (loadedLength y) v.doubles) same (begun-loaded v.heading v.doubles theta room fits)
@@ -139,7 +140,7 @@ module _ (sheet : Sheet) (h : List ℕ) (w : List Float) (here : Site sheet h w)
           updating = (under-way, scaled-out);
         }
 
-    pub begin-invariant : Invariant sheet h w (book (b .loaded) theta (some nothing)) (beginOf (v .heading) (v .doubles) theta .left)
+    pub begin-invariant : Invariant sheet h w (withDone (some nothing) (withTheta theta b)) (beginOf (v .heading) (v .doubles) theta .left)
     begin-invariant = subst (λ (o : Outcome). Invariant sheet h w (book b.loaded theta (some nothing)) o.left) (sym begins-so) begun-invariant
 
   -- an outcome against an entry of the book
@@ -149,7 +150,7 @@ module _ (sheet : Sheet) (h : List ℕ) (w : List Float) (here : Site sheet h w)
   -- whatever the two tests of theta say
   answered : (c : Bool) (f : Option ℕ) → eqb (length theta) (last sheet) ≡ c → firstInfinite 0 theta ≡ f
       → Met (pick c (unlessAt f (λ i. untouched (v .heading) (v .doubles) 14 0 i) (record { answer = Accepted; left = begun (v .heading) (v .doubles) theta })) (untouched (v .heading) (v .doubles) 13 0 0))
-      (pick c (unlessAt f (λ i. entry (plain (refuse 14 0 i)) b) (entry (plain Accepted) (book (b .loaded) theta (some nothing)))) (entry (plain (refuse 13 0 0)) b))
+      (pick c (unlessAt f (λ i. entry (plain (refuse 14 0 i)) b) (entry (plain Accepted) (withDone (some nothing) (withTheta theta b)))) (entry (plain (refuse 13 0 0)) b))
   answered true none e g = (refl, begun-invariant (eqb-true (length theta) (last sheet) e) g)
   answered true (some i) e g = (refl, s)
   answered false f e g = (refl, s)

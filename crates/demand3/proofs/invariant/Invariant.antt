@@ -12,8 +12,8 @@ use Rattle.step_order.specs.Progress.{Represents}
 use Rattle.step_order.proofs.Invariant.{Held}
 use Rattle.sheet.specs.Sheet.{Sheet}
 use Rattle.heading_format.specs.declared.Progress.{Progress}
-use Rattle.layout.specs.Shapes.{levels, loadedLength, thetaAt, numbersNeeded, doublesNeeded}
-use Rattle.heading_format.specs.Heading.{stageOf, entryRow, written, validLayout, validProgress, idle}
+use Rattle.layout.specs.Shapes.{levels, loadedLength, thetaAt, doublesNeeded}
+use Rattle.heading_format.specs.Heading.{stageOf, entryRow, written, validLayout, validProgress, idle, numbersNeeded}
 use Rattle.workspace.specs.Memory.{Workspace}
 use Rattle.workspace.specs.Answers.{firstInfinite}
 use Rattle.workspace.specs.Load.{headingOf}
@@ -21,11 +21,12 @@ use Rattle.book.specs.Calls.{Call, called}
 use Rattle.book.specs.Book.{Book, layout, last, bookState, entered}
 use Rattle.book.specs.Values.{rulesHere, startHere}
 use Rattle.demand3.proofs.same_rules.Same.{stateOf}
+use Rattle.heading_format.specs.Parts.{mostTargets, headingLength}
 
 module _ (sheet : Sheet) where
-  -- the heading's numbers behind the first 128, once load has written the sheet's into h
+  -- the numbers behind the heading's parts, once load has written the sheet's into h
   abbrev pub behind : List ℕ → List ℕ
-  behind h = drop 128 (store 0 (headingOf sheet (layout sheet)) h)
+  behind h = drop headingLength (store 0 (headingOf sheet (layout sheet)) h)
 
   -- what an accepted load says of its sheet and of the lists that were lent to it
   pub record Site (h : List ℕ) (w : List Float) : Type 0 where
@@ -52,7 +53,7 @@ module _ (sheet : Sheet) where
   pub record Invariant (h : List ℕ) (w : List Float) (b : Book) (v : Workspace) : Type 0 where
     pub progress : Progress
     pub heading : v .heading ≡ written (layout sheet) progress ++ behind h
-    pub stages : length (progress .stages) ≡ 45
+    pub stages : length (progress .stages) ≡ mostTargets
     pub valid-progress : validProgress (last sheet) progress ≡ true
     pub many : length (v .doubles) ≡ length w
     pub loaded : take (loadedLength (layout sheet)) (v .doubles) ≡ b .loaded

@@ -25,8 +25,8 @@ use Rattle.sheet.specs.Fault.{faultNumber}
 use Rattle.refusal.specs.declared.Refusal.{Refusal}
 use Rattle.refusal.specs.declared.Answer.the-variants.{Accepted}
 use Rattle.layout.specs.declared.Layout.{Layout}
-use Rattle.layout.specs.Shapes.{pick, levels, pairs, loadedLength, numbersNeeded, doublesNeeded}
-use Rattle.heading_format.specs.Heading.{entryRow, written, idle}
+use Rattle.layout.specs.Shapes.{pick, levels, pairs, loadedLength, doublesNeeded}
+use Rattle.heading_format.specs.Heading.{entryRow, written, idle, numbersNeeded}
 use Rattle.heading_format.proofs.Valid.{is-valid}
 use Rattle.heading_format.proofs.Heading.{length-written, rows-back, idle-valid}
 use Rattle.workspace.specs.Memory.{zeros}
@@ -36,9 +36,10 @@ use Rattle.workspace.specs.Load.{Loads, headingOf, doublesOf, hasRoom, afterGat
 use Rattle.workspace.proofs.Valid.{sparse-columns, sheet-valid}
 use Rattle.workspace.proofs.Lengths.{length-loaded, length-doubles, length-heading}
 use Rattle.workspace.proofs.ValidHeading.{row-below, length-m, length-order}
-use Rattle.book.specs.Book.{book, layout, last, opened, fresh}
+use Rattle.book.specs.Book.{layout, last, opened, fresh, bookOf}
 use Rattle.demand3.proofs.frame.Clear.{zeros-length}
 use Rattle.demand3.proofs.invariant.Invariant.{Site, Invariant, behind}
+use Rattle.heading_format.specs.Parts.{mostTargets, headingLength}
 
 -- ---- what an accepted load came to
 record Applied (sheet : Sheet) (h : List ℕ) (w : List Float) (o : Outcome) : Type 0 where
@@ -93,7 +94,7 @@ module _ (sheet : Sheet) where
       ∙ getD-tab (levels (layout sheet) 0) (entryRowIn sheet (layout sheet)) c 0 l))
       (row-below sheet (layout sheet) (sparse-columns sheet sparse .1) c l)
 
-  -- its first 128 numbers, wherever it is written
+  -- its parts, wherever it is written
   first-numbers : (h : List ℕ) → store 0 (headingOf sheet (layout sheet)) h ≡ written (layout sheet) (idle (last sheet)) ++ behind sheet h
   unfolding store headingOf
   first-numbers h =
@@ -101,7 +102,7 @@ module _ (sheet : Sheet) where
       let rows : List ℕ = pick (layout sheet .sparse) (tab (levels (layout sheet) 0) (entryRowIn sheet (layout sheet))) [] in
       let rest : List ℕ = drop (0 + length (headingOf sheet (layout sheet))) h in
       let seam : store 0 (headingOf sheet (layout sheet)) h ≡ front ++ (rows ++ rest) = append-assoc front rows rest in
-      seam ∙ ap (λ (x : List ℕ). front ++ x) (sym (ap (drop 128) seam ∙ drop-at front (rows ++ rest) 128 (length-written (layout sheet) (idle (last sheet)))))
+      seam ∙ ap (λ (x : List ℕ). front ++ x) (sym (ap (drop headingLength) seam ∙ drop-at front (rows ++ rest) headingLength (length-written (layout sheet) (idle (last sheet)))))
 
 -- ---- the doubles that load writes
 
@@ -126,7 +127,7 @@ stored sheet h w here =
     record {
       progress = idle (last sheet);
       heading = first-numbers sheet h;
-      stages = length-replicate {A = ℕ} 45 0;
+      stages = length-replicate {A = ℕ} mostTargets 0;
       valid-progress = idle-valid (last sheet) (is-valid (layout sheet) here.layout-valid .blocks .1);
       many = length-store 0 (doublesOf sheet (layout sheet)) w fits;
       loaded = first-doubles sheet w;
@@ -168,12 +169,12 @@ module _ (sheet : Sheet) (h : List ℕ) (w : List Float) (here : Site sheet h w)
         rows = here.rows;
       }
 
-  pub fresh-invariant : Invariant sheet (headingOf sheet (layout sheet)) (loaded ++ zeros (layout sheet)) (book loaded [] none) (fresh sheet loaded)
+  pub fresh-invariant : Invariant sheet (headingOf sheet (layout sheet)) (loaded ++ zeros (layout sheet)) (bookOf loaded) (fresh sheet loaded)
   fresh-invariant =
       record {
         progress = idle (last sheet);
         heading = sym (over-itself (headingOf sheet (layout sheet))) ∙ first-numbers sheet (headingOf sheet (layout sheet));
-        stages = length-replicate {A = ℕ} 45 0;
+        stages = length-replicate {A = ℕ} mostTargets 0;
         valid-progress = idle-valid (last sheet) (is-valid (layout sheet) here.layout-valid .blocks .1);
         many = refl;
         loaded = take-at loaded (zeros (layout sheet)) (loadedLength (layout sheet)) many;

@@ -43,6 +43,7 @@ use Rattle.demand3.proofs.frame.Clear.{cleared-length, cleared-loaded, 
 use Rattle.demand3.proofs.same_rules.Same.{stateOf, Alike, made-same, sum-same, refused-same, made-length}
 use Rattle.demand3.proofs.invariant.Invariant.{Site, Begun, Invariant, behind}
 use Rattle.demand3.proofs.invariant.Site.{layout-of, progress-of, valid-heading-of, alike}
+use Rattle.heading_format.specs.Parts.{mostTargets}
 
 -- past five tests: three passed, one failed, one passed
 through : (a b c d e : Bool) (p q r s t o : Outcome) → a ≡ true → b ≡ true → c ≡ true → d ≡ false → e ≡ true
@@ -233,7 +234,7 @@ module _ (sheet : Sheet) (h : List ℕ) (w : List Float) (here : Site sheet h w)
           progress = idle (last sheet);
           heading = ap₂ (λ (y : Layout) (x : List ℕ). headingWith x (idle y.k)) same.same-layout u.heading
               ∙ progress-stored (layout sheet) u.progress (idle (last sheet)) (behind sheet h);
-          stages = length-replicate {A = ℕ} 45 0;
+          stages = length-replicate {A = ℕ} mostTargets 0;
           valid-progress = idle-valid (last sheet) few;
           many = ap (λ (y : Layout). length (cleared y v.doubles)) same.same-layout ∙ cleared-length (layout sheet) v.doubles room ∙ u.many;
           loaded = ap (λ (y : Layout). take (loadedLength (layout sheet)) (cleared y v.doubles)) same.same-layout

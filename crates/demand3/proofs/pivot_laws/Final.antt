@@ -5,9 +5,9 @@ use mathlib.Core.Bool.{Bool, true, false, _&&_, cond, true≢false}
 use mathlib.Core.List.{List, _++_}
 use mathlib.Core.Option.{none}
 use native.Mathlib.Omega.{arith}
-use lib.Dec.{T, ltb, leb, eqb}
+use lib.Dec.{ltb, leb, eqb}
 use lib.ListN.{getD}
-use lib.Ieee.{Float, binary64, fits}
+use lib.Ieee.{Float, binary64}
 use lib.Ieee.Fits.{add-fits, sub-fits}
 use borrow.Author.Tests.{lt-ltb, le-leb, eq-eqb, ne-eqb}
 use Rattle.storage.specs.Shape.{Shape, packed, diagonal, columns, entries, hasCell, fill}
@@ -17,31 +17,29 @@ use Rattle.step_order.proofs.Invariant.{finished}
 use Rattle.rules.specs.Arithmetic.{ieee}
 use Rattle.rules.specs.Begin.{diagonalCell, fixedCell}
 use Rattle.rules.specs.Sums.{chain, dot, sumFrom, subtractFrom}
-use Rattle.rules.specs.Steps.{subtractDense, subtractDiagonal, subtractLast, subtractSparse}
+use Rattle.rules.specs.Steps.{subtractDense, subtractLast, subtractSparse}
 use Rattle.rules.specs.Cholesky.{at, leftOfPivot, factor, radicand}
-use Rattle.re_lower.proofs.Pivotal.{chain-fits}
 use Rattle.sheet.specs.Sheet.{Sheet}
 use Rattle.layout.specs.declared.Layout.{Layout}
-use Rattle.layout.specs.Shapes.{pick, levels, shape, loadedShape}
+use Rattle.layout.specs.declared.FactorKind.{FactorKind}
+use Rattle.layout.specs.declared.FactorKind.the-variants.{Diagonal, Packed}
+use Rattle.layout.specs.Shapes.{pick, levels, factorKind, shape, loadedShape}
 use Rattle.heading_format.specs.Heading.{layoutOf, entryRow, validLayout}
 use Rattle.heading_format.proofs.Valid.{both, is-valid}
-use Rattle.workspace.specs.Memory.{cellOf, loadedBlock, loadedSome, zeros}
+use Rattle.workspace.specs.Memory.{cellOf, loadedBlock, loadedSome, zeros, sortedTheta}
 use Rattle.workspace.specs.Load.{headingOf}
-use Rattle.update.specs.Working.{factored, refusedRow, pivotCount, isDiagonal, subtracted, scaled, rulesOf}
+use Rattle.update.specs.Working.{factored, refusedRow, pivotCount, subtractOwn, subtracted, scaled, rulesOf}
 use Rattle.book.specs.Book.{layout, last}
 use Rattle.book.specs.Values.{rulesHere, valueAt, finalValue}
 use Rattle.rules.proofs.Rows.{pivot-root, accepted-at}
+use Rattle.rules.proofs.Doubles.{Double, chain-fits}
 
 -- a pivot p: the root of a double x that is not refused
 pub record RootOf (p : Float) : Type 0 where
   pub x : Float
-  pub double : T (fits binary64 x)
+  pub double : Double x
   pub accepted : ieee .refused x ≡ false
   pub is : p ≡ ieee .root x
-
--- x is a double
-abbrev Double : Float → Type 0
-Double x = T (fits binary64 x)
 
 -- ---- C on one block
 -- a factor has its pivots
@@ -89,18 +87,24 @@ cell-scaled false s a f g r e h d = subst Double (sym (cell-fill ieee.zero s g r
 on-diagonal : (r : ℕ) (x z : Float) → Double x → Double (cond (eqb r r) x z)
 on-diagonal r x z d = rw (eq-eqb r r refl) d
 
--- cell (r, r) of what S leaves in a factor's block, which the rule of sparse pairs never makes
-cell-subtracted : (latest apart sparse : Bool) (s : Shape) (f g h i : ℕ → ℕ → Float) (r : ℕ) → hasCell s r r ≡ true → Double (f r r) → Double (g r r) → Double (i r r)
-    → Double (cellOf s (fill s (pick latest f (pick apart g (pick (latest && sparse) h i)))) r r)
-cell-subtracted true apart sparse s f g h i r has a b c = subst Double (sym (cell-fill ieee.zero s f r r has)) a
-cell-subtracted false true sparse s f g h i r has a b c = subst Double (sym (cell-fill ieee.zero s g r r has)) b
-cell-subtracted false false sparse s f g h i r has a b c = subst Double (sym (cell-fill ieee.zero s i r r has)) c
+-- cell (r, r) of what S leaves in a factor's block, which only the rules of the last block and of a factor make
+cell-subtracted : (latest own : Bool) (s : Shape) (f g h : ℕ → ℕ → Float) (r : ℕ) → own ≡ true → hasCell s r r ≡ true → Double (f r r) → Double (g r r)
+    → Double (cellOf s (fill s (pick latest f (pick own g h))) r r)
+cell-subtracted true own s f g h r e has a b = subst Double (sym (cell-fill ieee.zero s f r r has)) a
+cell-subtracted false true s f g h r e has a b = subst Double (sym (cell-fill ieee.zero s g r r has)) b
+cell-subtracted false false s f g h r e has a b = absurd (true≢false (sym e))
+
+-- S of a factor leaves a difference on the diagonal
+own-double : (d : FactorKind) (loaded : ℕ → ℕ → Bool) (T A B : ℕ → ℕ → Float) (inner r : ℕ) → Double (subtractOwn d loaded T A B inner r r)
+own-double Diagonal loaded T A B inner r = sub-fits binary64 (T r r) (sumFrom ieee ieee.zero (loaded r) (A r) (A r) inner)
+own-double Packed loaded T A B inner r = sub-fits binary64 (T r r) (dot ieee (A r) (B r) inner)
 
 module _ (y : Layout) (row : ℕ → ℕ) (loaded : ℕ → ℕ → Bool) (stays-valid : validLayout y ≡ true) where
   -- what begin writes on a diagonal is a sum
-  scaled-double : (t : ℕ → Float) (a : List Float) (r : ℕ) → r < pivotCount (shape y row 0 0) → Double (cellOf (shape y row 0 0) (scaled y row loaded t 0 0 a) r r)
+  scaled-double : (theta : List Float) (a : List Float) (r : ℕ) → r < pivotCount (shape y row 0 0) → Double (cellOf (shape y row 0 0) (scaled y row loaded theta 0 0 a) r r)
   unfolding scaled
-  scaled-double t a r l =
+  scaled-double theta a r l =
+      let t = sortedTheta y theta in
       let a' = cellOf (loadedShape y row 0 0) a in
       cell-scaled (eqb 0 y.k) (shape y row 0 0) a (λ q c. fixedCell ieee (t 0) (a' q c)) (λ q c. cond (eqb q c) (diagonalCell ieee (t 0) (a' q q)) ieee.zero) r
       (ne-eqb 0 y.k (λ (e : 0 ≡ y .k). omega (arith, is-valid y stays-valid .blocks)))
@@ -117,26 +121,24 @@ module _ (y : Layout) (row : ℕ → ℕ) (loaded : ℕ → ℕ → Bool) (stays
       let A = cellOf (shape y row j h) a in
       let B = cellOf (shape y row j h) b in
       let inner = levels y h in
-      cell-subtracted (eqb j y.k) (eqb j j && isDiagonal y row loaded j) y.sparse (shape y row j j)
-      (subtractLast ieee cells A inner) (subtractDiagonal ieee loaded cells A inner) (subtractSparse ieee row cells A (λ x. getD b x ieee.zero) inner) (subtractDense ieee cells A B inner)
-      r (has-pivot (shape y row j j) r l)
-      (some-chain (cells r r) (A r) (A r) inner (is-valid y stays-valid .level h m .0))
-      (sub-fits binary64 (cells r r) (sumFrom ieee ieee.zero (loaded r) (A r) (A r) inner))
-      (sub-fits binary64 (cells r r) (dot ieee (A r) (B r) inner))
+      cell-subtracted (eqb j y.k) (eqb j j) (shape y row j j) (subtractLast ieee cells A inner) (subtractOwn (factorKind y j) loaded cells A B inner)
+      (pick (eqb j y.k && y .sparse) (subtractSparse ieee row cells A (λ x. getD b x ieee.zero) inner) (subtractDense ieee cells A B inner)) r (eq-eqb j j refl)
+      (has-pivot (shape y row j j) r l)
+      (some-chain (cells r r) (A r) (A r) inner (is-valid y stays-valid .level h m .0)) (own-double (factorKind y j) loaded cells A B inner r)
 
-  -- theta of each sorted block, and the loaded blocks
-  module _ (t : ℕ → Float) (a : ℕ → ℕ → List Float) where
+  -- theta, and the loaded blocks
+  module _ (theta : List Float) (a : ℕ → ℕ → List Float) where
     -- the rules of this layout, and what begin writes
     abbrev R : Rules
     R = rulesOf y row loaded
 
     abbrev begun : ℕ → ℕ → List Float
-    begun i j = scaled y row loaded t i j (a i j)
+    begun i j = scaled y row loaded theta i j (a i j)
 
     -- The block that C(j) takes has doubles for its pivots, whatever was loaded: a sum of begin for j = 0, and what its last S leaves for a later j.
     value-double : (j : ℕ) → j ≤ y .k → (r : ℕ) → r < pivotCount (shape y row j j) → Double (cellOf (shape y row j j) (value R begun j j j) r r)
     unfolding value
-    value-double zero m r l = scaled-double t (a 0 0) r l
+    value-double zero m r l = scaled-double theta (a 0 0) r l
     value-double (suc h) m r l =
         subst (λ (z : List Float). Double (cellOf (shape y row (suc h) (suc h)) z r r)) (sym (later h (value R begun h)))
         (subtracted-double h m (value R begun h (suc h) (suc h)) (column R h (value R begun h) (suc h)) (column R h (value R begun h) (suc h)) r l)
@@ -166,7 +168,6 @@ module _ (sheet : Sheet) (loaded theta : List Float) (stays-valid : validLayout 
   final-pivot j l e r b =
       let h = headingOf sheet (layout sheet) in
       let w = loaded ++ zeros (layout sheet) in
-      let t : ℕ → Float = λ i. getD theta (getD (layoutOf h .order) i 0) ieee.zero in
       subst (λ (y : Layout). r < pivotCount (shape y (entryRow h) j j) → RootOf (cellOf (shape y (entryRow h) j j) (finalValue sheet loaded theta j j) r r)) fresh-layout
-      (made-pivot (layoutOf h) (entryRow h) (loadedSome h w) (ap validLayout fresh-layout ∙ stays-valid) t (loadedBlock h w) j (subst (λ (y : Layout). j ≤ y .k) (sym fresh-layout) l) e r)
+      (made-pivot (layoutOf h) (entryRow h) (loadedSome h w) (ap validLayout fresh-layout ∙ stays-valid) theta (loadedBlock h w) j (subst (λ (y : Layout). j ≤ y .k) (sym fresh-layout) l) e r)
       b

@@ -14,12 +14,12 @@ use Rattle.storage.proofs.Blocks.{fill-entries}
 use Rattle.rules.specs.Arithmetic.{Arithmetic, ieee}
 use Rattle.rules.specs.Sums.{subtractFrom}
 use Rattle.rules.specs.Begin.{diagonalCell, crossCell, fixedCell}
-use Rattle.rules.specs.Steps.{subtractDense, subtractDiagonal, subtractLast, subtractSparse, divide}
+use Rattle.rules.specs.Steps.{subtractDense, subtractLast, subtractSparse, divide}
 use Rattle.rules.specs.Cholesky.{at, forward, logsOfFirst, logsOfLater}
 use Rattle.layout.specs.declared.Layout.{Layout}
-use Rattle.layout.specs.Shapes.{pick, levels, shape, loadedShape}
-use Rattle.workspace.specs.Memory.{cellOf}
-use Rattle.update.specs.Working.{pivotCount, solved, subtracted, logged, scaled}
+use Rattle.layout.specs.Shapes.{pick, levels, factorKind, shape, loadedShape}
+use Rattle.workspace.specs.Memory.{cellOf, sortedTheta}
+use Rattle.update.specs.Working.{pivotCount, solved, subtractOwn, subtracted, logged, scaled}
 
 -- two choices by one test are equal where what is chosen is equal
 pick-ext : {A : Type 0} (b : Bool) (s s′ t t′ : A) → (b ≡ true → s ≡ s′) → (b ≡ false → t ≡ t′) → pick b s t ≡ pick b s′ t′
@@ -67,7 +67,7 @@ solved-shape s s′ (entries cols row) t f c h = refl
 abbrev formed : Layout → (ℕ → ℕ) → (ℕ → ℕ → Bool) → ℕ → ℕ → ℕ → (T A B : ℕ → ℕ → Float) → (ℕ → Float) → ℕ → ℕ → Float
 formed y row loaded i j h T A B v =
     pick (eqb j y.k) (subtractLast ieee T A (levels y h))
-    (pick (eqb i j && (y.diagonal && eqb j 1)) (subtractDiagonal ieee loaded T A (levels y h))
+    (pick (eqb i j) (subtractOwn (factorKind y j) loaded T A B (levels y h))
     (pick (eqb i y.k && y .sparse) (subtractSparse ieee row T A v (levels y h)) (subtractDense ieee T A B (levels y h))))
 
 -- what begin writes into a cell, the loaded block's cells being a
@@ -147,7 +147,7 @@ module _ (y : Layout) (row row′ : ℕ → ℕ) (agree : y .sparse ≡ true →
       → formed y row loaded i j h T A B v ≡ formed y row′ loaded i j h T A B v
   formed-rows loaded i j h T A B v two l m n =
       pick-ext (eqb j y.k) _ _ _ _ (λ e. refl)
-      (λ notLast. pick-ext (eqb i j && (y.diagonal && eqb j 1)) _ _ _ _ (λ e. refl)
+      (λ notLast. pick-ext (eqb i j) _ _ _ _ (λ e. refl)
       (λ e. pick-ext (eqb i y.k && y .sparse) _ _ _ _
       (λ q. let is-sparse : y .sparse ≡ true = and-eq-true-iff (eqb i y.k) y.sparse .0 q .1 in
       let before-last = eqb-false j y.k notLast in
@@ -177,9 +177,10 @@ module _ (y : Layout) (row row′ : ℕ → ℕ) (agree : y .sparse ≡ true →
       ∙ ap (λ (X : ℕ → ℕ → Float). formed y row′ loaded i j h T′ A′ X v) (cell-shape j h b))
 
   -- begin asks nothing of what was loaded but the block itself
-  pub scaled-rows : (loaded loaded′ : ℕ → ℕ → Bool) (t : ℕ → Float) (i j : ℕ) (a : List Float) → scaled y row loaded t i j a ≡ scaled y row′ loaded′ t i j a
+  pub scaled-rows : (loaded loaded′ : ℕ → ℕ → Bool) (theta : List Float) (i j : ℕ) (a : List Float) → scaled y row loaded theta i j a ≡ scaled y row′ loaded′ theta i j a
   unfolding scaled
-  scaled-rows loaded loaded′ t i j a =
+  scaled-rows loaded loaded′ theta i j a =
+      let t = sortedTheta y theta in
       ap (pick (eqb j y.k) a)
       (fill-shape i j (begunCell y t i j (cellOf (loadedShape y row i j) a))
       ∙ ap (λ (X : ℕ → ℕ → Float). fill (shape y row′ i j) (begunCell y t i j X)) (cell-loaded i j a))

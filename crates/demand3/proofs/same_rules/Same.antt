@@ -4,7 +4,7 @@ use mathlib.Core.Path.{_≡_, refl, sym, ap, _∙_}
 use mathlib.Core.Bool.{Bool, true}
 use mathlib.Core.List.{List, _++_}
 use native.Mathlib.Omega.{arith}
-use lib.ListN.{length, getD, take, drop, take-append-drop}
+use lib.ListN.{length, take, drop, take-append-drop}
 use lib.Ieee.{Float}
 use Rattle.storage.specs.Shape.{Shape, packed, diagonal, columns, entries, sizeOf}
 use Rattle.storage.specs.Part.{part}
@@ -12,7 +12,6 @@ use Rattle.storage.proofs.Blocks.{length-fill}
 use Rattle.storage.proofs.Parts.{part-left}
 use Rattle.step_order.specs.Steps.{Step, S, C, T, IsStep, row, col}
 use Rattle.step_order.specs.Progress.{State, made, summed, refusedNow}
-use Rattle.rules.specs.Arithmetic.{ieee}
 use Rattle.sheet.specs.Sheet.{Sheet}
 use Rattle.layout.specs.declared.Layout.{Layout}
 use Rattle.heading_format.specs.declared.Progress.{Progress}
@@ -43,10 +42,6 @@ length-factored (packed n) b e = length-fill (packed n) _
 length-factored (diagonal n) b e = length-fill (diagonal n) _
 length-factored (columns rows cols) b e = e
 length-factored (entries cols row) b e = e
-
--- theta of sorted block b, theta being in sheet order
-abbrev thetaBy : List Float → Layout → ℕ → Float
-thetaBy theta y b = getD theta (getD y.order b 0) ieee.zero
 
 module _ (sheet : Sheet) where
   -- the workspace v as the order theorem sees an update: the stages of g, the working blocks, the logarithms' sum
@@ -168,11 +163,11 @@ module _ (sheet : Sheet) where
 
     -- begin writes the same block
     pub scaled-same : (i j : ℕ) → j ≤ i → i ≤ last sheet
-        → scaled (layoutOf (v .heading)) (entryRow (v .heading)) (loadedSome (v .heading) (v .doubles)) (λ b. getD theta (getD (layoutOf (v .heading) .order) b 0) (ieee .zero)) i j
+        → scaled (layoutOf (v .heading)) (entryRow (v .heading)) (loadedSome (v .heading) (v .doubles)) theta i j
         (loadedBlock (v .heading) (v .doubles) i j)
         ≡ startHere sheet loaded theta i j
     scaled-same i j l m =
-        at-layout (λ z row. scaled z row (loadedSome h w) (thetaBy theta z) i j (loadedBlock h w i j))
-        (λ z row. scaled z row (loadedSome h′ w′) (thetaBy theta z) i j (loadedBlock h′ w′ i j))
-        (scaled-rows y (entryRow h) (entryRow h′) a.same-rows (loadedSome h w) (loadedSome h′ w′) (thetaBy theta y) i j (loadedBlock h w i j)
-        ∙ ap (scaled y (entryRow h′) (loadedSome h′ w′) (thetaBy theta y) i j) (loaded-same i j l m))
+        at-layout (λ z row. scaled z row (loadedSome h w) theta i j (loadedBlock h w i j))
+        (λ z row. scaled z row (loadedSome h′ w′) theta i j (loadedBlock h′ w′ i j))
+        (scaled-rows y (entryRow h) (entryRow h′) a.same-rows (loadedSome h w) (loadedSome h′ w′) theta i j (loadedBlock h w i j)
+        ∙ ap (scaled y (entryRow h′) (loadedSome h′ w′) theta i j) (loaded-same i j l m))

@@ -22,7 +22,7 @@ use Rattle.refusal.specs.declared.Answer.{Answer}
 use Rattle.refusal.specs.declared.Answer.the-variants.{Accepted}
 use Rattle.refusal.specs.Numbers.{refusal, refuse}
 use Rattle.layout.specs.declared.Layout.{Layout}
-use Rattle.layout.specs.Shapes.{pick}
+use Rattle.layout.specs.Shapes.{pick, lastShape}
 use Rattle.heading_format.specs.Heading.{layoutOf}
 use Rattle.workspace.specs.Memory.{Workspace, cellOf, workingBlock, logSum, zeros}
 use Rattle.workspace.specs.Answers.{Outcome, firstInfinite, unlessAt}
@@ -32,7 +32,7 @@ use Rattle.profile.specs.declared.Deviance.{Deviance}
 use Rattle.profile.specs.declared.Deviance.the-variants.{Value, Pivot, NoScale, Refused}
 use Rattle.profile.specs.Deviance.{freedom, devianceValue, Profiled, afterSteps, afterBegin, profileOf}
 use Rattle.book.specs.Calls.{Reply, plain, deviance, profileDeviance}
-use Rattle.book.specs.Book.{Book, book, Entry, entry, nothing, layout, last, fresh, rust, afterAll}
+use Rattle.book.specs.Book.{Book, book, Entry, entry, nothing, layout, last, fresh, rust, afterAll, withDone, withTheta}
 use Rattle.book.specs.Values.{finalValue, logsAfter, refusedPivot}
 use Rattle.demand3.proofs.invariant.Invariant.{Site, Invariant, Follows}
 use Rattle.demand3.proofs.invariant.Site.{layout-of, loaded-many}
@@ -45,7 +45,7 @@ use Rattle.demand3.proofs.step_laws.Rust.{answerFor, rust-answer}
 -- ---- the value depends only on the layout, on block (k,k) and on the sum
 abbrev valueBy : Layout → List Float → Float → Bool → Deviance
 valueBy y block sum reml =
-    let pivot : ℕ → Float = λ r. cellOf (packed (y.p + 1)) block r r in
+    let pivot : ℕ → Float = λ r. cellOf (lastShape y) block r r in
     let r2 = ieee.times (pivot y.p) (pivot y.p) in
     let d = freedom y reml in
     pick (ieee.refused r2 || ieee .refused d) NoScale (Value (devianceOf ieee reml d (ieee.over r2 d) (ieee.times ieee.two sum) pivot y.p))
@@ -178,9 +178,9 @@ module _ (sheet : Sheet) (h : List ℕ) (w : List Float) (here : Site sheet h w)
   -- whatever the two tests of theta say
   answered : (c : Bool) (f : Option ℕ) → eqb (length theta) (last sheet) ≡ c → firstInfinite 0 theta ≡ f
       → (plain (beginOf (v .heading) (v .doubles) theta .answer)
-      ≡ pick c (unlessAt f (λ i. entry (plain (refuse 14 0 i)) b) (entry (plain Accepted) (book (b .loaded) theta (some nothing)))) (entry (plain (refuse 13 0 0)) b) .reply)
+      ≡ pick c (unlessAt f (λ i. entry (plain (refuse 14 0 i)) b) (entry (plain Accepted) (withDone (some nothing) (withTheta theta b)))) (entry (plain (refuse 13 0 0)) b) .reply)
       × Invariant sheet h w
-      (pick c (unlessAt f (λ i. entry (plain (refuse 14 0 i)) b) (entry (plain Accepted) (book (b .loaded) theta (some nothing)))) (entry (plain (refuse 13 0 0)) b) .next)
+      (pick c (unlessAt f (λ i. entry (plain (refuse 14 0 i)) b) (entry (plain Accepted) (withDone (some nothing) (withTheta theta b)))) (entry (plain (refuse 13 0 0)) b) .next)
       (beginOf (v .heading) (v .doubles) theta .left)
       → Met (profileOf (v .heading) (v .doubles) theta reml)
       (pick c (unlessAt f (λ i. entry (deviance (Refused (refusal 14 0 i))) b) good) (entry (deviance (Refused (refusal 13 0 0))) b))

@@ -22,7 +22,7 @@ use Rattle.workspace.specs.Memory.{workingBlock, logSum, zeros}
 use Rattle.workspace.specs.Answers.{firstInfinite}
 use Rattle.workspace.specs.Load.{headingOf}
 use Rattle.update.specs.Calls.{beginOf}
-use Rattle.book.specs.Book.{book, nothing, layout, last, fresh, rust, inStep}
+use Rattle.book.specs.Book.{book, nothing, layout, last, fresh, rust, inStep, bookOf}
 use Rattle.book.specs.Values.{rulesHere, startHere, finalValue, logsAfter, refusedPivot}
 use Rattle.demand3.proofs.invariant.Invariant.{Site, Invariant}
 use Rattle.demand3.proofs.invariant.Open.{fresh-site, fresh-invariant}
@@ -63,7 +63,7 @@ module _ (sheet : Sheet) (h : List ℕ) (w : List Float) (here : Site sheet h w)
       ⊎ Stopped sheet h′ w′ (fresh-site sheet h w here loaded many) loaded theta (rust sheet loaded theta)
   ends =
       run-comes sheet h′ w′ (fresh-site sheet h w here loaded many) loaded theta (rustOrder (last sheet)) nothing (beginOf h′ w′ theta .left)
-      (begin-invariant sheet h′ w′ (fresh-site sheet h w here loaded many) (book loaded [] none) (fresh sheet loaded) (fresh-invariant sheet h w here loaded many) theta theta-many finite)
+      (begin-invariant sheet h′ w′ (fresh-site sheet h w here loaded many) (bookOf loaded) (fresh sheet loaded) (fresh-invariant sheet h w here loaded many) theta theta-many finite)
       (rust-order (last sheet))
 
   -- it answers the pivot that it refuses, if there is one

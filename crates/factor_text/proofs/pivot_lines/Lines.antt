@@ -1,20 +1,22 @@
 -- The pivots' lines written one behind the other, and that 131,072 bytes are enough for those of 4,096 doubles.
 use Prim.Native.Nat.{ℕ, zero, suc, _+_, _*_, _≤_, _<_}
 use mathlib.Core.Path.{_≡_, refl, sym, ap, ap₂, subst, _∙_}
-use mathlib.Core.Bool.{true}
+use mathlib.Core.Bool.{Bool, true, false}
 use mathlib.Core.List.{List, _++_}
-use mathlib.Core.Logic.{⊎-elim}
 use native.Mathlib.Numerals.{add-one}
 use native.Mathlib.Omega.{arith}
+use lib.Dec.{eqb}
 use lib.ListN.{length, length-append}
 use lib.Ieee.{Float}
-use Rattle.storage.specs.Shape.{Shape, sizeOf}
+use Rattle.storage.specs.Shape.{Shape, packed, sizeOf}
 use Rattle.storage.specs.Part.{part}
 use Rattle.storage.proofs.Parts.{length-store, store-nil}
 use Rattle.layout.specs.declared.Layout.{Layout}
+use Rattle.layout.specs.declared.FactorKind.{FactorKind}
+use Rattle.layout.specs.declared.FactorKind.the-variants.{Diagonal, Packed}
 use Rattle.layout.specs.Blocks.{sum}
 use Rattle.layout.proofs.Sums.{sum-same, sum-le, sum-more}
-use Rattle.layout.specs.Shapes.{levels, shape, workingAt, doublesNeeded}
+use Rattle.layout.specs.Shapes.{pick, levels, factorKind, shapeOfKind, shape, workingAt, doublesNeeded, lastRows, lastShape}
 use Rattle.heading_format.specs.Heading.{validLayout, layoutOf, entryRow}
 use Rattle.heading_format.proofs.Valid.{is-valid, valid-doubles}
 use Rattle.workspace.specs.Memory.{cellOf, workingBlock}
@@ -28,7 +30,7 @@ use Rattle.text_output.proofs.print_lines.Lines.{pivot-short}
 use Rattle.block_places.specs.block_kinds.Rows.{rowsOf}
 use Rattle.block_places.proofs.block_kinds.Shapes.{rows-last, rows-level}
 use Rattle.views.specs.pivot_places.Pivots.{pivotShape, pivotAt}
-use Rattle.views.proofs.pivot_places.Places.{shape-is, kind}
+use Rattle.views.proofs.pivot_places.Places.{shape-is}
 use Rattle.factor_text.specs.pivot_lines.Lines.{rowLines, blockLines}
 
 -- ---- how many bytes
@@ -151,7 +153,12 @@ module _ (y : Layout) (w : List Float) (out₀ : List ℕ) where
 -- ---- by the layout alone they are the lines of the workspace
 -- a factor has a pivot in each row
 count-is : (y : Layout) (j : ℕ) → pivotCount (pivotShape y j) ≡ rowsOf y j
-count-is y j = ⊎-elim (ap pivotCount) (ap pivotCount) (kind y j)
+count-is y j = go (eqb j y.k) (factorKind y j)
+  where
+    go : (last : Bool) (d : FactorKind) → pivotCount (pick last (lastShape y) (shapeOfKind d (levels y j))) ≡ pick last (lastRows y) (levels y j)
+    go true d = refl
+    go false Diagonal = refl
+    go false Packed = refl
 
 module _ (h : List ℕ) (w : List Float) where
   -- one pivot

@@ -21,7 +21,7 @@ use Rattle.sheet.specs.Sheet.{Sheet, accepted, refused, readSheet}
 use Rattle.sheet.specs.Sheet as Sheets
 use Rattle.sheet.specs.Fault.{faultNumber}
 use Rattle.sheet.specs.Answer.{Answers}
-use Rattle.sheet.proofs.Whole.{read-whole}
+use Rattle.sheet.proofs.Whole.{read-whole, all-lines}
 use Rattle.layout.specs.declared.Layout.{Layout}
 use Rattle.heading_format.specs.Heading.{layoutOf, validHeading, underWay}
 use Rattle.heading_format.proofs.Fits.{fits}
@@ -38,6 +38,7 @@ use Rattle.load_numbers.proofs.sheet_words.Facts.{few-entries}
 use Rattle.factor_output.specs.Print.{refusedLine}
 use Rattle.factor_output.specs.Program.{bytesHeld, numbersHeld, doublesHeld, printSteps, afterBegin, factorWith, thetaLines, afterLoad, afterSheet, printOf, Prints, too-long, read}
 use Rattle.factor_text.specs.refusal_text.Text.{Text}
+use Rattle.sheet.specs.declared.Counts.{Counts}
 
 -- ---- answers
 -- a text by an answer that is known
@@ -65,7 +66,7 @@ module _ (h : List ℕ) (w theta : List Float) where
 -- ---- the steps
 -- a workspace has at most eight blocks
 pub few-blocks : (h : List ℕ) (w : List Float) (k : ℕ) → validHeading h (length w) ≡ true → layoutOf h .k ≡ k → k ≤ 8
-few-blocks h w k ok e = omega (arith, is-valid (layoutOf h) (fits h (length w) ok .layout) .blocks .1)
+few-blocks h w k ok e = omega (arith, is-valid (layoutOf h) (fits h (length w) ok .valid) .blocks .1)
 
 -- what an accepted run leaves is a workspace
 pub run-valid-heading : (h : List ℕ) (w : List Float) (k : ℕ) (a : Answer) (h₁ : List ℕ) (w₁ : List Float) → ReadyInTurn (workspace h w) (rustOrder k)
@@ -93,13 +94,13 @@ module _ (s : List ℕ) (z : Starts) (h : List ℕ) (w : List Float) where
   -- it is in form and the last of the input
   pub theta-good : (c : Cursor) (theta : List Float) (n : ℕ) (old out : List ℕ) → c ≡ thetaLines s (z .counts .k) start .past → (eqb (c .number) 0 && eqb (c .at) (length s)) ≡ true
       → theta ≡ thetaLines s (z .counts .k) start .items → length theta ≡ z .counts .k → Text (factorWith (workspace h w) (length theta) theta) n old out
-      → Text (afterLoad Accepted (workspace h w) (z .counts .k) s z) n old out
+      → Text (afterLoad Accepted (workspace h w) (z .counts) s z) n old out
   theta-good c theta n old out e t q long p =
       rw (← e, t, ← q, ← long) p
 
   -- or 2, with the line
   pub theta-bad : (c : Cursor) (n : ℕ) (old out : List ℕ) → c ≡ thetaLines s (z .counts .k) start .past → (eqb (c .number) 0 && eqb (c .at) (length s)) ≡ false
-      → Text (refusedLine 2 (c .line) 0) n old out → Text (afterLoad Accepted (workspace h w) (z .counts .k) s z) n old out
+      → Text (refusedLine 2 (c .line) 0) n old out → Text (afterLoad Accepted (workspace h w) (z .counts) s z) n old out
   theta-bad c n old out e t p = rw (← e, t) p
 
 -- ---- the sheet
@@ -114,15 +115,14 @@ module _ (s : List ℕ) (z : Starts) where
       let qq = mul-le-mul t.counts.q t.counts.q in
       let qp = mul-le-mul t.counts.q t.counts.p.1 in
       let pp = mul-le-mul t.counts.p.1 t.counts.p.1 in
-      (k, omega (arith, k, zz, qq, qp, pp, t.lines, t.counts.k, t.counts.q, t.counts.p.1))
+      (k, omega (arith, k, zz, qq, qp, pp, all-lines (read-whole s sheet z e), t.counts.k, t.counts.q, t.counts.p.1))
 
   pub sheet-out : (sheet : Sheet) → readSheet s ≡ accepted sheet z → (a : Answer) (h : List ℕ) (w : List Float) (n : ℕ) (old out : List ℕ)
       → record { answer = a; left = workspace h w } ≡ loadSheet sheet (replicate numbersHeld 0) (replicate doublesHeld (ieee .zero))
-      → Text (afterLoad a (workspace h w) (z .counts .k) s z) n old out → Text (afterSheet (readSheet s) s) n old out
+      → Text (afterLoad a (workspace h w) (z .counts) s z) n old out → Text (afterSheet (readSheet s) s) n old out
   sheet-out sheet e a h w n old out q t =
-      let k : z .counts .k ≡ sheet .counts .k = ap (λ (x : _). x .k) (read-whole s sheet z e .shape .same-counts) in
       subst (λ (o : Sheets.Outcome). Text (afterSheet o s) n old out) (sym e)
-      (subst (λ (o : Outcome). Text (afterLoad o.answer o.left sheet.counts.k s z) n old out) q (subst (λ (x : ℕ). Text (afterLoad a (workspace h w) x s z) n old out) k t))
+      (subst (λ (o : Outcome). Text (afterLoad o.answer o.left sheet.counts s z) n old out) q (subst (λ (x : Counts). Text (afterLoad a (workspace h w) x s z) n old out) (read-whole s sheet z e .shape .same-counts) t))
 
 -- ---- what the sheet's reader answered
 pub goes-on : (s : List ℕ) (z : Starts) → Answers (readSheet s) (Read z) → (sheet : Sheet) × (readSheet s ≡ accepted sheet z) × (faultNumber sheet ≡ 0)

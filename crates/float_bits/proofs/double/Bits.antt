@@ -11,10 +11,12 @@ use lib.Ieee.Fits.{down-pos}
 use lib.Ieee.Nearest.{div-same}
 use lib.Ieee.Positive.{positive, num, den}
 
--- a pattern up to that of +infinity is no NaN's
+-- a pattern up to that of +infinity, with either sign, is no NaN's
+pub no-nan-bits : (n : ℕ) → n % 2 ^ 63 ≤ 2047 * 2 ^ 52 → T (not (nanBits binary64 n))
+no-nan-bits n h = subst (λ (b : Bool). T (not b)) (sym (nanBits-above binary64 n ∙ le-ltb 9218868437227405312 (n % 2 ^ 63) h)) tt
+
 pub number-below : (n : ℕ) → n ≤ 2047 * 2 ^ 52 → T (not (nanBits binary64 n))
-number-below n h =
-    subst (λ (b : Bool). T (not b)) (sym (nanBits-above binary64 n ∙ le-ltb 9218868437227405312 (n % 2 ^ 63) (omega arith))) tt
+number-below n h = no-nan-bits n (omega arith)
 
 -- a float that equals itself is no NaN
 pub equal-itself : (x : Float) → eq x x ≡ true → T (not (isNan x))

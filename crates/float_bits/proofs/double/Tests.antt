@@ -1,6 +1,6 @@
 -- The tests that tell the kinds apart.
 use mathlib.Core.Path.{_≡_, refl, sym, _∙_, subst}
-use mathlib.Core.Bool.{Bool, true, false, not, _&&_, _||_, Bool·beq, true≢false}
+use mathlib.Core.Bool.{Bool, true, false, not, _&&_, _||_, Bool·beq, true≢false, and-eq-true-iff}
 use Prim.Native.Nat.{ℕ, zero, suc, _+_, _*_, _<_}
 use native.Mathlib.Nat.{mul-pos, zero-lt-suc}
 use native.Mathlib.Omega.{arith}
@@ -71,10 +71,6 @@ at-negative (fin true zero e) t = absurd (none-below (up e) (down e) 1 t)
 at-negative (fin true (suc m) e) t = refl
 
 -- ---- 0
-and-left : (a b : Bool) → a && b ≡ true → a ≡ true
-and-left true b e = refl
-and-left false b e = e
-
 not-zero : (m a b : ℕ) → 0 < a → eqb (suc m * a * 1) (0 * b) ≡ true → ⊥
 not-zero m a b h t =
     let e : suc m * a * 1 ≡ 0 * b = eqb-true (suc m * a * 1) (0 * b) t in
@@ -86,8 +82,8 @@ unfolding kindOf eq ofBits
 at-zero nan t = on t
 at-zero (inf s) t = on t
 at-zero (fin s zero e) t = refl
-at-zero (fin false (suc m) e) t = absurd (not-zero m (up e) (down e) (up-pos e) (and-left _ _ t))
-at-zero (fin true (suc m) e) t = absurd (not-zero m (up e) (down e) (up-pos e) (and-left _ _ t))
+at-zero (fin false (suc m) e) t = absurd (not-zero m (up e) (down e) (up-pos e) (and-eq-true-iff _ _ .0 t .0))
+at-zero (fin true (suc m) e) t = absurd (not-zero m (up e) (down e) (up-pos e) (and-eq-true-iff _ _ .0 t .0))
 
 -- ---- and what is left
 none-equal : (a b : ℕ) → eqb (0 * a * 1) (0 * b) ≡ true
@@ -97,12 +93,8 @@ or-right : (a b : Bool) → b ≡ true → a || b ≡ true
 or-right true b e = refl
 or-right false b e = e
 
-and-both : (a b : Bool) → a ≡ true → b ≡ true → a && b ≡ true
-and-both true b e f = f
-and-both false b e f = e
-
 zero-is : (s : Bool) (a b : ℕ) → eqb (0 * a * 1) (0 * b) && (Bool·beq s false || eqb (0 * a * 1) 0) ≡ true
-zero-is s a b = and-both _ _ (none-equal a b) (or-right (Bool·beq s false) _ (eq-eqb (0 * a * 1) 0 (omega arith)))
+zero-is s a b = and-eq-true-iff _ _ .1 (none-equal a b, or-right (Bool·beq s false) _ (eq-eqb (0 * a * 1) 0 (omega arith)))
 
 some-below : (m a b : ℕ) → 0 < a → ltb 0 (suc m * a * 1 + 0 * b) ≡ true
 some-below m a b h = let p : 0 < suc m * a = mul-pos (zero-lt-suc m) h in lt-ltb 0 (suc m * a * 1 + 0 * b) (omega arith)

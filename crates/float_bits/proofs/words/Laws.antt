@@ -1,10 +1,10 @@
 -- What the functions' proofs cite of the definitions.
-use Prim.Native.Nat.{ℕ, _%_, _≤_, _<_}
+use Prim.Native.Nat.{ℕ, _%_, _<_}
 use mathlib.Core.Path.{_≡_, refl, sym, ap, ap₂, _∙_, subst}
-use mathlib.Core.Bool.{Bool, true, false, not, _&&_, true≢false}
-use borrow.Author.Tests.{lt-ltb, le-ltb}
+use mathlib.Core.Bool.{true, false, not, _&&_, true≢false}
+use borrow.Author.Tests.{lt-ltb}
 use lib.Dec.{T, leb}
-use lib.Ieee.{Float, nan, inf, fin, binary64, div, ne, isNan, ofBits, nanBits, toBits}
+use lib.Ieee.{Float, nan, inf, fin, binary64, div, ne, isNan, ofBits, toBits}
 use lib.Ieee.Bits.{nanBits-is, nanBits-above}
 use lib.Ieee.Compare.{differs-from-itself, nan-differs}
 use Rattle.float_bits.specs.words.Words.{rank, agreesOf}
@@ -28,10 +28,6 @@ nan-of-bits n h =
     none-over-none
     ∙ the-nan (ofBits binary64 n) (sym (nanBits-is binary64 n) ∙ nanBits-above binary64 n ∙ lt-ltb 9218868437227405312 (n % 9223372036854775808) h)
 
-pub no-nan-bits : (n : ℕ) → n % 9223372036854775808 ≤ 9218868437227405312 → T (not (nanBits binary64 n))
-no-nan-bits n h =
-    subst (λ (b : Bool). T (not b)) (sym (nanBits-above binary64 n ∙ le-ltb 9218868437227405312 (n % 9223372036854775808) h)) tt
-
 nan-bits : 9221120237041090560 ≡ toBits binary64 nan
 unfolding toBits
 nan-bits = refl
@@ -50,11 +46,3 @@ pub between : (lower upper : ℕ) (r : Float) {n w a b : ℕ} → n ≡ toBits b
 between lower upper r {n} {w} e f g h =
     ap₂ (λ (a b : ℕ). leb a w && leb w b) g h
     ∙ ap (λ (v : ℕ). leb (rank lower) v && leb v (rank upper)) (f ∙ ap rank e)
-
-pub and-left : (a b : Bool) → a && b ≡ true → a ≡ true
-and-left true b e = refl
-and-left false b e = e
-
-pub and-right : (a b : Bool) → a && b ≡ true → b ≡ true
-and-right true b e = e
-and-right false b e = no (sym e)

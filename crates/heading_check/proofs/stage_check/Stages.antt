@@ -19,6 +19,7 @@ use Rattle.heading_format.specs.Heading.{every, validState, validProgress, prog
 use Rattle.heading_check.specs.declared.stage_check.Walk.{Walk}
 use Rattle.heading_check.specs.stage_check.Walk.{walked, stagesIn}
 use Rattle.heading_check.proofs.stage_check.Walks.{walked-is}
+use Rattle.heading_format.specs.Parts.{stagesAt, mostTargets}
 
 -- ---- the place of a stage
 pub row-product : (i : ℕ) → i ≤ 8 → i * (i + 1) ≤ 72
@@ -27,11 +28,11 @@ row-product i h = let g : i + 1 ≤ 9 = omega arith in omega (arith, mul-le-mul 
 pub rows-before : (i : ℕ) → i ≤ 8 → (i * (i + 1) / 2 ≡ start triangle i) × (i * (i + 1) / 2 ≤ 36)
 rows-before i h = (omega (arith, start-triangle i), omega (arith, row-product i h))
 
-pub stage-at : (h : List ℕ) (i j : ℕ) {r v : ℕ} → r ≡ start triangle i → r ≤ 36 → j ≤ i → i ≤ 8 → v ≡ getD h (24 + r + j) 0 → v ≡ stagesIn h i j
+pub stage-at : (h : List ℕ) (i j : ℕ) {r v : ℕ} → r ≡ start triangle i → r ≤ 36 → j ≤ i → i ≤ 8 → v ≡ getD h (stagesAt + r + j) 0 → v ≡ stagesIn h i j
 unfolding progressOf
 stage-at h i j {r} {v} e a b c q =
-    let z : 24 + r + j ≡ 24 + (start triangle i + j) = omega arith in
-    q ∙ ap (λ (x : ℕ). getD h x 0) z ∙ sym (getD-take 45 (drop 24 h) (start triangle i + j) 0 (omega arith) ∙ getD-drop 24 h (start triangle i + j) 0)
+    let z : stagesAt + r + j ≡ stagesAt + (start triangle i + j) = omega arith in
+    q ∙ ap (λ (x : ℕ). getD h x 0) z ∙ sym (getD-take mostTargets (drop stagesAt h) (start triangle i + j) 0 (omega arith) ∙ getD-drop stagesAt h (start triangle i + j) 0)
 
 -- a stage that is not past the target's last step, and one that is
 module _ (h : List ℕ) (i j : ℕ) {s : ℕ} (e : s ≡ stagesIn h i j) where

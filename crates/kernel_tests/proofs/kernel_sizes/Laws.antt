@@ -1,15 +1,19 @@
 -- What the functions' proofs cite.
-use Prim.Native.Nat.{ℕ, _+_, _*_, _/_, _≤_, _<_}
+use Prim.Native.Nat.{ℕ, _+_, _-_, _*_, _/_, _≤_, _<_}
 use mathlib.Core.Path.{_≡_, refl, sym, subst}
 use mathlib.Core.Bool.{Bool, true, false, _||_}
 use mathlib.Core.List.{List}
+use lib.ListN.{length, take, drop, length-drop}
+use lib.Seq.{take-all, getD-drop}
 use native.Mathlib.Nat.{mul-le-mul}
 use native.Mathlib.Omega.{arith}
 use native.Mathlib.Decide.{decLt}
 use mathlib.Core.Logic.{by-cases}
 use Rattle.storage.specs.Shape.{packed, columns, sizeOf}
 use Rattle.storage.proofs.Places.{size-columns, size-packed}
+use Rattle.storage.specs.Placed.{blockOf}
 use Rattle.block_runs.specs.blocks.Blocks.{RowsBelow, rowFrom}
+use Rattle.cross_matvec.specs.Products.{HasRows}
 use Rattle.kernel_tests.specs.kernel_sizes.Sizes.{Clear}
 
 -- a test that failed shows anything
@@ -53,3 +57,9 @@ transposed rows cols e = omega (arith, e, size-columns rows cols, size-columns c
 module _ (h : List ℕ) (first m : ℕ) where
   pub one-more : (i : ℕ) → RowsBelow h first i m → rowFrom h first i < m → RowsBelow h first (i + 1) m
   one-more i f l x k = by-cases (decLt x i) (λ q. f x q) (λ q. let e : x ≡ i = omega arith in rw e l)
+
+  -- lent from `first` on
+  pub lent-rows : (at n : ℕ) → first + n ≤ length h → RowsBelow h first n m → HasRows (take (length h - first) (drop first h)) (blockOf at m n)
+  lent-rows at n l f =
+      rw (take-all (length h - first) (drop first h) (simp length-drop (omega arith)))
+      (simp length-drop (omega arith), λ c k. rw (getD-drop first h c 0) (f c k))

@@ -26,6 +26,7 @@ use Rattle.heading_format.specs.Heading.{isSparse}
 use Rattle.workspace.specs.Loaded.{countOf, ofPair, orRefused, oneEach, pairIn, firstRefusedPair, sortedLayout, layoutOfSheet}
 use Rattle.workspace.proofs.Valid.{one-each-count, sparse-is, diagonal-is}
 use Rattle.layout_gate.specs.gate_search.Search.{answerOf, numberOf, verdict, first}
+use Rattle.layout.proofs.Made.{layoutWith}
 
 -- entries count only where each column has one
 entries-same : (k rows cols : ℕ) (one : Bool) (n c : ℕ) → (one ≡ true → n ≡ c) → pairOf k rows cols one n ≡ pairOf k rows cols one c
@@ -145,7 +146,7 @@ some-denied (some r) n = refl
 
 -- ---- a layout by its parts
 abbrev made : Counts → List ℕ → List ℕ → Bool → Bool → Layout
-made c m order sparse diagonal = record { n = c.n; p = c.p; q = c.q; k = c.k; m = m; order = order; sparse = sparse; diagonal = diagonal }
+made c m order sparse diagonal = layoutWith c.n c.p c.q c.k m order sparse diagonal
 
 made-same : (c c′ : Counts) (m m′ order order′ : List ℕ) (sparse sparse′ diagonal diagonal′ : Bool) → c ≡ c′ → m ≡ m′ → order ≡ order′ → sparse ≡ sparse′
     → diagonal ≡ diagonal′ → made c m order sparse diagonal ≡ made c′ m′ order′ sparse′ diagonal′

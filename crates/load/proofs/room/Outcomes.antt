@@ -1,12 +1,12 @@
 -- What load leaves, part by part, is what is defined.
-use Prim.Native.Nat.{ℕ, suc, _+_, _≤_}
+use Prim.Native.Nat.{ℕ, _+_, _≤_}
 use mathlib.Core.Path.{_≡_, refl, sym, ap, ap₂, _∙_}
 use mathlib.Core.Bool.{true, false, _&&_, and-eq-true-iff}
 use mathlib.Core.List.{List, []}
 use mathlib.Core.Option.{Option, none, some}
 use native.Mathlib.Omega.{arith}
 use borrow.Author.Tests.{leb-true}
-use lib.Dec.{leb, ltb}
+use lib.Dec.{leb}
 use lib.ListN.{length}
 use lib.Ieee.{Float}
 use Rattle.refusal.specs.declared.Refusal.{Refusal}
@@ -24,8 +24,8 @@ use Rattle.sheet.specs.Answer.{Answers}
 use Rattle.sheet.proofs.Whole.{alone-read}
 use Rattle.layout.specs.declared.Layout.{Layout}
 use Rattle.heading_format.specs.declared.Progress.{Progress}
-use Rattle.layout.specs.Shapes.{pick, levels, pairs, sumAt, numbersNeeded, doublesNeeded}
-use Rattle.heading_format.specs.Heading.{validLayout, written, idle}
+use Rattle.layout.specs.Shapes.{pick, levels, pairs, doublesNeeded}
+use Rattle.heading_format.specs.Heading.{validLayout, written, idle, numbersNeeded}
 use Rattle.heading_format.proofs.Valid.{is-valid}
 use Rattle.heading_format.proofs.Heading.{length-written}
 use Rattle.workspace.specs.Answers.{Outcome, workspace, untouched}
@@ -33,6 +33,7 @@ use Rattle.workspace.specs.Loaded.{entryRowIn, firstRefusedPair, layoutOfSheet}
 use Rattle.workspace.specs.Load.{headingOf, doublesOf, hasRoom, afterGate, loadSheet, loadParsed, loadOf, Loads}
 use Rattle.layout_gate.specs.gate_search.Search.{answerOf}
 use Rattle.layout_gate.proofs.gate_search.Pairs.{none-denied, some-denied}
+use Rattle.heading_format.specs.Parts.{headingLength}
 
 -- ---- lengths
 -- the first block's levels are few
@@ -40,19 +41,13 @@ pub first-levels : (y : Layout) → validLayout y ≡ true → levels y 0 ≤ 65
 first-levels y ok = let l = is-valid y ok in l.level 0 (omega (arith, l.blocks.0)) .1
 
 -- with a sparse pair one number for each column, else none
-pub numbers-sparse : (y : Layout) → y .sparse ≡ true → 128 + levels y 0 ≡ numbersNeeded y
+pub numbers-sparse : (y : Layout) → y .sparse ≡ true → headingLength + levels y 0 ≡ numbersNeeded y
 numbers-sparse y e = rw e refl
 
-pub numbers-dense : (y : Layout) → y .sparse ≡ false → 128 ≡ numbersNeeded y
+pub numbers-dense : (y : Layout) → y .sparse ≡ false → headingLength ≡ numbersNeeded y
 numbers-dense y e = rw e refl
 
--- the two tests of the code, the last double being at sumAt
-pub room-is : (y : Layout) (h : List ℕ) (w : List Float) {a b : ℕ} → a ≡ numbersNeeded y → b ≡ sumAt y → leb a (length h) && ltb b (length w) ≡ hasRoom y h w
-room-is y h w e q =
-    let n : suc (sumAt y) ≡ doublesNeeded y = omega arith in
-    ap₂ (λ (a b : ℕ). leb a (length h) && leb b (length w)) e (ap suc q ∙ n)
-
--- what they say
+-- what the two tests say
 module _ (y : Layout) (h : List ℕ) (w : List Float) (room : hasRoom y h w ≡ true) where
   pub numbers-fit : numbersNeeded y ≤ length h
   numbers-fit = leb-true _ _ (and-eq-true-iff (leb (numbersNeeded y) (length h)) (leb (doublesNeeded y) (length w)) .0 room .0)
@@ -60,17 +55,17 @@ module _ (y : Layout) (h : List ℕ) (w : List Float) (room : hasRoom y h w ≡ 
   pub doubles-fit : doublesNeeded y ≤ length w
   doubles-fit = leb-true _ _ (and-eq-true-iff (leb (numbersNeeded y) (length h)) (leb (doublesNeeded y) (length w)) .0 room .1)
 
--- ---- the heading: 128 numbers, and the rows right behind them
+-- ---- the heading: its parts, and the rows right behind them
 pub heading-made : (sheet : Sheet) (y : Layout) (g : Progress) (h h₁ h₂ : List ℕ) → g ≡ idle (y .k) → h₁ ≡ store 0 (written y g) h
-    → h₂ ≡ store 128 (pick (y .sparse) (tab (levels y 0) (entryRowIn sheet y)) []) h₁ → numbersNeeded y ≤ length h → h₂ ≡ store 0 (headingOf sheet y) h
+    → h₂ ≡ store headingLength (pick (y .sparse) (tab (levels y 0) (entryRowIn sheet y)) []) h₁ → numbersNeeded y ≤ length h → h₂ ≡ store 0 (headingOf sheet y) h
 unfolding headingOf
 heading-made sheet y g h h₁ h₂ e₀ e₁ e₂ fits =
     let rows : List ℕ = pick y.sparse (tab (levels y 0) (entryRowIn sheet y)) [] in
     let front : List ℕ = written y (idle y.k) in
-    let long : length front ≡ 128 = length-written y (idle y.k) in
-    let behind : 128 ≡ 0 + length front = omega (arith, long) in
+    let long : length front ≡ headingLength = length-written y (idle y.k) in
+    let behind : headingLength ≡ 0 + length front = omega (arith, long) in
     e₂
-    ∙ ap (λ (x : List ℕ). store 128 rows x) (e₁ ∙ ap (λ (x : Progress). store 0 (written y x) h) e₀)
+    ∙ ap (λ (x : List ℕ). store headingLength rows x) (e₁ ∙ ap (λ (x : Progress). store 0 (written y x) h) e₀)
     ∙ ap (λ (n : ℕ). store n rows (store 0 front h)) behind
     ∙ store-more 0 front h (omega (arith, long, fits)) rows
 

@@ -18,7 +18,7 @@ use Rattle.sheet.specs.Field.{nowhere}
 use Rattle.sheet.specs.Sheet.{Sheet}
 use Rattle.sheet.specs.Whole.{Whole}
 use Rattle.layout.specs.declared.Layout.{Layout}
-use Rattle.layout.specs.Shapes.{levels, loadedSizes, loadedAt, loadedLength}
+use Rattle.layout.specs.Shapes.{levels, loadedSizes, loadedAt, loadedLength, lastRows}
 use Rattle.layout.proofs.Places.{loaded-inside}
 use Rattle.workspace.specs.Loaded.{entryRowIn, double, fixedWord, lastWord, loadedWord}
 use Rattle.load_numbers.specs.declared.word_address.Run.the-variants.{Zz, Zx, Zy, Xx, Xy, Yy}
@@ -103,9 +103,9 @@ module _ (s : List ℕ) (sheet : Sheet) (z : Starts) (y : Layout) (k : Known she
     fixed-value j r c g a =
         let P : ℕ = address y row y.k j r c in
         let here : In y row y.k j P = cell-is-in y row y.k j r c a in
-        let t = and-eq-true-iff (ltb c (levels y j)) (ltb r (y.p + 1)) .0 (subst (λ (x : Shape). hasCell x r c ≡ true) (shape-fixed y row j g) a.has) in
+        let t = and-eq-true-iff (ltb c (levels y j)) (ltb r (lastRows y)) .0 (subst (λ (x : Shape). hasCell x r c ≡ true) (shape-fixed y row j g) a.has) in
         let f : c < levels y j = ltb-true c (levels y j) t.0 in
-        let u : r < y .p + 1 = ltb-true r (y.p + 1) t.1 in
+        let u : r < lastRows y = ltb-true r (lastRows y) t.1 in
         let not-last : In y row y.k y.k P → ⊥ = λ v. let e : j ≡ y .k = in-one y row y.k j y.k y.k P here v .1 in omega arith in
         let long : P < length (zzed s sheet z y k h w) = omega (arith, inside y.k j P here, run-length s sheet z y k h Zz (length sheet.zz) 0 z.zz w) in
         xyy-missed s sheet z y k h (fixedOf w) P not-last
@@ -171,8 +171,8 @@ module _ (s : List ℕ) (sheet : Sheet) (z : Starts) (y : Layout) (k : Known she
     -- X'X, X'y and y'y
     last-value : (r c : ℕ) → Cell y row (y .k) (y .k) r c → getD (lastOf (fixedOf w)) (address y row (y .k) (y .k) r c) d ≡ double (loadedWord sheet y (y .k) (y .k) r c)
     last-value r c a =
-        let t = and-eq-true-iff (ltb r (y.p + 1)) (leb c r) .0 (subst (λ (x : Shape). hasCell x r c ≡ true) (shape-last y row) a.has) in
-        let u : r < y .p + 1 = ltb-true r (y.p + 1) t.0 in
+        let t = and-eq-true-iff (ltb r (lastRows y)) (leb c r) .0 (subst (λ (x : Shape). hasCell x r c ≡ true) (shape-last y row) a.has) in
+        let u : r < lastRows y = ltb-true r (lastRows y) t.0 in
         let e : address y row y.k y.k r c ≡ loadedAt y y.k y.k + (start triangle r + c) = ap (λ (x : Shape). loadedAt y y.k y.k + cellAt x r c) (shape-last y row) in
         let here = cell-is-in y row y.k y.k r c a in
         ap (λ (x : ℕ). getD (lastOf (fixedOf w)) x d) e

@@ -11,11 +11,11 @@ use Rattle.storage.specs.Shape.{Shape, packed, diagonal, columns, entries, hasC
 use Rattle.storage.proofs.Places.{place-below, place-one-to-one, place-columns, place-diagonal, place-entries}
 use Rattle.sheet.specs.Field.{nowhere}
 use Rattle.layout.specs.declared.Layout.{Layout}
-use Rattle.layout.specs.Shapes.{levels, shape, loadedShape, loadedSizes, loadedAt}
+use Rattle.layout.specs.Shapes.{levels, shape, loadedShape, loadedSizes, loadedAt, lastRows, lastShape, fixedShape}
 use Rattle.heading_format.specs.Heading.{validLayout}
 use Rattle.layout.proofs.Places.{size-loaded, loaded-apart}
 use Rattle.workspace.specs.Loaded.{rowStart, sheetRow, inBlock}
-use Rattle.block_places.specs.sheet_rows.Blocks.{blockOf}
+use Rattle.block_places.specs.sheet_rows.Blocks.{blockOfRow}
 use Rattle.block_places.proofs.sheet_rows.Rows.{in-block, is-in-block, block-in, block-one, block-is}
 use Rattle.load_numbers.specs.word_address.Spread.{entryPlace, fixedPlace}
 use Rattle.load_numbers.proofs.word_address.Places.{entry-none, entry-own, entry-mirror, entry-pair, fixed-none, fixed-row}
@@ -35,11 +35,11 @@ module _ (y : Layout) (row : ℕ → ℕ) where
   unfolding loadedShape shape
   shape-dense i j h g d = rw (ne-eqb i j (λ e. omega arith), ne-eqb i y.k (λ e. omega arith), d)
 
-  pub shape-fixed : (j : ℕ) → j < y .k → loadedShape y row (y .k) j ≡ columns (y .p + 1) (levels y j)
+  pub shape-fixed : (j : ℕ) → j < y .k → loadedShape y row (y .k) j ≡ fixedShape y j
   unfolding loadedShape shape
   shape-fixed j h = rw (ne-eqb y.k j (λ e. omega arith), eq-eqb y.k y.k refl, ne-eqb j y.k (λ e. omega arith))
 
-  pub shape-last : loadedShape y row (y .k) (y .k) ≡ packed (y .p + 1)
+  pub shape-last : loadedShape y row (y .k) (y .k) ≡ lastShape y
   unfolding loadedShape shape
   shape-last = rw (eq-eqb y.k y.k refl, le-ltb y.k y.k (omega arith))
 
@@ -102,7 +102,7 @@ module _ (y : Layout) (row : ℕ → ℕ) where
     level-row : (j x : ℕ) → inBlock y j x ≡ true → (x ≡ sheetRow y j (x - rowStart y j)) × (x - rowStart y j < levels y j)
     level-row j x e = let b = in-block y j x e in let b₀ = b.0 in let b₁ = b.1 in (omega arith, omega arith)
 
-    pub row-block : (j c : ℕ) → j < y .k → c < levels y j → j ≡ blockOf y (y .k) (sheetRow y j c)
+    pub row-block : (j c : ℕ) → j < y .k → c < levels y j → j ≡ blockOfRow y (y .k) (sheetRow y j c)
     row-block j c h g = sym (block-is y ok y.k j (sheetRow y j c) h (omega arith) (is-in-block y j (sheetRow y j c) (omega arith) (omega arith)))
 
     -- ---- fixed rows
@@ -112,17 +112,17 @@ module _ (y : Layout) (row : ℕ → ℕ) where
         record {
           below = omega arith;
           few = omega arith;
-          has = subst (λ (s : Shape). hasCell s r c ≡ true) (sym (shape-fixed j h)) (rw (lt-ltb c (levels y j) g, lt-ltb r (y.p + 1) (omega arith)));
+          has = subst (λ (s : Shape). hasCell s r c ≡ true) (sym (shape-fixed j h)) (rw (lt-ltb c (levels y j) g, lt-ltb r (lastRows y) (omega arith)));
         }
 
-    fixed-address : (j r c : ℕ) → j < y .k → address (y .k) j r c ≡ loadedAt y (y .k) j + (c * (y .p + 1) + r)
-    fixed-address j r c h = ap (λ (s : Shape). loadedAt y y.k j + cellAt s r c) (shape-fixed j h) ∙ ap (λ (x : ℕ). loadedAt y y.k j + x) (place-columns (y.p + 1) (levels y j) r c)
+    fixed-address : (j r c : ℕ) → j < y .k → address (y .k) j r c ≡ loadedAt y (y .k) j + (c * lastRows y + r)
+    fixed-address j r c h = ap (λ (s : Shape). loadedAt y y.k j + cellAt s r c) (shape-fixed j h) ∙ ap (λ (x : ℕ). loadedAt y y.k j + x) (place-columns (lastRows y) (levels y j) r c)
 
     -- the word of row r at a level's row goes into the level's column
     pub fixed-meets : (j r c : ℕ) → j < y .k → c < levels y j → fixedPlace y (sheetRow y j c) r ≡ address (y .k) j r c
     fixed-meets j r c h g =
         let q : sheetRow y j c - rowStart y j ≡ c = omega arith in
-        sym (fixed-row y (sheetRow y j c) r j (row-block j c h g) h) ∙ ap (λ (x : ℕ). loadedAt y y.k j + (x * (y.p + 1) + r)) q ∙ sym (fixed-address j r c h)
+        sym (fixed-row y (sheetRow y j c) r j (row-block j c h g) h) ∙ ap (λ (x : ℕ). loadedAt y y.k j + (x * lastRows y + r)) q ∙ sym (fixed-address j r c h)
 
     -- and any row's word into that of a level, or nowhere
     pub record Fixed (x r P : ℕ) : Type 0 where
@@ -134,9 +134,9 @@ module _ (y : Layout) (row : ℕ → ℕ) where
       pub there : P ≡ address (y .k) block r level
 
     pub fixed-lands : (x r : ℕ) → r ≤ y .p → (fixedPlace y x r ≡ nowhere) ⊎ Fixed x r (fixedPlace y x r)
-    fixed-lands x r f = step (blockOf y y.k x) refl
+    fixed-lands x r f = step (blockOfRow y y.k x) refl
       where
-        step : (j : ℕ) → j ≡ blockOf y (y .k) x → (fixedPlace y x r ≡ nowhere) ⊎ Fixed x r (fixedPlace y x r)
+        step : (j : ℕ) → j ≡ blockOfRow y (y .k) x → (fixedPlace y x r ≡ nowhere) ⊎ Fixed x r (fixedPlace y x r)
         step j e =
             by-cases (decLt j y.k)
             (λ h. let b = level-row j x (subst (λ (t : ℕ). inBlock y t x ≡ true) (sym e) (block-in y y.k x (omega arith) (omega arith) .0)) in
@@ -230,9 +230,9 @@ module _ (y : Layout) (row : ℕ → ℕ) where
         pub there : P ≡ address i j r c
 
       pub entry-lands : (col at : ℕ) → Sole col at → (entryPlace y col at ≡ nowhere) ⊎ Entered col at (entryPlace y col at)
-      entry-lands col at sole = step (blockOf y y.k at) (blockOf y y.k col) refl refl
+      entry-lands col at sole = step (blockOfRow y y.k at) (blockOfRow y y.k col) refl refl
         where
-          has-row : (i x : ℕ) → i ≡ blockOf y (y .k) x → i < y .k → inBlock y i x ≡ true
+          has-row : (i x : ℕ) → i ≡ blockOfRow y (y .k) x → i < y .k → inBlock y i x ≡ true
           has-row i x e h = subst (λ (t : ℕ). inBlock y t x ≡ true) (sym e) (block-in y y.k x (omega arith) (omega arith) .0)
 
           pair-has : (i j : ℕ) → j < i → i < y .k → inBlock y i at ≡ true → inBlock y j col ≡ true → hasCell (loadedShape y row i j) (at - rowStart y i) (col - rowStart y j) ≡ true
@@ -253,7 +253,7 @@ module _ (y : Layout) (row : ℕ → ℕ) where
                   subst (λ (s : Shape). hasCell s (at - rowStart y i) (col - rowStart y j) ≡ true) (sym (shape-dense i j h g q))
                   (rw (lt-ltb (col - rowStart y j) (levels y j) (level-row j col b .1), lt-ltb (at - rowStart y i) (levels y i) (level-row i at a .1)))
 
-          pair : (i j : ℕ) → i ≡ blockOf y (y .k) at → i < y .k → (col ≡ at → ⊥) → j ≡ blockOf y (y .k) col → j < i → Entered col at (entryPlace y col at)
+          pair : (i j : ℕ) → i ≡ blockOfRow y (y .k) at → i < y .k → (col ≡ at → ⊥) → j ≡ blockOfRow y (y .k) col → j < i → Entered col at (entryPlace y col at)
           pair i j e g q f h =
               let a = has-row i at e g in
               let b = has-row j col f (omega arith) in
@@ -270,7 +270,7 @@ module _ (y : Layout) (row : ℕ → ℕ) where
                 there = sym (entry-pair y col at i e g q j f h) ∙ ap (λ (x : ℕ). loadedAt y i j + x) (sym (pair-cell i j (at - rowStart y i) (col - rowStart y j) h g u));
               }
 
-          own : (i : ℕ) → i ≡ blockOf y (y .k) at → i < y .k → col ≡ at → Entered col at (entryPlace y col at)
+          own : (i : ℕ) → i ≡ blockOfRow y (y .k) at → i < y .k → col ≡ at → Entered col at (entryPlace y col at)
           own i e g q =
               let a = has-row i at e g in
               let b = level-row i at a in
@@ -292,11 +292,11 @@ module _ (y : Layout) (row : ℕ → ℕ) where
                     ∙ ap (λ (x : ℕ). loadedAt y i i + x) (sym (ap (λ (s : Shape). cellAt s (at - rowStart y i) (at - rowStart y i)) (shape-own i g) ∙ place-diagonal (levels y i) (at - rowStart y i)));
               }
 
-          unequal : (i j : ℕ) → i ≡ blockOf y (y .k) at → j ≡ blockOf y (y .k) col → i < y .k → (col ≡ at → ⊥) → (entryPlace y col at ≡ nowhere) ⊎ Entered col at (entryPlace y col at)
+          unequal : (i j : ℕ) → i ≡ blockOfRow y (y .k) at → j ≡ blockOfRow y (y .k) col → i < y .k → (col ≡ at → ⊥) → (entryPlace y col at ≡ nowhere) ⊎ Entered col at (entryPlace y col at)
           unequal i j e f g q =
               by-cases (decLt j i) (λ h. inr (pair i j e g q f h)) (λ h. inl (sym (entry-mirror y col at i e g q j f (omega arith))))
 
-          step : (i j : ℕ) → i ≡ blockOf y (y .k) at → j ≡ blockOf y (y .k) col → (entryPlace y col at ≡ nowhere) ⊎ Entered col at (entryPlace y col at)
+          step : (i j : ℕ) → i ≡ blockOfRow y (y .k) at → j ≡ blockOfRow y (y .k) col → (entryPlace y col at ≡ nowhere) ⊎ Entered col at (entryPlace y col at)
           step i j e f =
               by-cases (decLt i y.k)
               (λ g. by-cases (decLt col at) (λ u. unequal i j e f g (λ z. omega arith))

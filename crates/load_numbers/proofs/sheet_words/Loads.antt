@@ -10,13 +10,12 @@ use lib.Ieee.{Float}
 use Rattle.storage.specs.Runs.{tab}
 use Rattle.storage.specs.Part.{store}
 use Rattle.rules.specs.Arithmetic.{ieee}
-use Rattle.sheet.specs.declared.Line.{Line}
 use Rattle.sheet.specs.declared.Starts.{Starts}
 use Rattle.sheet.specs.Field.{nowhere}
-use Rattle.sheet.specs.Run.{entryIn, wordIn, keptFrom}
+use Rattle.sheet.specs.Run.{Kind, entryIn, wordIn, kindLine}
 use Rattle.sheet.specs.Sheet.{Sheet, accepted, readSheet}
-use Rattle.sheet.specs.Whole.{Each, EntryInRange, Finite, Whole}
-use Rattle.sheet.proofs.Whole.{read-whole}
+use Rattle.sheet.specs.Whole.{Each, EntryInRange, Finite, RunPlaced, Whole}
+use Rattle.sheet.proofs.Whole.{read-whole, zx-length, zy-length, xx-length, xy-length}
 use Rattle.layout.specs.declared.Layout.{Layout}
 use Rattle.layout.specs.Shapes.{doublesNeeded}
 use Rattle.heading_format.specs.Heading.{validLayout}
@@ -30,8 +29,8 @@ use Rattle.load_numbers.proofs.sheet_words.Facts.{Known, known, few-ent
 use Rattle.load_numbers.proofs.sheet_words.Numbers.{doubles-made}
 
 -- finite words, line by line
-words-finite : (read : ℕ → Line) (words : List ℕ) (at : ℕ) → Each Finite words → words ≡ keptFrom read wordIn (length words) 0 at → EachLine FiniteWord read (length words) at
-words-finite read words at f e = each-kept Finite FiniteWord wordIn (λ i l a. a) read (length words) 0 at (subst (Each Finite) e f)
+words-finite : {s : List ℕ} {kind : Kind} {to : ℕ} (words : List ℕ) (at : ℕ) → RunPlaced s kind at to words → EachLine FiniteWord (kindLine kind s) (length words) at
+words-finite {s} {kind} words at p = each-kept Finite FiniteWord wordIn (λ i l a. a) (kindLine kind s) (length words) 0 at (subst (Each Finite) p.kept p.finite)
 
 module _ (s : List ℕ) (z : Starts) (y : Layout) (r : Ready s z y) where
   abbrev sheet : Sheet
@@ -62,16 +61,16 @@ module _ (s : List ℕ) (z : Starts) (y : Layout) (r : Ready s z y) where
   few-k = omega (arith, whole.shape.counts.k, knows.k-is)
 
   pub zx-count : y .q * y .p ≡ length (sheet .zx)
-  zx-count = sym (whole.shape.zx-length ∙ ap₂ (λ (a b : ℕ). a * b) knows.q-is knows.p-is)
+  zx-count = sym (zx-length whole ∙ ap₂ (λ (a b : ℕ). a * b) knows.q-is knows.p-is)
 
   pub zy-count : y .q ≡ length (sheet .zy)
-  zy-count = sym (whole.shape.zy-length ∙ knows.q-is)
+  zy-count = sym (zy-length whole ∙ knows.q-is)
 
   pub xx-count : y .p * (y .p + 1) / 2 ≡ length (sheet .xx)
-  xx-count = sym (whole.shape.xx-length ∙ ap (λ (p : ℕ). p * (p + 1) / 2) knows.p-is)
+  xx-count = sym (xx-length whole ∙ ap (λ (p : ℕ). p * (p + 1) / 2) knows.p-is)
 
   pub xy-count : y .p ≡ length (sheet .xy)
-  xy-count = sym (whole.shape.xy-length ∙ knows.p-is)
+  xy-count = sym (xy-length whole ∙ knows.p-is)
 
   pub zz-few : length (sheet .zz) ≤ 274869518400
   zz-few =
@@ -85,19 +84,19 @@ module _ (s : List ℕ) (z : Starts) (y : Layout) (r : Ready s z y) where
       (subst (Each (EntryInRange sheet.counts.q)) whole.placed.zz whole.shape.zz)
 
   pub zx-lines : EachLine FiniteWord (lineOf Zx s) (length (sheet .zx)) (z .zx)
-  zx-lines = words-finite (lineOf Zx s) sheet.zx z.zx whole.shape.words.0 whole.placed.zx.0
+  zx-lines = words-finite sheet.zx z.zx whole.placed.words.0
 
   pub zy-lines : EachLine FiniteWord (lineOf Zy s) (length (sheet .zy)) (z .zy)
-  zy-lines = words-finite (lineOf Zy s) sheet.zy z.zy whole.shape.words.1 whole.placed.zy.0
+  zy-lines = words-finite sheet.zy z.zy whole.placed.words.1.0
 
   pub xx-lines : EachLine FiniteWord (lineOf Xx s) (length (sheet .xx)) (z .xx)
-  xx-lines = words-finite (lineOf Xx s) sheet.xx z.xx whole.shape.words.2 whole.placed.xx.0
+  xx-lines = words-finite sheet.xx z.xx whole.placed.words.1.1.0
 
   pub xy-lines : EachLine FiniteWord (lineOf Xy s) (length (sheet .xy)) (z .xy)
-  xy-lines = words-finite (lineOf Xy s) sheet.xy z.xy whole.shape.words.3 whole.placed.xy.0
+  xy-lines = words-finite sheet.xy z.xy whole.placed.words.1.1.1.0
 
   pub yy-lines : EachLine FiniteWord (lineOf Yy s) 1 (z .yy)
-  yy-lines = words-finite (lineOf Yy s) (sheet.yy ∷ []) z.yy (whole.shape.words.4, tt) whole.placed.yy.0
+  yy-lines = words-finite (sheet.yy ∷ []) z.yy whole.placed.words.1.1.1.1.0
 
   -- ---- all of it
 

@@ -20,7 +20,7 @@ use Rattle.sheet.specs.Field.{nowhere}
 use Rattle.sheet.specs.Sheet.{Sheet}
 use Rattle.sheet.specs.Whole.{Whole}
 use Rattle.layout.specs.declared.Layout.{Layout}
-use Rattle.layout.specs.Shapes.{Target, target, factors, across, pairs, targets, cellsOf, loadedShape, loadedSizes, loadedAt, loadedLength, thetaAt, sumAt, doublesNeeded}
+use Rattle.layout.specs.Shapes.{Target, target, factors, across, pairs, targets, cellsOf, loadedShape, loadedSizes, loadedAt, loadedLength, sumAt, doublesNeeded, triangleEnd}
 use Rattle.layout.proofs.Formula.{cells-append}
 use Rattle.layout.proofs.Places.{size-loaded, loaded-inside}
 use Rattle.workspace.specs.Memory.{zeros}
@@ -103,7 +103,7 @@ module _ (sheet : Sheet) (y : Layout) (W : List Float) where
         ∙ omega (arith, cells-append (loadedSizes y) (factors k ++ pairs k) (across k k), cells-append (loadedSizes y) (factors k) (pairs k))))
 
     pub tiled-numbers : take (loadedLength y) W ≡ loadedNumbers sheet y
-    unfolding loadedLength loadedNumbers
+    unfolding triangleEnd loadedNumbers
     tiled-numbers = tiled-list 0 (targets y.k) tiled-targets
 
 -- ---- the whole list
@@ -157,7 +157,7 @@ module _ (s : List ℕ) (sheet : Sheet) (z : Starts) (y : Layout) (k : Known she
         ∙ sym
         (ap (λ (x : ℕ). getD (loadedNumbers sheet y ++ zeros y) x (double 0)) (let e : P ≡ length (loadedNumbers sheet y) + (P - loadedLength y) = omega (arith, length-loaded sheet y) in e)
         ∙ getD-append-add (loadedNumbers sheet y) (zeros y) (P - loadedLength y) (double 0)
-        ∙ getD-replicate (suc (sumAt y) - thetaAt y) (P - loadedLength y) ieee.zero (double 0) (omega arith)))
+        ∙ getD-replicate (doublesNeeded y - loadedLength y) (P - loadedLength y) ieee.zero (double 0) (omega arith)))
 
     pub doubles-made : allOf cleared ≡ store 0 (doublesOf sheet y) w₀
     doubles-made =

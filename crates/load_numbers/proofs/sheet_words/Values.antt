@@ -20,8 +20,9 @@ use Rattle.sheet.specs.Field.{nowhere}
 use Rattle.sheet.specs.Run.{Entry, wordIn, keptFrom}
 use Rattle.sheet.specs.Sheet.{Sheet}
 use Rattle.sheet.specs.Whole.{Each, Whole}
+use Rattle.sheet.proofs.Whole.{zx-length, zy-length, xx-length, xy-length}
 use Rattle.layout.specs.declared.Layout.{Layout}
-use Rattle.layout.specs.Shapes.{levels, loadedSizes, loadedAt, loadedLength}
+use Rattle.layout.specs.Shapes.{levels, loadedSizes, loadedAt, loadedLength, lastRows}
 use Rattle.heading_format.proofs.Valid.{is-valid}
 use Rattle.layout.proofs.Places.{size-loaded, loaded-inside}
 use Rattle.workspace.specs.Loaded.{sheetRow, wordOf, entryRowIn, double}
@@ -120,15 +121,15 @@ module _ (s : List ℕ) (sheet : Sheet) (z : Starts) (y : Layout) (k : Known she
   pub xx-long : length (sheet .xx) ≡ start triangle (y .p)
   xx-long =
       let e : sheet .counts .p * (sheet.counts.p + 1) / 2 ≡ y .p * (y.p + 1) / 2 = ap (λ (p : ℕ). p * (p + 1) / 2) k.p-is in
-      omega (arith, h.shape.xx-length, e, start-triangle y.p)
+      omega (arith, xx-length h, e, start-triangle y.p)
 
   pub xy-long : length (sheet .xy) ≡ y .p
-  xy-long = h.shape.xy-length ∙ k.p-is
+  xy-long = xy-length h ∙ k.p-is
 
   last-long : loadedSizes y (y .k) (y .k) ≡ length (sheet .xx) + length (sheet .xy) + 1
   unfolding start
   last-long =
-      let e : start triangle (y.p + 1) ≡ start triangle y.p + (y.p + 1) = rw add-one (omega arith) in
+      let e : start triangle (lastRows y) ≡ start triangle y.p + lastRows y = rw add-one (omega arith) in
       sym (size-loaded y row y.k y.k) ∙ ap sizeOf (shape-last y row) ∙ omega (arith, e, xx-long, xy-long)
 
   last-away : (P : ℕ) → (In y row (y .k) (y .k) P → ⊥) → (t : ℕ) → t < length (sheet .xx) + length (sheet .xy) + 1 → loadedAt y (y .k) (y .k) + t ≡ P → ⊥
@@ -197,7 +198,7 @@ module _ (s : List ℕ) (sheet : Sheet) (z : Starts) (y : Layout) (k : Known she
       let x : ℕ = sheetRow y j c in
       let m : ℕ = x * y .p + r in
       let t = split-at x y.p r m some-effect a refl in
-      let long : length sheet.zx ≡ sheet .counts .q * y .p = h.shape.zx-length ∙ ap (λ (p : ℕ). sheet .counts .q * p) k.p-is in
+      let long : length sheet.zx ≡ sheet .counts .q * y .p = zx-length h ∙ ap (λ (p : ℕ). sheet .counts .q * p) k.p-is in
       let below : x + 1 ≤ sheet .counts .q = omega (arith, row-below j c g f) in
       let fits′ : m < 0 + length sheet.zx = omega (arith, long, mul-le-mul-right y.p below) in
       word-put (placeOf Zx y) double (lineOf Zx s) (address y row y.k j r c) d (length sheet.zx) 0 z.zx 0 m w (omega arith) fits′
@@ -207,19 +208,19 @@ module _ (s : List ℕ) (sheet : Sheet) (z : Starts) (y : Layout) (k : Known she
       other (join-at y.p u x r o.0 o.1))
       fits
       ∙ ap (λ (n : ℕ). double (getD (keptFrom (lineOf Zx s) wordIn (length sheet.zx) 0 z.zx) n 0)) (let e : m - 0 ≡ m = omega arith in e)
-      ∙ ap (λ (l : List ℕ). double (getD l m 0)) (sym h.placed.zx.0)
+      ∙ ap (λ (l : List ℕ). double (getD l m 0)) (sym h.placed.words.0.kept)
 
   pub zy-value : (w : List Float) (j c : ℕ) → j < y .k → c < levels y j → address y row (y .k) j (y .p) c < length w
       → getD (zyed w) (address y row (y .k) j (y .p) c) d ≡ double (getD (sheet .zy) (sheetRow y j c) 0)
   zy-value w j c g f fits =
       let x : ℕ = sheetRow y j c in
       word-put (placeOf Zy y) double (lineOf Zy s) (address y row y.k j y.p c) d (length sheet.zy) 0 z.zy 0 x w (omega arith)
-      (omega (arith, row-below j c g f, h.shape.zy-length))
+      (omega (arith, row-below j c g f, zy-length h))
       (λ l. fixed-meets y row k.ok j y.p c g f)
       (λ u l b e other q. other (fixed-one j y.p c u y.p g f (omega arith) (omega arith) q .0))
       fits
       ∙ ap (λ (n : ℕ). double (getD (keptFrom (lineOf Zy s) wordIn (length sheet.zy) 0 z.zy) n 0)) (let e : x - 0 ≡ x = omega arith in e)
-      ∙ ap (λ (l : List ℕ). double (getD l x 0)) (sym h.placed.zy.0)
+      ∙ ap (λ (l : List ℕ). double (getD l x 0)) (sym h.placed.words.1.0.kept)
 
   -- the two runs of the fixed rows do not meet
   pub zy-other : (w : List Float) (j r c : ℕ) → j < y .k → c < levels y j → r < y .p → getD (zyed w) (address y row (y .k) j r c) d ≡ getD w (address y row (y .k) j r c) d
@@ -235,7 +236,7 @@ module _ (s : List ℕ) (sheet : Sheet) (z : Starts) (y : Layout) (k : Known she
       word-put (placeOf Xx y) double (lineOf Xx s) (loadedAt y y.k y.k + o) d (length sheet.xx) 0 z.xx 0 o w (omega arith) (omega arith) (λ l. refl)
       (λ u l b e other q. other (omega arith)) fits
       ∙ ap (λ (n : ℕ). double (getD (keptFrom (lineOf Xx s) wordIn (length sheet.xx) 0 z.xx) n 0)) (let e : o - 0 ≡ o = omega arith in e)
-      ∙ ap (λ (l : List ℕ). double (getD l o 0)) (sym h.placed.xx.0)
+      ∙ ap (λ (l : List ℕ). double (getD l o 0)) (sym h.placed.words.1.1.0.kept)
 
   pub xy-value : (w : List Float) (o : ℕ) → o < length (sheet .xy) → loadedAt y (y .k) (y .k) + (length (sheet .xx) + o) < length w
       → getD (xyed w) (loadedAt y (y .k) (y .k) + (length (sheet .xx) + o)) d ≡ double (getD (sheet .xy) o 0)
@@ -243,7 +244,7 @@ module _ (s : List ℕ) (sheet : Sheet) (z : Starts) (y : Layout) (k : Known she
       word-put (placeOf Xy y) double (lineOf Xy s) (loadedAt y y.k y.k + (length sheet.xx + o)) d (length sheet.xy) (length sheet.xx) z.xy 0 (length sheet.xx + o) w (omega arith) (omega arith) (λ l. refl)
       (λ u l b e other q. other (omega arith)) fits
       ∙ ap (λ (n : ℕ). double (getD (keptFrom (lineOf Xy s) wordIn (length sheet.xy) 0 z.xy) n 0)) (let e : length sheet.xx + o - length sheet.xx ≡ o = omega arith in e)
-      ∙ ap (λ (l : List ℕ). double (getD l o 0)) (sym h.placed.xy.0)
+      ∙ ap (λ (l : List ℕ). double (getD l o 0)) (sym h.placed.words.1.1.1.0.kept)
 
   pub yy-value : (w : List Float) → loadedAt y (y .k) (y .k) + (length (sheet .xx) + length (sheet .xy)) < length w
       → getD (yyed w) (loadedAt y (y .k) (y .k) + (length (sheet .xx) + length (sheet .xy))) d ≡ double (sheet .yy)
@@ -252,4 +253,4 @@ module _ (s : List ℕ) (sheet : Sheet) (z : Starts) (y : Layout) (k : Known she
       word-put (placeOf Yy y) double (lineOf Yy s) (loadedAt y y.k y.k + n) d 1 n z.yy 0 n w (omega arith) (omega arith) (λ l. refl)
       (λ u l b e other q. other (omega arith)) fits
       ∙ ap (λ (m : ℕ). double (getD (keptFrom (lineOf Yy s) wordIn 1 0 z.yy) m 0)) (let e : n - n ≡ 0 = omega arith in e)
-      ∙ ap (λ (l : List ℕ). double (getD l 0 0)) (sym h.placed.yy.0)
+      ∙ ap (λ (l : List ℕ). double (getD l 0 0)) (sym h.placed.words.1.1.1.1.0.kept)

@@ -12,22 +12,22 @@ use borrow.Author.Tests.{lt-ltb, le-ltb, eq-eqb, ne-eqb}
 use Rattle.sheet.specs.declared.Line.{Line}
 use Rattle.sheet.specs.Field.{nowhere, isFinite}
 use Rattle.layout.specs.declared.Layout.{Layout}
-use Rattle.layout.specs.Shapes.{levels, loadedAt, loadedLength, sumAt}
+use Rattle.layout.specs.Shapes.{levels, loadedAt, loadedLength, sumAt, lastRows}
 use Rattle.heading_format.specs.Heading.{validLayout}
 use Rattle.layout.proofs.Places.{loaded-inside}
 use Rattle.workspace.specs.Loaded.{rowStart, inBlock}
 use Rattle.block_places.proofs.block_sizes.Sizes.{doubles-small}
-use Rattle.block_places.specs.sheet_rows.Blocks.{blockOf}
+use Rattle.block_places.specs.sheet_rows.Blocks.{blockOfRow}
 use Rattle.block_places.proofs.sheet_rows.Rows.{block-in}
 use Rattle.load_numbers.specs.word_address.Spread.{EachLine, spread, entryPlace, fixedPlace}
 
 module _ (y : Layout) where
   -- the block that is found has the row
-  pub found : (x i : ℕ) → i ≡ blockOf y (y .k) x → i < y .k → inBlock y i x ≡ true
+  pub found : (x i : ℕ) → i ≡ blockOfRow y (y .k) x → i < y .k → inBlock y i x ≡ true
   found x i e h =
       subst (λ (b : ℕ). inBlock y b x ≡ true) (sym e) (block-in y y.k x (omega arith) (omega arith) .0)
 
-  module _ (col row i : ℕ) (e : i ≡ blockOf y (y .k) row) where
+  module _ (col row i : ℕ) (e : i ≡ blockOfRow y (y .k) row) where
     pub entry-none : y .k ≤ i → nowhere ≡ entryPlace y col row
     unfolding entryPlace
     entry-none h = rw (← e, le-ltb i y.k h)
@@ -36,7 +36,7 @@ module _ (y : Layout) where
     unfolding entryPlace
     entry-own h q = rw (← e, lt-ltb i y.k h, eq-eqb col row q)
 
-    module _ (h : i < y .k) (q : col ≡ row → ⊥) (j : ℕ) (f : j ≡ blockOf y (y .k) col) where
+    module _ (h : i < y .k) (q : col ≡ row → ⊥) (j : ℕ) (f : j ≡ blockOfRow y (y .k) col) where
       pub entry-mirror : i ≤ j → nowhere ≡ entryPlace y col row
       unfolding entryPlace
       entry-mirror g = rw (← e, lt-ltb i y.k h, ne-eqb col row q, ← f, le-ltb j i g)
@@ -45,12 +45,12 @@ module _ (y : Layout) where
       unfolding entryPlace
       entry-pair g = rw (← e, lt-ltb i y.k h, ne-eqb col row q, ← f, lt-ltb j i g)
 
-  module _ (x r j : ℕ) (e : j ≡ blockOf y (y .k) x) where
+  module _ (x r j : ℕ) (e : j ≡ blockOfRow y (y .k) x) where
     pub fixed-none : y .k ≤ j → nowhere ≡ fixedPlace y x r
     unfolding fixedPlace
     fixed-none h = rw (← e, le-ltb j y.k h)
 
-    pub fixed-row : j < y .k → loadedAt y (y .k) j + ((x - rowStart y j) * (y .p + 1) + r) ≡ fixedPlace y x r
+    pub fixed-row : j < y .k → loadedAt y (y .k) j + ((x - rowStart y j) * lastRows y + r) ≡ fixedPlace y x r
     unfolding fixedPlace
     fixed-row h = rw (← e, lt-ltb j y.k h)
 
@@ -68,8 +68,8 @@ pair-same b m e f g q = rw (q, e, f, g)
 pub cell-low : (c m r : ℕ) → c ≤ 65535 → m ≤ 65535 → r ≤ 65535 → c * m + r ≤ 4295032832
 cell-low c m r h g f = omega (arith, mul-le-mul h g)
 
-pub fixed-low : (c p : ℕ) → c ≤ 65535 → p ≤ 32 → c * (p + 1) ≤ 2162655
-fixed-low c p h g = let k : p + 1 ≤ 33 = omega arith in omega (arith, mul-le-mul h k)
+pub fixed-low : (c rows : ℕ) → c ≤ 65535 → rows ≤ 33 → c * rows ≤ 2162655
+fixed-low c rows h k = omega (arith, mul-le-mul h k)
 
 -- ---- one line of a run more
 

@@ -10,11 +10,11 @@ use Rattle.sheet.specs.declared.Line.{Line}
 use Rattle.sheet.specs.Field.{nowhere, isFinite}
 use Rattle.sheet.specs.Line.{zzTag, zxTag, zyTag, xxTag, xyTag, yyTag, pairLine, singleLine, bareLine}
 use Rattle.layout.specs.declared.Layout.{Layout}
-use Rattle.layout.specs.Shapes.{levels, loadedAt}
+use Rattle.layout.specs.Shapes.{blockRows, loadedAt, lastRows, responseRow}
 use Rattle.layout.specs.Blocks.{sum}
 use Rattle.heading_format.specs.Heading.{sheetLevels}
 use Rattle.workspace.specs.Loaded.{rowStart, double}
-use Rattle.block_places.specs.sheet_rows.Blocks.{blockOf}
+use Rattle.block_places.specs.sheet_rows.Blocks.{blockOfRow}
 use Rattle.load_numbers.specs.declared.word_address.Run.{Run}
 use Rattle.load_numbers.specs.declared.word_address.Run.the-variants.{Zz, Zx, Zy, Xx, Xy, Yy}
 
@@ -42,26 +42,26 @@ spread put read (suc n) i at w = spread put read n (suc i) (read at .next) (put 
 -- Z'Z at a column and row: a level's own in its factor's diagonal; where the column's block comes before the row's, in their pair, which is dense by columns
 -- or has one entry in each; the mirrored entries are loaded nowhere
 unfoldable pub entryPlace : Layout → ℕ → ℕ → ℕ
-unfolding blockOf loadedAt sum sheetLevels
+unfolding blockOfRow loadedAt sum sheetLevels
 entryPlace y col row =
-    let i = blockOf y (y .k) row in
-    let j = blockOf y (y .k) col in
+    let i = blockOfRow y (y .k) row in
+    let j = blockOfRow y (y .k) col in
     cond (ltb i (y .k))
     (cond (eqb col row) (loadedAt y i i + (row - rowStart y i))
-    (cond (ltb j i) (loadedAt y i j + cond (y .sparse) (col - rowStart y j) ((col - rowStart y j) * levels y i + (row - rowStart y i))) nowhere)) nowhere
+    (cond (ltb j i) (loadedAt y i j + cond (y .sparse) (col - rowStart y j) ((col - rowStart y j) * blockRows y i + (row - rowStart y i))) nowhere)) nowhere
 
 -- fixed row r at row x of the sheet
 unfoldable pub fixedPlace : Layout → ℕ → ℕ → ℕ
-unfolding blockOf loadedAt sum sheetLevels
+unfolding blockOfRow loadedAt sum sheetLevels
 fixedPlace y x r =
-    let j = blockOf y (y .k) x in
-    cond (ltb j (y .k)) (loadedAt y (y .k) j + ((x - rowStart y j) * (y .p + 1) + r)) nowhere
+    let j = blockOfRow y (y .k) x in
+    cond (ltb j (y .k)) (loadedAt y (y .k) j + ((x - rowStart y j) * lastRows y + r)) nowhere
 
 -- the word of line i of a run; those of xx, xy and yy are counted as one run
 abbrev pub placeOf : Run → Layout → ℕ → Line → ℕ
 placeOf Zz y i l = entryPlace y (l .first) (l .second)
 placeOf Zx y i l = fixedPlace y (i / y .p) (i % y .p)
-placeOf Zy y i l = fixedPlace y i (y .p)
+placeOf Zy y i l = fixedPlace y i (responseRow y)
 placeOf Xx y i l = loadedAt y (y .k) (y .k) + i
 placeOf Xy y i l = loadedAt y (y .k) (y .k) + i
 placeOf Yy y i l = loadedAt y (y .k) (y .k) + i

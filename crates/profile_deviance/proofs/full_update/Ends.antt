@@ -13,7 +13,6 @@ use Rattle.refusal.specs.declared.Refusal.{Refusal}
 use Rattle.refusal.specs.declared.Answer.{Answer}
 use Rattle.refusal.specs.declared.Answer.the-variants.{Accepted, Refused as Denied}
 use Rattle.layout.specs.declared.Layout.{Layout}
-use Rattle.layout.specs.Shapes.{doublesNeeded}
 use Rattle.heading_format.specs.Heading.{layoutOf, validLayout, validHeading}
 use Rattle.heading_format.proofs.Valid.{is-valid}
 use Rattle.heading_format.proofs.Fits.{fits}
@@ -33,6 +32,8 @@ use Rattle.profile_deviance.specs.ready_step.ReadyInTurn.{ReadyInTurn, R
 use Rattle.profile_deviance.proofs.ready_step.Turns.{just-begun}
 use Rattle.profile_deviance.proofs.ready_step.Runs.{outcome}
 use Rattle.update.proofs.progress_laws.Calls.{begin-kept, begin-accepted, run-kept}
+use Rattle.heading_format.specs.Parts.{headingLength}
+use Rattle.heading_format.specs.Fits.{Room}
 
 abbrev updating : Updated → Workspace → Updating
 updating u v = record { answer = u; left = v }
@@ -52,8 +53,8 @@ pub turn-come : (h : List ℕ) (w : List Float) (y : Layout) → y ≡ layoutOf 
 turn-come h w y e ok u = (is-valid y (rw e ok) .blocks .1, rw e u)
 
 -- and what its end needs
-pub still : (h : List ℕ) (w w′ : List Float) (y : Layout) → y ≡ layoutOf h → validLayout (layoutOf h) ≡ true → doublesNeeded (layoutOf h) ≤ length w → length w′ ≡ length w → (validLayout y ≡ true) × (doublesNeeded y ≤ length w′)
-still h w w′ y e ok room q = (rw e ok, rw (e, q) room)
+pub still : (h : List ℕ) (w w′ : List Float) (y : Layout) → y ≡ layoutOf h → Room (layoutOf h) (length w) → length w′ ≡ length w → Room y (length w′)
+still h w w′ y e r q = record { valid = rw e r.valid; room = rw (e, q) r.room }
 
 module _ (h : List ℕ) (w : List Float) (y : Layout) (is-y : y ≡ layoutOf h) (a : Answer) (h′ : List ℕ) (w′ : List Float)
     (ran : Ran (workspace h w) (rustOrder (y .k)) (outcome a (workspace h′ w′))) where
@@ -87,14 +88,13 @@ module _ (h : List ℕ) (w theta : List Float) (a : Answer) (h′ : List ℕ) (w
 
     -- what is begun is a workspace
     pub begun-ready : length h′ ≡ length h → length w′ ≡ length w
-        → (128 ≤ length h′) × (validLayout (layoutOf h′) ≡ true) × (doublesNeeded (layoutOf h′) ≤ length w′) × ReadyInTurn (workspace h′ w′) (rustOrder (layoutOf h′ .k))
+        → (headingLength ≤ length h′) × Room (layoutOf h′) (length w′) × ReadyInTurn (workspace h′ w′) (rustOrder (layoutOf h′ .k))
     begun-ready p q =
         let done : beginOf h w theta .answer ≡ Accepted = ap (λ (o : Outcome). o .answer) (sym is) ∙ e in
         let k = fits h (length w) (begin-accepted h w theta done .0) in
         let kept : layoutOf h′ ≡ layoutOf h = ap (λ (o : Outcome). layoutOf o.left.heading) is ∙ begin-kept h w theta in (
           rw p k.long,
-          rw kept k.layout,
-          rw (kept, q) k.room,
+          record { valid = rw kept k.valid; room = rw (kept, q) k.room },
           just-begun h (workspace h′ w′) (rw q (begin-accepted h w theta done .0)) (ap (λ (o : Outcome). o .left .heading) is ∙ begin-accepted h w theta done .2),
         )
 
@@ -164,8 +164,8 @@ module _ (h : List ℕ) (w theta : List Float) where
           (value-facts x (ap (λ (o : Updating). o .answer) (sym is) ∙ e))
 
       -- what is left is a workspace
-      pub value-ready : length h′ ≡ length h → length w′ ≡ length w → (y : Layout) → y ≡ layoutOf h′ → (128 ≤ length h′) × (validLayout y ≡ true) × (doublesNeeded y ≤ length w′)
-      value-ready p q y is-y = let k = fits h (length w) facts.0 in (rw p k.long, rw (is-y, facts.1) k.layout, rw (is-y, facts.1, q) k.room)
+      pub value-ready : length h′ ≡ length h → length w′ ≡ length w → (y : Layout) → y ≡ layoutOf h′ → (headingLength ≤ length h′) × Room y (length w′)
+      value-ready p q y is-y = let k = fits h (length w) facts.0 in (rw p k.long, record { valid = rw (is-y, facts.1) k.valid; room = rw (is-y, facts.1, q) k.room })
 
       -- the value goes on to the tail
       pub value-done : (y : Layout) → y ≡ layoutOf h′ → (d : Deviance) → d ≡ devianceWith y w′ x reml → profiled d (workspace h′ w′) ≡ profileOf h w theta reml

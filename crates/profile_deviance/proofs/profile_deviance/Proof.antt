@@ -12,7 +12,7 @@ layout-requires : tie.Need-layout-requires
 layout-requires c κs = let a = c.before.before.before.before.before.before.before.before.before.before.before.before.before.before.args in value-ready a.heading.now a.doubles.now a.theta.now a.reml _ _ _ c.before.before.before.before.before.before.before.before.update.ensures _ c.before.before.u.given.1 (search needs) (search needs) _ refl .0
 
 tail-requires : tie.Need-tail-requires
-tail-requires c κs = let a = c.before.before.before.before.before.before.before.before.before.before.before.before.before.before.before.before.args in let k = value-ready a.heading.now a.doubles.now a.theta.now a.reml _ _ _ c.before.before.before.before.before.before.before.before.before.before.update.ensures _ c.before.before.before.before.u.given.1 (search needs) (search needs) _ c.before.layout.ensures in (k.1, k.2)
+tail-requires c κs = let a = c.before.before.before.before.before.before.before.before.before.before.before.before.before.before.before.before.args in value-ready a.heading.now a.doubles.now a.theta.now a.reml _ _ _ c.before.before.before.before.before.before.before.before.before.before.update.ensures _ c.before.before.before.before.u.given.1 (search needs) (search needs) _ c.before.layout.ensures .1
 
 returns-2 : tie.Need-returns-2
 returns-2 c = let a = c.before.before.before.before.before.before.before.before.before.before.before.before.before.before.before.before.before.args in value-done a.heading.now a.doubles.now a.theta.now a.reml _ _ _ c.before.before.before.before.before.before.before.before.before.before.before.update.ensures _ c.before.before.before.before.before.u.given.1 _ c.before.before.layout.ensures _ c.tail.ensures

@@ -32,6 +32,7 @@ use Rattle.update.proofs.progress_laws.Kept.{layout-kept, progress-read, valid-
 use Rattle.update.proofs.progress_laws.Moves.{stays-valid, length-advanced, stage-advanced, valid-advanced}
 use Rattle.profile_deviance.specs.ready_step.ReadyInTurn.{isRefused, ReadyInTurn}
 use Rattle.storage.proofs.Cells.{default-at}
+use Rattle.heading_format.specs.Parts.{stagesAt, mostTargets, headingLength}
 
 -- the state of a valid progress goes with the steps left
 state-law : (k : ℕ) (g : Progress) → validProgress k g ≡ true → validState (g .state) (g .left) (length (rustOrder k)) ≡ true
@@ -57,9 +58,9 @@ never-idle : (b : Bool) → cond b Finished UnderWay ≡ Idle → ⊥
 never-idle true e = true≢false (ap isIdle (sym e))
 never-idle false e = true≢false (ap isIdle (sym e))
 
-stages-many : (h : List ℕ) → 128 ≤ length h → length (progressOf h .stages) ≡ 45
+stages-many : (h : List ℕ) → headingLength ≤ length h → length (progressOf h .stages) ≡ mostTargets
 unfolding progressOf
-stages-many h long = length-part 24 45 h (omega arith)
+stages-many h long = length-part stagesAt mostTargets h (omega arith)
 
 -- a workspace whose layout and progress are known
 known : (v : Workspace) (l : List Step) (y : Layout) (g : Progress) → layoutOf (v .heading) ≡ y → progressOf (v .heading) ≡ g
@@ -79,11 +80,11 @@ module _ (v : Workspace) (s : Step) (l : List Step) (u : ReadyInTurn v (s ∷ l)
   abbrev g : Progress
   g = progressOf h
 
-  fit : Fits h (length w)
+  fit : Fits (layoutOf h) h (length w)
   fit = fits h (length w) u.valid
 
   few : k ≤ 8
-  few = is-valid (layoutOf h) fit.layout .blocks .1
+  few = is-valid (layoutOf h) fit.valid .blocks .1
 
   ready : Ready (stageOf g) s
   ready = ready-after k (stageOf g) (stays-valid k g fit.progress .most) u.set u.stands s u.order.0 .1 (u.order.1, u.order.2)
@@ -95,7 +96,7 @@ module _ (v : Workspace) (s : Step) (l : List Step) (u : ReadyInTurn v (s ∷ l)
   going = under-way g.state g.left (length (rustOrder k)) u.begun (state-law k g fit.progress) some-left
 
   -- what taking it asks
-  pub is-ready : Fits h (length w) × IsStep k s × (1 ≤ g .left)
+  pub is-ready : Fits (layoutOf h) h (length w) × IsStep k s × (1 ≤ g .left)
   is-ready = (fit, u.order.0, some-left)
 
   -- it is not refused for its name, nor as done, nor for a forerunner
@@ -109,8 +110,8 @@ module _ (v : Workspace) (s : Step) (l : List Step) (u : ReadyInTurn v (s ∷ l)
   moved : (v′ : Workspace) → v′ .heading ≡ headingWith h (advanced g s) → length (v′ .doubles) ≡ length w → ReadyInTurn v′ l
   moved v′ e q =
       let n : IsStep k s = u.order.0 in
-      let many : length g.stages ≡ 45 = stages-many h fit.long in
-      let more : length (advanced g s .stages) ≡ 45 = length-advanced k few g many s n in
+      let many : length g.stages ≡ mostTargets = stages-many h fit.long in
+      let more : length (advanced g s .stages) ≡ mostTargets = length-advanced k few g many s n in
       known v′ l (layoutOf h) (advanced g s) (ap layoutOf e ∙ layout-kept h fit.long (advanced g s)) (ap progressOf e ∙ progress-read h fit.long (advanced g s) more)
       (rw (e, q) (valid-heading-with h (length w) u.valid (advanced g s) more (valid-advanced k few g many s n fit.progress going ready)))
       (never-idle (eqb g.left 1)) (join u.set s)
@@ -142,7 +143,7 @@ just-begun x v ok e =
     let n : ℕ = layoutOf x .k in
     let is-y : layoutOf v.heading ≡ layoutOf x = ap layoutOf e ∙ layout-kept x f.long (underWay n) in
     known v (rustOrder (layoutOf v.heading .k)) (layoutOf x) (underWay n) is-y (ap progressOf e ∙ progress-read x f.long (underWay n) refl)
-    (rw e (valid-heading-with x (length v.doubles) ok (underWay n) refl (under-way-valid n (is-valid (layoutOf x) f.layout .blocks .1))))
+    (rw e (valid-heading-with x (length v.doubles) ok (underWay n) refl (under-way-valid n (is-valid (layoutOf x) f.valid .blocks .1))))
     (λ z. true≢false (ap isIdle (sym z))) (λ s. false)
-    (represents-same n (λ i j. 0) (stageOf (underWay n)) (λ s. false) (λ i j a b. sym (default-at {A = ℕ} 0 45 (start triangle i + j))) (represents-begun n))
+    (represents-same n (λ i j. 0) (stageOf (underWay n)) (λ s. false) (λ i j a b. sym (default-at {A = ℕ} 0 mostTargets (start triangle i + j))) (represents-begun n))
     (rw is-y (rust-order n))

@@ -1,19 +1,18 @@
 -- The refusals of a new response, list by list.
-use Prim.Native.Nat.{ℕ, _≤_, _<_}
-use mathlib.Core.Path.{_≡_, refl}
+use Prim.Native.Nat.{ℕ, suc, _≤_, _<_}
+use mathlib.Core.Path.{_≡_, refl, ap₂}
 use mathlib.Core.Bool.{Bool, true, false}
-use mathlib.Core.List.{List}
+use mathlib.Core.List.{List, [], _∷_}
 use mathlib.Core.Option.{Option, none, some}
 use native.Mathlib.Omega.{arith}
 use lib.Dec.{eqb}
-use lib.Ieee.{Float}
+use lib.ListN.{length}
 use borrow.Author.Tests.{eqb-true, lt-ltb, le-ltb}
 use Rattle.refusal.specs.declared.Refusal.{Refusal}
-use Rattle.refusal.specs.declared.Answer.the-variants.{Refused}
+use Rattle.refusal.specs.Numbers.{refusal}
 use Rattle.layout.specs.Shapes.{pick}
-use Rattle.workspace.specs.Answers.{Outcome, workspace, untouched, unlessAt}
+use Rattle.workspace.specs.Answers.{lengthFault, firstOf}
 use Rattle.replace_response.specs.finite.Found.{foundAt}
-use Rattle.replace_response.specs.list_faults.Faults.{lengthFault, wordFault, firstOf}
 
 -- an index below the length is found, the length is none
 pub found : {o : Option ℕ} {i n : ℕ} → o ≡ foundAt i n → i < n → o ≡ some i
@@ -21,35 +20,6 @@ found {o} {i} {n} e h = rw (lt-ltb i n h) at e
 
 pub not-found : {o : Option ℕ} {i n : ℕ} → o ≡ foundAt i n → n ≤ i → o ≡ none
 not-found {o} {i} {n} e h = rw (le-ltb i n h) at e
-
-module _ (h : List ℕ) (w : List Float) where
-  -- go on where the number is 0
-  abbrev pub unlessRefused : Refusal → Outcome → Outcome
-  unlessRefused f rest = pick (eqb f.number 0) rest (record { answer = Refused f; left = workspace h w })
-
-  pub lengths : (a b c : Bool) (rest : Outcome)
-      → pick a (pick b (pick c rest (untouched h w 13 2 0)) (untouched h w 13 1 0)) (untouched h w 13 0 0) ≡ unlessRefused (lengthFault a b c) rest
-  lengths true true true rest = refl
-  lengths true true false rest = refl
-  lengths true false c rest = refl
-  lengths false b c rest = refl
-
-  pub words : (a b c : Option ℕ) (rest : Outcome)
-      → unlessAt a (λ i. untouched h w 14 0 i) (unlessAt b (λ i. untouched h w 14 1 i) (unlessAt c (λ i. untouched h w 14 2 i) rest))
-      ≡ unlessRefused (wordFault a b c) rest
-  words none none none rest = refl
-  words none none (some k) rest = refl
-  words none (some j) c rest = refl
-  words (some i) b c rest = refl
-
-  -- two of them in turn are one
-  pub both : (f g : Refusal) (rest : Outcome) → unlessRefused f (unlessRefused g rest) ≡ unlessRefused (firstOf f g) rest
-  both f g rest = go (eqb f.number 0) refl
-    where
-      go : (b : Bool) → eqb (f .number) 0 ≡ b
-          → pick b (unlessRefused g rest) (record { answer = Refused f; left = workspace h w }) ≡ unlessRefused (pick b g f) rest
-      go true e = refl
-      go false e = rw e refl
 
 -- where the first of two has number 0, the one has
 pub first-none : (f g : Refusal) → firstOf f g .number ≡ 0 → f .number ≡ 0
@@ -60,8 +30,14 @@ first-none f g e = go (eqb f.number 0) refl e
     go false q e = e
 
 -- no fault: every list has its length
-pub all-right : (a b c : Bool) → lengthFault a b c .number ≡ 0 → (a ≡ true) × (b ≡ true) × (c ≡ true)
-all-right true true true e = (refl, refl, refl)
-all-right true true false e = absurd (omega arith)
-all-right true false c e = absurd (omega arith)
-all-right false b c e = absurd (omega arith)
+pub all-right : (i : ℕ) (prescribed actual : List ℕ) → length prescribed ≡ length actual → lengthFault i prescribed actual .number ≡ 0 → actual ≡ prescribed
+unfolding lengthFault
+all-right i [] [] m e = refl
+all-right i [] (x ∷ actual) m e = absurd (omega arith)
+all-right i (n ∷ prescribed) [] m e = absurd (omega arith)
+all-right i (n ∷ prescribed) (x ∷ actual) m e = go (all-right (suc i) prescribed actual (omega arith)) (eqb x n) refl e
+  where
+    go : (lengthFault (suc i) prescribed actual .number ≡ 0 → actual ≡ prescribed) → (b : Bool) → eqb x n ≡ b
+        → pick b (lengthFault (suc i) prescribed actual) (refusal 13 i 0) .number ≡ 0 → x ∷ actual ≡ n ∷ prescribed
+    go rest true q e = ap₂ (λ (a : ℕ) (l : List ℕ). a ∷ l) (eqb-true x n q) (rest e)
+    go rest false q e = absurd (omega arith)

@@ -11,7 +11,7 @@ use lib.Ieee.{Float}
 use Rattle.storage.specs.Runs.{start, triangle}
 use Rattle.storage.proofs.Starts.{start-triangle}
 use Rattle.layout.specs.declared.Layout.{Layout}
-use Rattle.layout.specs.Shapes.{levels, loadedAt, loadedLength, loadedSizes}
+use Rattle.layout.specs.Shapes.{levels, loadedAt, loadedLength, loadedSizes, lastRows}
 use Rattle.heading_format.specs.Heading.{validLayout}
 use Rattle.heading_format.proofs.Valid.{is-valid}
 use Rattle.layout.proofs.Places.{loaded-inside}
@@ -22,17 +22,17 @@ use Rattle.block_places.proofs.sheet_rows.AllRows.{rows-within}
 use Rattle.replace_response.proofs.write_rows.Strided.{length-strided}
 
 module _ (y : Layout) where
-  pub fixed-cells : (j : ℕ) → j < y .k → loadedSizes y (y .k) j ≡ (y .p + 1) * levels y j
+  pub fixed-cells : (j : ℕ) → j < y .k → loadedSizes y (y .k) j ≡ lastRows y * levels y j
   fixed-cells j h = loaded-other y y.k j h ∙ fixed-size y j h
 
-  pub last-cells : loadedSizes y (y .k) (y .k) ≡ start triangle (y .p) + (y .p + 1)
+  pub last-cells : loadedSizes y (y .k) (y .k) ≡ start triangle (y .p) + lastRows y
   last-cells = loaded-last y ∙ last-size y ∙ omega (arith, start-triangle y.p)
 
   -- row p of the fixed rows of factor j
-  pub fixed-within : (j c : ℕ) → j < y .k → c < levels y j → loadedAt y (y .k) j + y .p + c * (y .p + 1) < loadedLength y
+  pub fixed-within : (j c : ℕ) → j < y .k → c < levels y j → loadedAt y (y .k) j + y .p + c * lastRows y < loadedLength y
   fixed-within j c h l =
       let m : suc c ≤ levels y j = l in
-      omega (arith, mul-le-mul-right (y.p + 1) m, loaded-inside y y.k j (omega arith) (omega arith), fixed-cells j h)
+      omega (arith, mul-le-mul-right (lastRows y) m, loaded-inside y y.k j (omega arith) (omega arith), fixed-cells j h)
 
   -- row p of the last triangle
   pub last-within : (c : ℕ) → c ≤ y .p → loadedAt y (y .k) (y .k) + start triangle (y .p) + c < loadedLength y
@@ -51,13 +51,13 @@ module _ (y : Layout) where
 -- ---- the calls, each callee's answer being a number of its own
 
 module _ (y : Layout) (ok : validLayout y ≡ true) (at len : ℕ) (room : loadedLength y ≤ len) where
-  module _ (j n first rows : ℕ) (h : j < y .k) (a : at ≡ loadedAt y (y .k) j) (b : n ≡ levels y j) (f : first ≡ rowStart y j) where
-    pub block-fits : rows ≡ y .q → (first + n ≤ rows) × ((c : ℕ) → c < n → at + y .p + c * (y .p + 1) < len)
-    block-fits q = (omega (arith, rows-within y ok j h), λ c l. omega (arith, fixed-within y j c h (omega arith)))
+  module _ (j n first rows : ℕ) (h : j < y .k) (a : at ≡ loadedAt y (y .k) j) (b : n ≡ levels y j) (f : first ≡ rowStart y j) {step : ℕ} (s : step ≡ lastRows y) where
+    pub block-fits : rows ≡ y .q → (first + n ≤ rows) × ((c : ℕ) → c < n → at + y .p + c * step < len)
+    block-fits q = (omega (arith, rows-within y ok j h), λ c l. rw s (omega (arith, fixed-within y j c h (omega arith))))
 
-    pub block-written : (zy w v : List Float) → v ≡ strided (at + y .p) (y .p + 1) n (from zy first) w → v ≡ fixedRow y zy j w
+    pub block-written : (zy w v : List Float) → v ≡ strided (at + y .p) step n (from zy first) w → v ≡ fixedRow y zy j w
     unfolding fixedRow
-    block-written zy w v e = e ∙ rw (a, b, f) refl
+    block-written zy w v e = e ∙ rw (a, b, f, s) refl
 
   module _ (row : ℕ) (a : at ≡ loadedAt y (y .k) (y .k)) (r : row ≡ start triangle (y .p)) where
     pub last-fits : (c : ℕ) → c ≤ y .p → at + row + c < len
@@ -77,7 +77,7 @@ module _ (y : Layout) (zy w : List Float) where
 
   pub length-row : (j : ℕ) (v : List Float) → length (fixedRow y zy j v) ≡ length v
   unfolding fixedRow
-  length-row j v = length-strided (loadedAt y y.k j + y .p) (y.p + 1) (from zy (rowStart y j)) v (levels y j)
+  length-row j v = length-strided (loadedAt y y.k j + y .p) (lastRows y) (from zy (rowStart y j)) v (levels y j)
 
   pub rows-more : (j : ℕ) (v u : List Float) → v ≡ fixedRows y zy j w → u ≡ fixedRow y zy j v → u ≡ fixedRows y zy (j + 1) w
   unfolding fixedRows

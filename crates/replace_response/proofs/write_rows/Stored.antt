@@ -21,12 +21,13 @@ use Rattle.storage.proofs.Parts.{length-part, length-store, getD-part, store-be
 use Rattle.storage.proofs.Blocks.{length-fill, is-fill, cell-part}
 use Rattle.rules.specs.Arithmetic.{ieee}
 use Rattle.layout.specs.declared.Layout.{Layout}
-use Rattle.layout.specs.Shapes.{Target, target, levels, across, shape, loadedShape, loadedSizes, loadedLength, loadedAt}
+use Rattle.layout.specs.Shapes.{Target, target, levels, across, shape, loadedShape, loadedSizes, loadedLength, loadedAt, lastRows, lastShape, fixedShape}
 use Rattle.heading_format.specs.Heading.{layoutOf, entryRow, validLayout}
 use Rattle.layout.proofs.Places.{size-loaded, loaded-inside, loaded-apart}
 use Rattle.workspace.specs.Memory.{cellOf, loadedBlock}
 use Rattle.workspace.specs.Loaded.{rowStart, sheetRow}
-use Rattle.workspace.specs.Response.{responseCell, respondedBlock, storeResponse}
+use Rattle.workspace.specs.Response.{Response, Prescribed, responseCell, respondedBlock, storeResponse}
+use Rattle.workspace.proofs.Lengths.{prescribed-lengths}
 use Rattle.replace_response.specs.write_rows.Strided.{strided, from, fixedRow, fixedRows, lastAt, lastRow, responseRows}
 use Rattle.storage.proofs.Cells.{any-default}
 use Rattle.replace_response.proofs.write_rows.Strided.{length-strided, strided-at, strided-else, strided-ext}
@@ -120,43 +121,40 @@ module _ (s : Shape) (row n base step : ℕ) (z : Row s row n base step) (some :
 
 -- ---- the blocks of a workspace
 
-module _ (h : List ℕ) (w zy xy yl : List Float) where
+module _ (h : List ℕ) (w : List Float) (new : Response) where
   abbrev y : Layout
   y = layoutOf h
 
-  abbrev yy : Float
-  yy = getD yl 0 ieee.zero
-
   abbrev stored : List Target → List Float → List Float
-  stored = storeResponse h w zy xy yy
+  stored = storeResponse h w new
 
   -- loaded block (k, j)
   abbrev shapeAt : ℕ → Shape
   shapeAt j = loadedShape y (entryRow h) y.k j
 
-  fixed-shape : (j : ℕ) → j < y .k → columns (y .p + 1) (levels y j) ≡ shapeAt j
+  fixed-shape : (j : ℕ) → j < y .k → fixedShape y j ≡ shapeAt j
   unfolding loadedShape shape
   fixed-shape j l = rw (ne-eqb y.k j (λ e. omega arith), eq-eqb y.k y.k refl, ne-eqb j y.k (λ e. omega arith)) refl
 
-  last-shape : packed (y .p + 1) ≡ shapeAt (y .k)
+  last-shape : lastShape y ≡ shapeAt (y .k)
   unfolding loadedShape shape
   last-shape = rw (eq-eqb y.k y.k refl, le-ltb y.k y.k (omega arith)) refl
 
-  length-responded : (j : ℕ) → length (respondedBlock h w zy xy yy j) ≡ loadedSizes y (y .k) j
+  length-responded : (j : ℕ) → length (respondedBlock h w new j) ≡ loadedSizes y (y .k) j
   unfolding respondedBlock
   length-responded j = length-fill (shapeAt j) _ ∙ size-loaded y (entryRow h) y.k j
 
   -- one block: v has it as w has
   module _ (room : loadedLength y ≤ length w) (j : ℕ) (in-range : j ≤ y .k) (v : List Float) (same : length v ≡ length w)
       (as-was : (i : ℕ) → i < loadedSizes y (y .k) j → getD v (loadedAt y (y .k) j + i) (ieee .zero) ≡ getD w (loadedAt y (y .k) j + i) (ieee .zero)) where
-    block-stored : (n base step : ℕ) → Row (shapeAt j) (y .p) n base step → 1 ≤ step → (g : ℕ → Float) → ((c : ℕ) → c < n → responseCell y zy xy yy j c ≡ g c)
-        → strided (loadedAt y (y .k) j + base) step n g v ≡ store (loadedAt y (y .k) j) (respondedBlock h w zy xy yy j) v
+    block-stored : (n base step : ℕ) → Row (shapeAt j) (y .p) n base step → 1 ≤ step → (g : ℕ → Float) → ((c : ℕ) → c < n → responseCell y new j c ≡ g c)
+        → strided (loadedAt y (y .k) j + base) step n g v ≡ store (loadedAt y (y .k) j) (respondedBlock h w new j) v
     unfolding respondedBlock
-    block-stored n base step z some g new =
+    block-stored n base step z some g is =
         let size : sizeOf (shapeAt j) ≡ loadedSizes y y.k j = size-loaded y (entryRow h) y.k j in
         row-stored (shapeAt j) y.p n base step z some g (loadedAt y y.k j) v (omega (arith, size, same, room, loaded-inside y y.k j in-range (omega arith)))
-        (λ r c. cond (eqb r y.p) (responseCell y zy xy yy j c) (cellOf (shapeAt j) (loadedBlock h w y.k j) r c))
-        (λ c l. rw (eq-eqb y.p y.p refl) (new c l))
+        (λ r c. cond (eqb r y.p) (responseCell y new j c) (cellOf (shapeAt j) (loadedBlock h w y.k j) r c))
+        (λ c l. rw (eq-eqb y.p y.p refl) (is c l))
         (λ r c e d. rw (ne-eqb r y.p d)
         (cell-part ieee.zero (shapeAt j) (loadedAt y y.k j) w r c e
         ∙ sym (as-was (placeOf (shapeAt j) r c) (omega (arith, size, place-below (shapeAt j) r c e)))))
@@ -165,17 +163,17 @@ module _ (h : List ℕ) (w zy xy yl : List Float) where
 
   -- one block more
   stored-more : (l : List Target) (t : Target) (v : List Float)
-      → stored (l ++ (t ∷ [])) v ≡ store (loadedAt y (t .row) (t .col)) (respondedBlock h w zy xy yy (t .col)) (stored l v)
+      → stored (l ++ (t ∷ [])) v ≡ store (loadedAt y (t .row) (t .col)) (respondedBlock h w new (t .col)) (stored l v)
   unfolding storeResponse
   stored-more [] t v = refl
-  stored-more (u ∷ l) t v = stored-more l t (store (loadedAt y u.row u.col) (respondedBlock h w zy xy yy u.col) v)
+  stored-more (u ∷ l) t v = stored-more l t (store (loadedAt y u.row u.col) (respondedBlock h w new u.col) v)
 
-  across-more : (n : ℕ) → stored (across (y .k) (suc n)) w ≡ store (loadedAt y (y .k) n) (respondedBlock h w zy xy yy n) (stored (across (y .k) n) w)
+  across-more : (n : ℕ) → stored (across (y .k) (suc n)) w ≡ store (loadedAt y (y .k) n) (respondedBlock h w new n) (stored (across (y .k) n) w)
   unfolding across
   across-more n = stored-more (across y.k n) (target y.k n) w
 
   module _ (room : loadedLength y ≤ length w) where
-    block-room : (j : ℕ) → j ≤ y .k → loadedAt y (y .k) j + length (respondedBlock h w zy xy yy j) ≤ length w
+    block-room : (j : ℕ) → j ≤ y .k → loadedAt y (y .k) j + length (respondedBlock h w new j) ≤ length w
     block-room j l = omega (arith, length-responded j, loaded-inside y y.k j l (omega arith))
 
     length-across : (n : ℕ) → n ≤ y .k → length (stored (across (y .k) n) w) ≡ length w
@@ -184,7 +182,7 @@ module _ (h : List ℕ) (w zy xy yl : List Float) where
     length-across (suc n) l =
         let same : length (stored (across y.k n) w) ≡ length w = length-across n (omega arith) in
         ap length (across-more n)
-        ∙ length-store (loadedAt y y.k n) (respondedBlock h w zy xy yy n) (stored (across y.k n) w) (omega (arith, same, block-room n (omega arith)))
+        ∙ length-store (loadedAt y y.k n) (respondedBlock h w new n) (stored (across y.k n) w) (omega (arith, same, block-room n (omega arith)))
         ∙ same
 
     -- a later block is as it was
@@ -195,50 +193,50 @@ module _ (h : List ℕ) (w zy xy yl : List Float) where
     later-block (suc n) l j a b i m =
         let same : length (stored (across y.k n) w) ≡ length w = length-across n (omega arith) in
         ap (λ (x : List Float). getD x (loadedAt y y.k j + i) ieee.zero) (across-more n)
-        ∙ store-else (loadedAt y y.k n) (respondedBlock h w zy xy yy n) (stored (across y.k n) w) (omega (arith, same, block-room n (omega arith))) ieee.zero
+        ∙ store-else (loadedAt y y.k n) (respondedBlock h w new n) (stored (across y.k n) w) (omega (arith, same, block-room n (omega arith))) ieee.zero
         (loadedAt y y.k j + i) (outside (loaded-apart y y.k n (omega arith) (omega arith) y.k j b (omega arith) (λ p q. omega arith)))
         ∙ later-block n (omega arith) j (omega arith) b i m
       where
         outside : (loadedAt y (y .k) n + loadedSizes y (y .k) n ≤ loadedAt y (y .k) j) ⊎ (loadedAt y (y .k) j + loadedSizes y (y .k) j ≤ loadedAt y (y .k) n)
-            → (loadedAt y (y .k) j + i < loadedAt y (y .k) n) ⊎ (loadedAt y (y .k) n + length (respondedBlock h w zy xy yy n) ≤ loadedAt y (y .k) j + i)
+            → (loadedAt y (y .k) j + i < loadedAt y (y .k) n) ⊎ (loadedAt y (y .k) n + length (respondedBlock h w new n) ≤ loadedAt y (y .k) j + i)
         outside (inl q) = inr (omega (arith, length-responded n))
         outside (inr q) = inl (omega arith)
 
-    module _ (ok : validLayout y ≡ true) (rows : length zy ≡ y .q) where
+    module _ (ok : validLayout y ≡ true) (rows : length (new .zy) ≡ y .q) where
       -- the fixed rows of the first n factors
-      fixed-stored : (n : ℕ) → n ≤ y .k → fixedRows y zy n w ≡ stored (across (y .k) n) w
+      fixed-stored : (n : ℕ) → n ≤ y .k → fixedRows y (new .zy) n w ≡ stored (across (y .k) n) w
       unfolding fixedRows fixedRow storeResponse across
       fixed-stored zero l = refl
       fixed-stored (suc n) l =
-          ap (fixedRow y zy n) (fixed-stored n (omega arith))
+          ap (fixedRow y new.zy n) (fixed-stored n (omega arith))
           ∙ block-stored room n (omega arith) (stored (across y.k n) w) (length-across n (omega arith)) (later-block n (omega arith) n (omega arith) (omega arith))
-          (levels y n) y.p (y.p + 1)
-          (subst (λ (s : Shape). Row s y.p (levels y n) y.p (y.p + 1)) (fixed-shape n (omega arith)) (columns-row (y.p + 1) (levels y n) y.p (omega arith)))
-          (omega arith) (from zy (rowStart y n))
-          (λ c b. rw (ne-eqb n y.k (λ e. omega arith)) (any-default zy (sheetRow y n c) ieee.zero nan (omega (arith, rows, rows-within y ok n (omega arith)))))
+          (levels y n) y.p (lastRows y)
+          (subst (λ (s : Shape). Row s y.p (levels y n) y.p (lastRows y)) (fixed-shape n (omega arith)) (columns-row (lastRows y) (levels y n) y.p (omega arith)))
+          (omega arith) (from new.zy (rowStart y n))
+          (λ c b. rw (ne-eqb n y.k (λ e. omega arith)) (any-default new.zy (sheetRow y n c) ieee.zero nan (omega (arith, rows, rows-within y ok n (omega arith)))))
           ∙ sym (across-more n)
 
     -- the last triangle: both copies are one
-    last-one : (g : ℕ → Float) (v : List Float) → ((c : ℕ) → c < y .p → from xy 0 c ≡ g c) → from yl 0 0 ≡ g (y .p) → lastRow y xy yl v ≡ strided (lastAt y) 1 (y .p + 1) g v
+    last-one : (g : ℕ → Float) (v : List Float) → ((c : ℕ) → c < y .p → from (new .xy) 0 c ≡ g c) → from (new .yy) 0 0 ≡ g (y .p) → lastRow y (new .xy) (new .yy) v ≡ strided (lastAt y) 1 (lastRows y) g v
     unfolding lastRow strided
     last-one g v a b =
         let here : lastAt y + y .p + 0 * 1 ≡ lastAt y + y .p * 1 = omega arith in
-        rw (add-one, here, b) (ap (λ (l : List Float). set l (lastAt y + y .p * 1) (g y.p)) (strided-ext (lastAt y) 1 y.p (from xy 0) g v a))
+        rw (add-one, here, b) (ap (λ (l : List Float). set l (lastAt y + y .p * 1) (g y.p)) (strided-ext (lastAt y) 1 y.p (from new.xy 0) g v a))
 
   -- ---- the whole response
 
-  pub rows-stored : validLayout y ≡ true → loadedLength y ≤ length w → length zy ≡ y .q → length xy ≡ y .p → length yl ≡ 1
-      → responseRows y zy xy yl w ≡ stored (across (y .k) (y .k) ++ (target (y .k) (y .k) ∷ [])) w
+  pub rows-stored : validLayout y ≡ true → loadedLength y ≤ length w → Prescribed y new → responseRows y new w ≡ stored (across (y .k) (y .k) ++ (target (y .k) (y .k) ∷ [])) w
   unfolding responseRows lastAt
-  rows-stored ok room rows effects one =
+  rows-stored ok room prescribed =
+      let many = prescribed-lengths y new prescribed in
       let v : List Float = stored (across y.k y.k) w in
-      let g : ℕ → Float = responseCell y zy xy yy y.k in
-      ap (lastRow y xy yl) (fixed-stored room ok rows y.k (omega arith))
+      let g : ℕ → Float = responseCell y new y.k in
+      ap (lastRow y new.xy new.yy) (fixed-stored room ok many.0 y.k (omega arith))
       ∙ last-one room g v
-      (λ c l. rw (eq-eqb y.k y.k refl, ne-eqb c y.p (λ e. omega arith)) (rw (zero-add c) (any-default xy c nan ieee.zero (omega (arith, effects)))))
-      (rw (eq-eqb y.k y.k refl, eq-eqb y.p y.p refl) (any-default yl 0 nan ieee.zero (omega (arith, one))))
+      (λ c l. rw (eq-eqb y.k y.k refl, ne-eqb c y.p (λ e. omega arith)) (rw (zero-add c) (any-default new.xy c nan ieee.zero (omega (arith, many.1)))))
+      (rw (eq-eqb y.k y.k refl, eq-eqb y.p y.p refl) (any-default new.yy 0 nan ieee.zero (omega (arith, many.2))))
       ∙ block-stored room y.k (omega arith) v (length-across room y.k (omega arith)) (later-block room y.k (omega arith) y.k (omega arith) (omega arith))
-      (y.p + 1) (start triangle y.p) 1
-      (subst (λ (s : Shape). Row s y.p (y.p + 1) (start triangle y.p) 1) last-shape (triangle-row y.p))
+      (lastRows y) (start triangle y.p) 1
+      (subst (λ (s : Shape). Row s y.p (lastRows y) (start triangle y.p) 1) last-shape (triangle-row y.p))
       (omega arith) g (λ c l. refl)
       ∙ sym (stored-more (across y.k y.k) (target y.k y.k) w)

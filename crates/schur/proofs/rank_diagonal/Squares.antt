@@ -13,7 +13,9 @@ use lib.ListN.{length, getD, set}
 use lib.Seq.{getD-set-same, getD-set-other}
 use lib.Ieee.{Float, nan}
 use Rattle.storage.specs.Runs.{start, dense, tab}
-use Rattle.storage.specs.Shape.{Shape, columns, entries, hasCell, sizeOf}
+use Rattle.storage.specs.Shape.{Shape, columns, entries, hasCell}
+use Rattle.storage.specs.declared.Block.{Block}
+use Rattle.storage.specs.Placed.{Placed, blockOf, asColumns, asEntries, Lies}
 use Rattle.storage.proofs.Starts.{start-single}
 use Rattle.storage.proofs.Cells.{length-tab, getD-tab}
 use Rattle.storage.proofs.Parts.{store-in}
@@ -34,42 +36,42 @@ square-added cell v y h = ap (λ (b : Bool). cond (not b) (ieee.plus y (ieee.tim
 
 -- ---- one column
 
-module _ (s : Shape) (a src : ℕ) (w : List Float) (from m : ℕ) where
-  pub summed-none : (t : List Float) → Zeros m t → Summed s a src w from m 0 t
+module _ (p : Placed) (src : ℕ) (w : List Float) (from m : ℕ) where
+  pub summed-none : (t : List Float) → Zeros m t → Summed p src w from m 0 t
   unfolding sumFrom
   summed-none t z = z
 
-  pub summed-more : (x : ℕ) (t t′ : List Float) → Summed s a src w from m x t → Added s a src w from m x t t′ → Summed s a src w from m (suc x) t′
+  pub summed-more : (x : ℕ) (t t′ : List Float) → Summed p src w from m x t → Added p src w from m x t t′ → Summed p src w from m (suc x) t′
   unfolding sumFrom
-  summed-more x t t′ so more i h = more i h ∙ ap (withCell s a src w (from + i) x) (so i h)
+  summed-more x t t′ so more i h = more i h ∙ ap (withCell p src w (from + i) x) (so i h)
 
 -- ---- a dense column: each row has a cell there
 
 -- sum i with the square of column x
-abbrev pub added : (n a inner src : ℕ) → List Float → ℕ → List Float → ℕ → Float
-added n a inner src w x t i = withCell (columns n inner) a src w (0 + i) x (getD t i nan)
+abbrev pub added : (a : Block) (src : ℕ) → List Float → ℕ → List Float → ℕ → Float
+added a src w x t i = withCell (asColumns a) src w (0 + i) x (getD t i nan)
 
-module _ (n a inner src : ℕ) (w : List Float) (x : ℕ) (t₀ : List Float) where
-  pub column-added : {t : List Float} {r : ℕ} → Filling (added n a inner src w x t₀) 0 n t₀ t r → n ≤ r → Added (columns n inner) a src w 0 n x t₀ t
+module _ (a : Block) (src : ℕ) (w : List Float) (x : ℕ) (t₀ : List Float) where
+  pub column-added : {t : List Float} {r : ℕ} → Filling (added a src w x t₀) 0 (a .rows) t₀ t r → a .rows ≤ r → Added (asColumns a) src w 0 (a .rows) x t₀ t
   column-added {t} e top i h =
-      let g : ℕ → Float = added n a inner src w x t₀ in
+      let g : ℕ → Float = added a src w x t₀ in
       ap₂ (λ (l : List Float) (k : ℕ). getD l k nan) (filling-done e top) (sym (zero-add i))
-      ∙ store-in 0 (tab n g) t₀ (omega (arith, length-tab n g)) nan i (omega (arith, length-tab n g)) ∙ getD-tab n g i nan h
+      ∙ store-in 0 (tab a.rows g) t₀ (omega (arith, length-tab a.rows g)) nan i (omega (arith, length-tab a.rows g)) ∙ getD-tab a.rows g i nan h
 
-  module _ (here : x < inner) (fits : a + sizeOf (columns n inner) ≤ length w) (fits-src : src + sizeOf (columns n inner) ≤ length w)
-      (p q : ℕ) (e : p ≡ a + start (dense n) x) (f : q ≡ src + start (dense n) x) (r : ℕ) (h : r < n) where
-    dense-square : (y : Float) → plusSquare true (getD w (q + r) nan) (getD w (p + r) nan) y ≡ withCell (columns n inner) a src w (0 + r) x y
+  module _ (here : x < a .cols) (fits : Lies (length w) (asColumns a)) (fits-src : Lies (length w) (asColumns (blockOf src (a .rows) (a .cols))))
+      (p q : ℕ) (e : p ≡ a .at + start (dense (a .rows)) x) (f : q ≡ src + start (dense (a .rows)) x) (r : ℕ) (h : r < a .rows) where
+    dense-square : (y : Float) → plusSquare true (getD w (q + r) nan) (getD w (p + r) nan) y ≡ withCell (asColumns a) src w (0 + r) x y
     dense-square y =
-        let s : Shape = columns n inner in
-        let k : hasCell s r x ≡ true = has-dense n inner r x h here in
-        ap₂ (λ (c v : Float). plusSquare true c v y) (read-block s src w r x (q + r) k fits-src (omega arith)) (read-block s a w r x (p + r) k fits (omega arith))
-        ∙ ap (λ (b : Bool). plusSquare b (block src s w r x) (block a s w r x) y) (sym k) ∙ ap (λ (i : ℕ). withCell s a src w i x y) (sym (zero-add r))
+        let s : Shape = columns a.rows a.cols in
+        let k : hasCell s r x ≡ true = has-dense a.rows a.cols r x h here in
+        ap₂ (λ (c v : Float). plusSquare true c v y) (read-block s src w r x (q + r) k fits-src (omega arith)) (read-block s a.at w r x (p + r) k fits (omega arith))
+        ∙ ap (λ (b : Bool). plusSquare b (block src s w r x) (block a.at s w r x) y) (sym k) ∙ ap (λ (i : ℕ). withCell (asColumns a) src w i x y) (sym (zero-add r))
 
-    pub column-more : {t : List Float} → Filling (added n a inner src w x t₀) 0 n t₀ t r
-        → (v : Float) → v ≡ plusSquare true (getD w (q + r) nan) (getD w (p + r) nan) (getD t r nan) → Filling (added n a inner src w x t₀) 0 n t₀ (set t r v) (r + 1)
+    pub column-more : {t : List Float} → Filling (added a src w x t₀) 0 (a .rows) t₀ t r
+        → (v : Float) → v ≡ plusSquare true (getD w (q + r) nan) (getD w (p + r) nan) (getD t r nan) → Filling (added a src w x t₀) 0 (a .rows) t₀ (set t r v) (r + 1)
     column-more {t} so v k =
         array-more so h
-        (k ∙ dense-square (getD t r nan) ∙ ap (withCell (columns n inner) a src w (0 + r) x) (filling-else so nan r (inr (omega arith))))
+        (k ∙ dense-square (getD t r nan) ∙ ap (withCell (asColumns a) src w (0 + r) x) (filling-else so nan r (inr (omega arith))))
 
 -- ---- a sparse column: one row has a cell there
 
@@ -91,20 +93,20 @@ module _ (from m row : ℕ) (cell v : Float) (t : List Float) where
       (getD-set-same t k y nan l ∙ f ∙ ap (λ (b : Bool). plusSquare b cell v (getD t k nan)) (sym (eq-eqb (from + k) row (sym e)))))
       (λ d. getD-set-other t k i y nan d ∙ other-row i (λ c. d (omega arith)))
 
-module _ (a inner src : ℕ) (row : ℕ → ℕ) (w : List Float) (from m x : ℕ) (here : x < inner) (fits : a + inner ≤ length w) (fits-src : src + inner ≤ length w) where
+module _ (a : Block) (src : ℕ) (row : ℕ → ℕ) (w : List Float) (from m x : ℕ) (here : x < a .cols) (fits : a .at + a .cols ≤ length w) (fits-src : src + a .cols ≤ length w) where
   abbrev s : Shape
-  s = entries inner row
+  s = entries (a .cols) row
 
   -- the entry of column x, read for any row
-  read-entries : (b r : ℕ) → b + inner ≤ length w → getD w (b + x) nan ≡ block b s w r x
+  read-entries : (b r : ℕ) → b + a .cols ≤ length w → getD w (b + x) nan ≡ block b s w r x
   read-entries b r h =
-      read-block s b w (row x) x (b + x) (rw (lt-ltb, eq-eqb (row x) (row x) refl)) (omega (arith, start-single inner)) (omega (arith, start-single x))
+      read-block s b w (row x) x (b + x) (rw (lt-ltb, eq-eqb (row x) (row x) refl)) (omega (arith, start-single a.cols)) (omega (arith, start-single x))
 
-  pub entry-added : (t t′ : List Float) (k : ℕ) → k ≡ row x → AddedEntry from m k (getD w (src + x) nan) (getD w (a + x) nan) t t′
-      → Added s a src w from m x t t′
+  pub entry-added : (t t′ : List Float) (k : ℕ) → k ≡ row x → AddedEntry from m k (getD w (src + x) nan) (getD w (a .at + x) nan) t t′
+      → Added (asEntries row a) src w from m x t t′
   entry-added t t′ k e so i h =
       let y : Float = getD t i nan in
       let r : ℕ = from + i in
-      so i h ∙ ap (λ (j : ℕ). plusSquare (eqb r j) (getD w (src + x) nan) (getD w (a + x) nan) y) e
-      ∙ ap₂ (λ (c v : Float). plusSquare (eqb r (row x)) c v y) (read-entries src r fits-src) (read-entries a r fits)
-      ∙ ap (λ (b : Bool). plusSquare (b && eqb r (row x)) (block src s w r x) (block a s w r x) y) (sym (lt-ltb x inner here))
+      so i h ∙ ap (λ (j : ℕ). plusSquare (eqb r j) (getD w (src + x) nan) (getD w (a.at + x) nan) y) e
+      ∙ ap₂ (λ (c v : Float). plusSquare (eqb r (row x)) c v y) (read-entries src r fits-src) (read-entries a.at r fits)
+      ∙ ap (λ (b : Bool). plusSquare (b && eqb r (row x)) (block src s w r x) (block a.at s w r x) y) (sym (lt-ltb x a.cols here))

@@ -4,23 +4,18 @@ use Prim.Native.Nat.{ℕ}
 use mathlib.Core.Bool.{Bool, _&&_, not}
 use mathlib.Core.List.{List}
 use lib.Ieee.{Float}
-use Rattle.storage.specs.Shape.{Shape, diagonal, hasCell, fill}
-use Rattle.storage.specs.Part.{store}
+use Rattle.storage.specs.Shape.{Shape, hasCell}
 use Rattle.rules.specs.Arithmetic.{ieee}
 use Rattle.rules.specs.Steps.{subtractDiagonal}
 use Rattle.storage.specs.declared.Block.{Block}
-use Rattle.storage.specs.Placed.{Placed}
+use Rattle.storage.specs.Placed.{Placed, asDiagonal, read, put}
 use Rattle.block_runs.specs.blocks.Blocks.{block}
 
 -- whether cell (r, x) of the block with shape s counts: it was loaded, from `src` on, and is not ±0
 abbrev pub loaded : (s : Shape) (src : ℕ) → List Float → ℕ → ℕ → Bool
 loaded s src w r x = hasCell s r x && not (ieee .null (block src s w r x))
 
--- the diagonal of n pivots at off, less the working cross block at a, loaded from `src`, times itself transposed
-abbrev pub withDiagonalSubtracted : (off n : ℕ) (s : Shape) (a inner src : ℕ) → List Float → List Float
-withDiagonalSubtracted off n s a inner src w =
-    store off (fill (diagonal n) (subtractDiagonal ieee (loaded s src w) (block off (diagonal n) w) (block a s w) inner)) w
-
--- the same of blocks as values, the cross block in its form
+-- the diagonal t less the working cross block a in its form, loaded from `src`, times itself transposed
 abbrev pub subtractedDiagonal : (form : Block → Placed) (t a : Block) (src : ℕ) → List Float → List Float
-subtractedDiagonal form t a src = withDiagonalSubtracted (t .at) (t .rows) (form a .shape) (form a .at) (a .cols) src
+subtractedDiagonal form t a src w =
+    put (asDiagonal t) (subtractDiagonal ieee (loaded (form a .shape) src w) (read (asDiagonal t) w) (read (form a) w) (a .cols)) w

@@ -7,8 +7,10 @@ use lib.Dec.{eqb}
 use lib.ListN.{getD}
 use lib.Ieee.{Float, nan}
 use Rattle.storage.specs.Runs.{tab}
-use Rattle.storage.specs.Shape.{Shape, diagonal, hasCell}
+use Rattle.storage.specs.Shape.{hasCell, runs}
 use Rattle.storage.specs.Part.{store}
+use Rattle.storage.specs.declared.Block.{Block}
+use Rattle.storage.specs.Placed.{Placed, asDiagonal, read}
 use Rattle.rules.specs.Arithmetic.{ieee}
 use Rattle.rules.specs.Sums.{sumFrom}
 use Rattle.rules.specs.Steps.{subtractDiagonal}
@@ -19,25 +21,25 @@ use Rattle.schur.specs.rank_diagonal.Diagonal.{loaded}
 abbrev pub plusSquare : (there : Bool) (cell v y : Float) → Float
 plusSquare there cell v y = cond (there && not (ieee .null cell)) (ieee .plus y (ieee .times v v)) y
 
--- the sum of row r over the first x columns
-abbrev pub sumOf : (s : Shape) (a src : ℕ) → List Float → (r x : ℕ) → Float
-sumOf s a src w r x = sumFrom ieee (ieee .zero) (loaded s src w r) (block a s w r) (block a s w r) x
+-- the sum of row r of block p, which was loaded from `src`, over the first x columns
+abbrev pub sumOf : (p : Placed) (src : ℕ) → List Float → (r x : ℕ) → Float
+sumOf p src w r x = sumFrom ieee (ieee .zero) (loaded (p .shape) src w r) (read p w r) (read p w r) x
 
 -- t holds 0.0 for each of m rows
 abbrev pub Zeros : (m : ℕ) (t : List Float) → Type 0
 Zeros m t = (i : ℕ) → i < m → getD t i nan ≡ ieee .zero
 
 -- t holds the sums of m rows, row `from` first, over the first x columns
-abbrev pub Summed : (s : Shape) (a src : ℕ) (w : List Float) (from m x : ℕ) (t : List Float) → Type 0
-Summed s a src w from m x t = (i : ℕ) → i < m → getD t i nan ≡ sumOf s a src w (from + i) x
+abbrev pub Summed : (p : Placed) (src : ℕ) (w : List Float) (from m x : ℕ) (t : List Float) → Type 0
+Summed p src w from m x t = (i : ℕ) → i < m → getD t i nan ≡ sumOf p src w (from + i) x
 
 -- y with cell (r, x) counted
-abbrev pub withCell : (s : Shape) (a src : ℕ) → List Float → (r x : ℕ) → Float → Float
-withCell s a src w r x y = plusSquare (hasCell s r x) (block src s w r x) (block a s w r x) y
+abbrev pub withCell : (p : Placed) (src : ℕ) → List Float → (r x : ℕ) → Float → Float
+withCell p src w r x y = plusSquare (hasCell (p .shape) r x) (block src (p .shape) w r x) (read p w r x) y
 
 -- t′ has column x more than t
-abbrev pub Added : (s : Shape) (a src : ℕ) (w : List Float) (from m x : ℕ) (t t′ : List Float) → Type 0
-Added s a src w from m x t t′ = (i : ℕ) → i < m → getD t′ i nan ≡ withCell s a src w (from + i) x (getD t i nan)
+abbrev pub Added : (p : Placed) (src : ℕ) (w : List Float) (from m x : ℕ) (t t′ : List Float) → Type 0
+Added p src w from m x t t′ = (i : ℕ) → i < m → getD t′ i nan ≡ withCell p src w (from + i) x (getD t i nan)
 
 -- t′ has the square of v more than t in its row, if that is among the m rows and the loaded cell is not ±0
 abbrev pub AddedEntry : (from m row : ℕ) (cell v : Float) (t t′ : List Float) → Type 0
@@ -47,15 +49,15 @@ AddedEntry from m row cell v t t′ = (i : ℕ) → i < m → getD t′ i nan �
 abbrev pub subtractEach : (at m : ℕ) (t : List Float) → List Float → List Float
 subtractEach at m t w = store at (tab m (λ i. ieee .minus (getD w (at + i) nan) (getD t i nan))) w
 
--- m pivots of the diagonal at off, row `from` first, less their sums over all columns
-abbrev pub subtractRows : (off : ℕ) (s : Shape) (a inner src : ℕ) (from m : ℕ) → List Float → List Float
-subtractRows off s a inner src from m w =
-    store (off + from) (tab m (λ i. ieee .minus (getD w (off + from + i) nan) (sumOf s a src w (from + i) inner))) w
+-- m pivots of the diagonal t, row `from` first, less their sums over all columns of block p
+abbrev pub subtractRows : (t : Block) (p : Placed) (src from m : ℕ) → List Float → List Float
+subtractRows t p src from m w =
+    store (t .at + from) (tab m (λ i. ieee .minus (getD w (t .at + from + i) nan) (sumOf p src w (from + i) (runs (p .shape))))) w
 
--- pivot r of the diagonal of n at off, once its sum is subtracted
-abbrev pub pivot : (off n : ℕ) (s : Shape) (a inner src : ℕ) → List Float → ℕ → Float
-pivot off n s a inner src w r = subtractDiagonal ieee (loaded s src w) (block off (diagonal n) w) (block a s w) inner r r
+-- pivot r of the diagonal t, once its sum is subtracted
+abbrev pub pivot : (t : Block) (p : Placed) (src : ℕ) → List Float → ℕ → Float
+pivot t p src w r = subtractDiagonal ieee (loaded (p .shape) src w) (read (asDiagonal t) w) (read p w) (runs (p .shape)) r r
 
 -- the first m rows are done, all else is as it was
-abbrev pub doneRows : (off n : ℕ) (s : Shape) (a inner src : ℕ) (m : ℕ) → List Float → List Float
-doneRows off n s a inner src m w = store off (tab m (pivot off n s a inner src w)) w
+abbrev pub doneRows : (t : Block) (p : Placed) (src m : ℕ) → List Float → List Float
+doneRows t p src m w = store (t .at) (tab m (pivot t p src w)) w

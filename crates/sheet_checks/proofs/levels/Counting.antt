@@ -9,7 +9,7 @@ use Rattle.sheet.specs.declared.Counts.{Counts}
 use Rattle.sheet.specs.declared.Starts.{Starts}
 use Rattle.sheet.specs.Sheet.{Sheet, accepted, readSheet}
 use Rattle.sheet.specs.Whole.{InRange}
-use Rattle.sheet.proofs.Whole.{read-whole}
+use Rattle.sheet.proofs.Whole.{read-whole, all-lines}
 
 -- the two products of counts in range
 pub product-of : (p : ℕ) → p ≤ 32 → p * (p + 1) ≤ 1056
@@ -32,5 +32,5 @@ module _ (s : List ℕ) (sheet : Sheet) (z : Starts) (e : readSheet s ≡ accept
 
   pub lines : z .line ≡ otherLines (z .counts) + length (sheet .zz)
   lines =
-      let w = read-whole s sheet z e .shape in
-      w .lines ∙ omega (arith, ap otherLines w.same-counts)
+      let w = read-whole s sheet z e in
+      all-lines w ∙ omega (arith, ap otherLines w.shape.same-counts)

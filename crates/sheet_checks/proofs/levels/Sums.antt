@@ -6,7 +6,7 @@ use native.Mathlib.Omega.{arith}
 use native.Mathlib.Numerals.{add-one}
 use lib.ListN.{length, getD}
 use Rattle.sheet.specs.Run.{Block}
-use Rattle.sheet.specs.Fault.{levelsOf}
+use Rattle.sheet.specs.Fault.{coveredRows}
 use Rattle.sheet.specs.Whole.{Each, BlockInRange}
 use Rattle.layout.specs.Blocks.{padded, sum}
 use Rattle.layout.proofs.Sums.{sum-small, sum-front}
@@ -36,8 +36,8 @@ summed-done {m} {n} {t} {i} v h = let e : i ≡ n = omega arith in v.same ∙ ap
 
 -- ---- the sum of padded levels is what the blocks cover
 -- Levels of at most n blocks, padded to n.
-pub levels-sum : (n : ℕ) (l : List Block) → length l ≤ n → sum (λ i. getD (padded n (levelList l)) i 0) n ≡ levelsOf l
-unfolding padded levelList levelsOf sum
+pub levels-sum : (n : ℕ) (l : List Block) → length l ≤ n → sum (λ i. getD (padded n (levelList l)) i 0) n ≡ coveredRows l
+unfolding padded levelList coveredRows sum
 levels-sum zero [] h = refl
 levels-sum zero (b ∷ l) h = absurd (omega arith)
 levels-sum (suc n) [] h =

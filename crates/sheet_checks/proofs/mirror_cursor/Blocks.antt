@@ -9,24 +9,24 @@ use borrow.Author.Tests.{lt-ltb, le-ltb}
 use lib.Dec.{ltb}
 use lib.ListN.{length, getD, drop}
 use Rattle.sheet.specs.Run.{Block}
-use Rattle.sheet.specs.Fault.{levelsOf, blockOf}
+use Rattle.sheet.specs.Fault.{coveredRows, blockOfRow}
 use Rattle.layout.specs.Blocks.{padded}
 use Rattle.layout.proofs.Sums.{padded-at}
 use Rattle.sheet_checks.specs.levels.Held.{levelList}
 
 -- Past j blocks, row i is row `left` of what remains.
 pub record Search (blocks : List Block) (i left j : ℕ) : Type 0 where
-  pub same : j + blockOf (drop j blocks) left ≡ blockOf blocks i
-  pub inside : left < levelsOf (drop j blocks)
+  pub same : j + blockOfRow (drop j blocks) left ≡ blockOfRow blocks i
+  pub inside : left < coveredRows (drop j blocks)
 
-pub search-start : (blocks : List Block) (i : ℕ) → i < levelsOf blocks → Search blocks i i 0
+pub search-start : (blocks : List Block) (i : ℕ) → i < coveredRows blocks → Search blocks i i 0
 search-start blocks i h = record { same = omega arith; inside = h }
 
 -- the levels of block j, with what the first remaining block is
-level-here : (blocks : List Block) (left j : ℕ) → left < levelsOf (drop j blocks)
-    → (j < length blocks) × (levelsOf (drop j blocks) ≡ getD (levelList blocks) j 0 + levelsOf (drop (suc j) blocks))
-    × (blockOf (drop j blocks) left ≡ cond (ltb left (getD (levelList blocks) j 0)) 0 (suc (blockOf (drop (suc j) blocks) (left - getD (levelList blocks) j 0))))
-unfolding levelList levelsOf blockOf
+level-here : (blocks : List Block) (left j : ℕ) → left < coveredRows (drop j blocks)
+    → (j < length blocks) × (coveredRows (drop j blocks) ≡ getD (levelList blocks) j 0 + coveredRows (drop (suc j) blocks))
+    × (blockOfRow (drop j blocks) left ≡ cond (ltb left (getD (levelList blocks) j 0)) 0 (suc (blockOfRow (drop (suc j) blocks) (left - getD (levelList blocks) j 0))))
+unfolding levelList coveredRows blockOfRow
 level-here [] left zero h = absurd (omega arith)
 level-here [] left (suc j) h = absurd (omega arith)
 level-here (b ∷ blocks) left zero h = (omega arith, refl, refl)
@@ -36,16 +36,16 @@ module _ {blocks : List Block} {m : List ℕ} {i left j : ℕ} (e : m ≡ padded
   level : getD m j 0 ≡ getD (levelList blocks) j 0
   level = ap (λ (l : List ℕ). getD l j 0) e ∙ padded-at 8 (levelList blocks) j h
 
-  pub search-found : left < getD m j 0 → j ≡ blockOf blocks i
+  pub search-found : left < getD m j 0 → j ≡ blockOfRow blocks i
   search-found k =
       let r = level-here blocks left j s.inside in
-      let q : blockOf (drop j blocks) left ≡ 0 = r.2 ∙ rw (lt-ltb left (getD (levelList blocks) j 0) (omega (arith, level))) in
+      let q : blockOfRow (drop j blocks) left ≡ 0 = r.2 ∙ rw (lt-ltb left (getD (levelList blocks) j 0) (omega (arith, level))) in
       omega (arith, s.same)
 
   pub search-on : getD m j 0 ≤ left → Search blocks i (left - getD m j 0) (j + 1)
   search-on k =
       let r = level-here blocks left j s.inside in
-      let q : blockOf (drop j blocks) left ≡ suc (blockOf (drop (suc j) blocks) (left - getD (levelList blocks) j 0)) = r.2 ∙ rw (le-ltb left (getD (levelList blocks) j 0) (omega (arith, level))) in
+      let q : blockOfRow (drop j blocks) left ≡ suc (blockOfRow (drop (suc j) blocks) (left - getD (levelList blocks) j 0)) = r.2 ∙ rw (le-ltb left (getD (levelList blocks) j 0) (omega (arith, level))) in
       let a : j + 1 ≡ suc j = add-one j in
       let d : left - getD m j 0 ≡ left - getD (levelList blocks) j 0 = ap (λ (x : ℕ). left - x) level in
       rw (a, d) (record { same = omega (arith, s.same); inside = omega (arith, r.1, s.inside, level) })

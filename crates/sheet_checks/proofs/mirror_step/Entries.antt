@@ -17,7 +17,7 @@ use Rattle.sheet.specs.Field.{isZero}
 use Rattle.sheet.specs.Run.{Entry, entryIn, keptFrom, pastFrom}
 use Rattle.sheet.specs.Sheet.{Sheet}
 use Rattle.sheet.specs.Whole.{Each, Earlier, Rising, EntryInRange, Whole}
-use Rattle.sheet.specs.Fault.{Mirror, Fault, zero-word, inside-block, no-mirror, Faulty, blockOf, isInside, anyFaulty}
+use Rattle.sheet.specs.Fault.{Mirror, Fault, zero-word, inside-block, no-mirror, Faulty, blockOfRow, isInside, anyFaulty}
 use Rattle.sheet.proofs.Whole.{read-whole}
 use Rattle.sheet.proofs.Faults.{faulty-line}
 use Rattle.sheet_checks.specs.mirror_cursor.Held.{held, entryOf, placeOf, Given}
@@ -108,9 +108,9 @@ module _ (sheet : Sheet) where
       no-mirror (λ m i r. let a = at-member sheet.zz (record { line = 0; col = 0; row = 0; word = 0 }) m i in none a.0 a.1 (subst (λ (x : Entry). Mirror (entryOf sheet t) x) (sym a.2) r))
 
   pub unfit-fault : (e : Entry) → isUnfit sheet e ≡ true → Fault sheet e
-  unfit-fault e h = go (isZero e.word) (eqb (blockOf sheet.blocks e.col) (blockOf sheet.blocks e.row)) (eqb e.col e.row) refl refl refl h
+  unfit-fault e h = go (isZero e.word) (eqb (blockOfRow sheet.blocks e.col) (blockOfRow sheet.blocks e.row)) (eqb e.col e.row) refl refl refl h
     where
-      go : (z b d : Bool) → isZero (e .word) ≡ z → eqb (blockOf (sheet .blocks) (e .col)) (blockOf (sheet .blocks) (e .row)) ≡ b → eqb (e .col) (e .row) ≡ d
+      go : (z b d : Bool) → isZero (e .word) ≡ z → eqb (blockOfRow (sheet .blocks) (e .col)) (blockOfRow (sheet .blocks) (e .row)) ≡ b → eqb (e .col) (e .row) ≡ d
           → (z || (b && not d)) ≡ true → Fault sheet e
       go true b d p q r k = zero-word p
       go false true false p q r k = inside-block (eqb-true _ _ q) (eqb-false _ _ r)

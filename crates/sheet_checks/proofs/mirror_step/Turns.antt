@@ -18,7 +18,7 @@ use Rattle.sheet.specs.declared.Counts.{Counts}
 use Rattle.sheet.specs.Line.{zzTag, pairLine}
 use Rattle.sheet.specs.Run.{Entry, entryIn, pastFrom}
 use Rattle.sheet.specs.Sheet.{Sheet}
-use Rattle.sheet.specs.Fault.{Mirror, Fault, Faulty, levelsOf}
+use Rattle.sheet.specs.Fault.{Mirror, Fault, Faulty, coveredRows}
 use Rattle.sheet.proofs.Lines.{both}
 use Rattle.layout.specs.Blocks.{padded}
 use Rattle.sheet_checks.specs.levels.Held.{levelList}
@@ -93,7 +93,7 @@ module _ {base width : ℕ} {l : Line} {v : Bool} (told : Grouped base width l v
 abbrev pub Reported : List ℕ → Line → Bool → Type 0
 Reported m l u =
     (sheet : Sheet) (line : ℕ) → m ≡ padded 8 (levelList sheet.blocks) → length sheet.blocks ≤ 8
-    → l .first < levelsOf sheet.blocks → l .second < levelsOf sheet.blocks → u ≡ isUnfit sheet (entryIn line l)
+    → l .first < coveredRows sheet.blocks → l .second < coveredRows sheet.blocks → u ≡ isUnfit sheet (entryIn line l)
 
 -- ---- the faulty line
 module _ {s : List ℕ} {z : Starts} {n i : ℕ} {l o : Line} {v : Bool} {r : ℕ} where
@@ -225,7 +225,7 @@ module _ {s : List ℕ} {z : Starts} {n : ℕ} (g : Given s z n) where
     unfit-here : {m : List ℕ} {u : Bool} → Levelled s m → Reported m l u → isUnfit (held s) (entryOf (held s) i) ≡ u
     unfit-here k e =
         let r = in-range g i h in
-        let c : held s .counts .q ≡ levelsOf (held s .blocks) = eqb-true (held s .counts .q) (levelsOf (held s .blocks)) k.covers in
+        let c : held s .counts .q ≡ coveredRows (held s .blocks) = eqb-true (held s .counts .q) (coveredRows (held s .blocks)) k.covers in
         ap (isUnfit (held s)) is-here
         ∙ sym (e (held s) (z.counts.k + 2 + i) k.levels (omega (arith, whole g .shape .blocks-length, whole g .shape .counts .k))
         (omega (arith, r.col, c, col-here)) (omega (arith, r.row, c, row-here)))

@@ -7,7 +7,7 @@ use lib.ListN.{length, getD}
 use Rattle.sheet.specs.declared.Starts.{Starts}
 use Rattle.sheet.specs.Line.{zzTag, pairLine}
 use Rattle.sheet.specs.Run.{Entry, pastFrom}
-use Rattle.sheet.specs.Sheet.{Sheet, Outcome, accepted, refused, readSheet}
+use Rattle.sheet.specs.Sheet.{Sheet, Outcome, accepted, refused, sheetWith, readSheet}
 use Rattle.sheet.specs.Fault.{coversRows}
 use Rattle.layout.specs.Blocks.{padded}
 use Rattle.sheet_checks.specs.levels.Held.{levelList}
@@ -15,16 +15,7 @@ use Rattle.sheet_checks.specs.levels.Held.{levelList}
 -- the sheet of an outcome; of a refusal nothing is ever asked
 abbrev pub sheetIn : Outcome → Sheet
 sheetIn (accepted sheet starts) = sheet
-sheetIn (refused number line) = record {
-  counts = record { n = 0; p = 0; q = 0; k = 0; flag = 0 };
-  blocks = [];
-  zz = [];
-  zx = [];
-  zy = [];
-  xx = [];
-  xy = [];
-  yy = 0;
-}
+sheetIn (refused number line) = sheetWith (record { n = 0; p = 0; q = 0; k = 0; flag = 0 }) [] [] []
 
 -- the sheet that bytes hold
 unfoldable pub held : List ℕ → Sheet

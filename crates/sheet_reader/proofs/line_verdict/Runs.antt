@@ -11,11 +11,10 @@ use Rattle.sheet.specs.declared.Cursor.{Cursor}
 use Rattle.sheet.specs.declared.Field.{Field}
 use Rattle.sheet.specs.declared.Line.{Line}
 use Rattle.sheet.specs.Field.{nowhere, unfound, found, onDigit, cap, digitOf, digitsFrom, numberAt, isFinite}
-use Rattle.sheet.specs.Line.{zzTag, tab, tagTo, numberTo, inForm, pairLine, singleLine, bareLine, verdictOf}
-use Rattle.sheet.specs.Run.{isBetween, notBefore, blockVerdict, prescribedVerdict, passOf, linesOf, rowFrom, rowsFrom, entryVerdict, entriesFrom}
-use Rattle.sheet.proofs.Lines.{lines-stay, lines-append, row-length}
+use Rattle.sheet.specs.Line.{zzTag, tab, tagTo, numberTo, inForm, blockLine, pairLine, singleLine, bareLine, wordLine, verdictOf}
+use Rattle.sheet.specs.Run.{ended, before, blockIn, entryIn, wordIn, isBetween, notBefore, blockVerdict, prescribedVerdict, passOf, linesOf, rowFrom, rowsFrom, entryVerdict, entriesFrom, blocksOf}
+use Rattle.sheet.proofs.Lines.{lines-stay, lines-append, row-length, grid-length}
 use Rattle.sheet.proofs.Enough.{refused-ends}
-use Rattle.sheet_reader.specs.line_verdict.Words.{lineOf}
 
 -- ---- one line
 module _ (c : Cursor) (number next : ℕ) where
@@ -40,30 +39,29 @@ module _ (c : Cursor) (number next : ℕ) where
 -- past a line, by the parts of its verdict
 module _ (l : Line) (c r : Cursor) (number : ℕ) (e : r ≡ passOf c number (l .next)) where
   pub block-passed : (levels effects : Bool) → levels ≡ isBetween 1 (l .first) 65535 → effects ≡ isBetween 1 (l .second) 16
-      → number ≡ verdictOf (inForm (l .next)) true (levels && effects) → r ≡ passOf c (blockVerdict (0, 0) l) (l .next)
+      → number ≡ verdictOf ((inForm (l .next), 2) ∷ (true, 3) ∷ (levels && effects, 4) ∷ []) → r ≡ passOf c (blockVerdict (0, 0) l) (l .next)
   block-passed levels effects p q v = cc
 
   pub entry-passed : (q col row : ℕ) (rises finite : Bool) → rises ≡ notBefore col row (l .first) (l .second) → finite ≡ isFinite (l .word)
-      → number ≡ verdictOf (inForm (l .next) && rises) finite (ltb (l .first) q && ltb (l .second) q) → r ≡ passOf c (entryVerdict q col row l) (l .next)
+      → number ≡ verdictOf ((inForm (l .next) && rises, 2) ∷ (finite, 3) ∷ (ltb (l .first) q && ltb (l .second) q, 4) ∷ []) → r ≡ passOf c (entryVerdict q col row l) (l .next)
   entry-passed q col row rises finite p f v = cc
 
   pub prescribed-passed : (row col : ℕ) (finite : Bool) → finite ≡ isFinite (l .word)
-      → number ≡ verdictOf (inForm (l .next) && eqb (l .first) row && eqb (l .second) col) finite true → r ≡ passOf c (prescribedVerdict (row, col) l) (l .next)
+      → number ≡ verdictOf ((inForm (l .next) && eqb (l .first) row && eqb (l .second) col, 2) ∷ (finite, 3) ∷ (true, 4) ∷ []) → r ≡ passOf c (prescribedVerdict (row, col) l) (l .next)
   prescribed-passed row col finite f v = cc
 
 -- ---- a line by how many numbers it has
-module _ (t s : List ℕ) (numbers at : ℕ) (l : Line) where
-  pub word-pair : numbers ≡ 2 → l ≡ pairLine t s at → l ≡ lineOf numbers t s at
-  unfolding lineOf
-  word-pair p e = simp (eq-eqb numbers 2 p) e
+module _ (t s : List ℕ) (at : ℕ) (l : Line) where
+  pub word-pair : (numbers : ℕ) → 1 < numbers → l ≡ pairLine t s at → l ≡ wordLine numbers t s at
+  word-pair zero h e = absurd (omega arith)
+  word-pair (suc zero) h e = absurd (omega arith)
+  word-pair (suc (suc n)) h e = e
 
-  pub word-single : (numbers ≡ 2 → ⊥) → numbers ≡ 1 → l ≡ singleLine t s at → l ≡ lineOf numbers t s at
-  unfolding lineOf
-  word-single p q e = simp (ne-eqb numbers 2 p, eq-eqb numbers 1 q) e
+  pub word-single : (numbers : ℕ) → numbers ≡ 1 → l ≡ singleLine t s at → l ≡ wordLine numbers t s at
+  word-single numbers h e = rw h e
 
-  pub word-bare : (numbers ≡ 2 → ⊥) → (numbers ≡ 1 → ⊥) → l ≡ bareLine t s at → l ≡ lineOf numbers t s at
-  unfolding lineOf
-  word-bare p q e = simp (ne-eqb numbers 2 p, ne-eqb numbers 1 q) e
+  pub word-bare : (numbers : ℕ) → numbers ≤ 1 → (numbers ≡ 1 → ⊥) → l ≡ bareLine t s at → l ≡ wordLine numbers t s at
+  word-bare numbers g h e = let z : numbers ≡ 0 = omega arith in rw z e
 
 -- ---- a run of lines whose indexes are listed
 module _ {A : Type 0} (read : ℕ → Line) (verdict : ℕ × ℕ → Line → ℕ) (keep : ℕ → Line → A) where
@@ -212,3 +210,40 @@ module _ {X : Cursor} {s : List ℕ} {q col row : ℕ} {c : Cursor} where
   unfolding entriesFrom
   entries-end {n = zero} e h = e.same
   entries-end {n = suc n} e h = absurd (omega arith)
+
+-- at most one more for each line
+entries-line : (s : List ℕ) (q n col row : ℕ) (c : Cursor) → entriesFrom n s q col row c .past .line ≤ c .line + n
+unfolding entriesFrom
+entries-line s q zero col row c = omega arith
+entries-line s q (suc n) col row c =
+    let l = pairLine zzTag s c.at in
+    let d = passOf c (entryVerdict q col row l) l.next in
+    go (eqb c.number 0 && inForm (tagTo zzTag s c.at .next)) (entries-line s q n l.first (l.second + 1) d)
+  where
+    go : let l = pairLine zzTag s (c .at) in
+        let more = entriesFrom n s q (l .first) (l .second + 1) (passOf c (entryVerdict q col row l) (l .next)) in
+        (t : Bool) → more .past .line ≤ passOf c (entryVerdict q col row l) (l .next) .line + n → cond t (before (entryIn (c .line) l) more) (ended c) .past .line ≤ c .line + suc n
+    go true h = let l = pairLine zzTag s c.at in omega (arith, pass-line c (entryVerdict q col row l) l.next)
+    go false h = omega arith
+
+-- ---- past a run, whose lines are few
+module _ (s : List ℕ) (c d : Cursor) where
+  pub blocks-past : (k : ℕ) → d ≡ blocksOf s k c .past → (d ≡ blocksOf s k c .past) × (d .line ≤ c .line + k)
+  blocks-past k e =
+      (e, omega (arith, ap (λ (x : Cursor). x .line) e, lines-line (blockLine s) blockVerdict blockIn (rowsFrom (λ r. 1) 0 k) c, grid-length 1 0 k))
+
+  pub entries-past : (n q col row : ℕ) → d ≡ entriesFrom n s q col row c .past → (d ≡ entriesFrom n s q col row c .past) × (d .line ≤ c .line + n)
+  entries-past n q col row e = (e, omega (arith, ap (λ (x : Cursor). x .line) e, entries-line s q n col row c))
+
+pub rows-most : (first step r n : ℕ) → length (rowsFrom (λ i. first + step * i) r n) ≤ n * (first + step * (r + n))
+unfolding rowsFrom
+rows-most first step r zero = omega arith
+rows-most first step r (suc n) =
+    let w = first + step * r in
+    omega (arith, rows-most first step (r + 1) n, length-append (rowFrom r 0 w) (rowsFrom (λ i. first + step * i) (r + 1) n), row-length r 0 w)
+
+pub words-past : (read : ℕ → Line) (first step n : ℕ) (c d : Cursor) → n * (first + step * n) ≤ 16777216
+    → let r = linesOf read prescribedVerdict wordIn (rowsFrom (λ i. first + step * i) 0 n) c .past in
+    d ≡ r → (d ≡ r) × (d .line ≤ c .line + 16777216)
+words-past read first step n c d few e =
+    (e, omega (arith, ap (λ (x : Cursor). x .line) e, rows-most first step 0 n, lines-line read prescribedVerdict wordIn (rowsFrom (λ i. first + step * i) 0 n) c))

@@ -7,11 +7,12 @@ use Rattle.sheet.specs.Text.{bytesOf, ended}
 use Rattle.factor_output.specs.Print.{decimal, hexadecimal}
 use Rattle.factor_output.specs.Worked.{sheetLines}
 use Rattle.sheet_text.specs.written.Written.{linesText, entriesText, textOf}
+use Rattle.sheet.proofs.Made.{countsWith}
 
 abbrev one : Sheet
 one =
     record {
-      counts = record { n = 3; p = 1; q = 1; k = 1; flag = 1 };
+      counts = countsWith 3 1 1 1 1;
       blocks = record { m = 1; e = 1 } ∷ [];
       zz = record { line = 3; col = 0; row = 0; word = 0x4008000000000000 } ∷ [];
       zx = 0x4000000000000000 ∷ [];
@@ -28,7 +29,7 @@ worked-text = refl
 abbrev two : Sheet
 two =
     record {
-      counts = record { n = 1000000000; p = 2; q = 3; k = 2; flag = 0 };
+      counts = countsWith 1000000000 2 3 2 0;
       blocks = record { m = 65535; e = 16 } ∷ record { m = 10; e = 1 } ∷ [];
       zz = record { line = 4; col = 0; row = 2; word = 0x8000000000000000 } ∷ record { line = 5; col = 2; row = 0; word = 1 } ∷ [];
       zx = 16 ∷ 17 ∷ 18 ∷ 19 ∷ 20 ∷ 21 ∷ [];

@@ -1,5 +1,5 @@
 -- A line that stands in the bytes is read as it was written, and so is a run of lines.
-use Prim.Native.Nat.{ℕ, _+_, _^_, _≤_, _<_}
+use Prim.Native.Nat.{ℕ, zero, suc, _+_, _^_, _≤_, _<_}
 use mathlib.Core.Path.{_≡_, refl, sym, ap, ap₂, subst, _∙_}
 use mathlib.Core.Bool.{true, false}
 use mathlib.Core.List.{List, [], _∷_, _++_, append-assoc}
@@ -11,12 +11,12 @@ use borrow.Author.Tests.{ne-eqb, eq-eqb}
 use Rattle.sheet.specs.declared.Cursor.{Cursor}
 use Rattle.sheet.specs.declared.Line.{Line}
 use Rattle.sheet.specs.Field.{cap, nowhere, digitOf, numberAt, wordAt, tagAt}
-use Rattle.sheet.specs.Line.{tab, lf, blockTag, tagTo, numberTo, wordTo, inForm, blockLine, pairLine, singleLine, bareLine}
-use Rattle.sheet.specs.Run.{Block, Run, passOf, linesOf, prescribedVerdict, wordIn}
-use Rattle.sheet.specs.Whole.{Finite}
+use Rattle.sheet.specs.Line.{tab, lf, blockTag, tagTo, numberTo, wordTo, inForm, blockLine, pairLine, singleLine, bareLine, wordLine}
+use Rattle.sheet.specs.Run.{Block, Kind, Run, passOf, linesOf, prescribedVerdict, wordIn, kindLine, wordsOf}
+use Rattle.sheet.specs.Whole.{Both, Finite}
 use Rattle.factor_output.specs.Print.{number, hexadecimal}
 use Rattle.text_output.proofs.Numbers.{hexadecimal-length}
-use Rattle.sheet_text.specs.written.Written.{numberText, wordText, blockText, pairText, singleText, bareText, linesText, Word}
+use Rattle.sheet_text.specs.written.Written.{numberText, wordText, blockText, pairText, singleText, bareText, kindText, linesText, Word}
 use Rattle.sheet_text.proofs.written.Fields.{tab-ends, lf-ends, number-read, word-read, tag-read}
 
 -- the bytes from a position on
@@ -105,14 +105,19 @@ module _ {s : List ℕ} {at : ℕ} where
       let y = number-from b.e lf lf-ends he x.1 in
       record { first = x.0; second = y.0; word = refl; past = y.1 }
 
--- ---- a run of lines
--- two lists of the same length, and P of each pair
-abbrev pub Both : {A : Type 0} → (ℕ × ℕ → A → Type 0) → List (ℕ × ℕ) → List A → Type 0
-Both P [] [] = Unit {0}
-Both P [] (x ∷ xs) = ⊥
-Both P (i ∷ is) [] = ⊥
-Both P (i ∷ is) (x ∷ xs) = P i x × Both P is xs
+-- the indexes that a line of so many numbers can have
+abbrev pub Fits : ℕ → ℕ × ℕ → Type 0
+Fits zero i = (i .0 ≡ 0) × (i .1 ≡ 0)
+Fits (suc zero) i = (i .0 < cap) × (i .1 ≡ 0)
+Fits (suc (suc n)) i = (i .0 < cap) × (i .1 < cap)
 
+pub kind-from : {s : List ℕ} {at : ℕ} (numbers : ℕ) (t : List ℕ) (i : ℕ × ℕ) (w : ℕ) {rest : List ℕ} → Fits numbers i → w < 2 ^ 64
+    → From s at (kindText numbers t i w rest) → Reads s (wordLine numbers t s at) (i .0) (i .1) w rest
+kind-from zero t i w h b f = rw (h.0, h.1) (bare-from t w b f)
+kind-from (suc zero) t i w h b f = rw h.1 (single-from t i.0 w (omega (arith, h.0)) b f)
+kind-from (suc (suc n)) t i w h b f = pair-from t i.0 i.1 w (omega (arith, h.0)) (omega (arith, h.1)) b f
+
+-- ---- a run of lines
 pub pass-on : (c : Cursor) (v next : ℕ) → c .number ≡ 0 → v ≡ 0 → passOf c v next ≡ record { at = next; line = c .line + 1; number = 0 }
 unfolding passOf
 pass-on c v next e h = rw (eq-eqb c.number 0 e, eq-eqb v 0 h)
@@ -151,12 +156,12 @@ prescribed-passes : (s : List ℕ) (l : Line) (i : ℕ × ℕ) (w : ℕ) {rest :
 prescribed-passes s l i w short fin r =
     rw (in-form short r.past, r.first, r.second, r.word, eq-eqb i.0 i.0 refl, eq-eqb i.1 i.1 refl, fin)
 
-module _ (s : List ℕ) (short : length s ≤ 16777216) (read : ℕ → Line) (line : ℕ × ℕ → ℕ → List ℕ → List ℕ) (Q : ℕ × ℕ → Type 0)
-    (one : (at : ℕ) (i : ℕ × ℕ) (w : ℕ) (rest : List ℕ) → Q i → w < 2 ^ 64 → From s at (line i w rest) → Reads s (read at) (i .0) (i .1) w rest) where
-  pub words-back : (is : List (ℕ × ℕ)) (ws : List ℕ) (c : Cursor) (rest : List ℕ) → Both (λ i w. Q i × Word w) is ws → c .number ≡ 0
-      → From s (c .at) (linesText line is ws rest) → ReadBack s (linesOf read prescribedVerdict wordIn is c) ws (c .line) rest
-  words-back =
-      lines-back s read prescribedVerdict wordIn line (λ i w. Q i × Word w)
-      (λ n at i w rest q f.
-      let r = one at i w rest q.0 q.1.0 f in
-      (prescribed-passes s (read at) i w short q.1.1 r, r.word, r.past))
+pub words-back : (s : List ℕ) → length s ≤ 16777216 → (kind : Kind) (ws : List ℕ) (c : Cursor) (rest : List ℕ)
+    → Both (λ i w. Fits (kind .numbers) i × Word w) (kind .indexes) ws → c .number ≡ 0
+    → From s (c .at) (linesText (kindText (kind .numbers) (kind .tag)) (kind .indexes) ws rest) → ReadBack s (wordsOf s kind c) ws (c .line) rest
+words-back s short kind =
+    lines-back s (kindLine kind s) prescribedVerdict wordIn (kindText kind.numbers kind.tag) (λ i w. Fits kind.numbers i × Word w)
+    (λ n at i w rest q f.
+    let r = kind-from kind.numbers kind.tag i w q.0 q.1.0 f in
+    (prescribed-passes s (kindLine kind s at) i w short q.1.1 r, r.word, r.past))
+    kind.indexes

@@ -1,28 +1,27 @@
 -- THE CLAIM: what the reader accepts is the text of a sheet in form, the sheet that it reads.
-use Prim.Native.Nat.{ℕ, zero, suc, _+_, _≤_, _<_}
+use Prim.Native.Nat.{ℕ, zero, suc, _+_, _^_, _≤_, _<_}
 use mathlib.Core.Path.{_≡_, refl, sym, ap, subst, _∙_}
 use mathlib.Core.Bool.{Bool, true, false, _&&_, cond}
 use mathlib.Core.List.{List, [], _∷_}
 use native.Mathlib.Omega.{arith}
-use lib.ListN.{length, getD, drop, drop-of-length-le}
-use lib.Dec.{ltb, leb, eqb}
-use borrow.Author.Tests.{ltb-true, ltb-false, leb-true, eqb-true}
+use lib.ListN.{length, drop, drop-of-length-le}
+use lib.Dec.{ltb, eqb}
+use borrow.Author.Tests.{ltb-true, ltb-false, eqb-true}
 use Rattle.sheet.specs.declared.Counts.{Counts}
 use Rattle.sheet.specs.declared.Cursor.{Cursor}
 use Rattle.sheet.specs.declared.Line.{Line}
 use Rattle.sheet.specs.declared.Starts.{Starts}
-use Rattle.sheet.specs.Field.{cap, isFinite}
-use Rattle.sheet.specs.Line.{zzTag, zxTag, zyTag, xxTag, xyTag, yyTag, tagTo, inForm, sizeLine, blockLine, pairLine, singleLine, bareLine, verdictOf}
-use Rattle.sheet.specs.Run.{Block, Entry, Run, ended, before, passOf, linesOf, entryIn, notBefore, entryVerdict, entriesFrom, blockIn, blockVerdict, isBetween, wordIn, prescribedVerdict, blocksOf, wordsOf, rowFrom, rowsFrom}
-use Rattle.sheet.specs.Sheet.{Sheet, accepted, refused, countsWithin, readLines, afterSize, readSheet, sheetOf}
-use Rattle.sheet.specs.Whole.{Each, InRange, Finite, Whole}
-use Rattle.sheet.proofs.Lines.{both, in-order, passed, ran, grid-length}
+use Rattle.sheet.specs.Line.{zzTag, tagTo, inForm, sizeLine, blockLine, pairLine, wordLine}
+use Rattle.sheet.specs.Run.{Block, Entry, Kind, Run, ended, before, passOf, linesOf, entryIn, notBefore, entryTests, entryVerdict, entriesFrom, blockIn, blockTests, blockVerdict, isBetween, wordIn, prescribedTests, prescribedVerdict, blocksOf, kindLine, wordsOf, runsOf, rowsFrom}
+use Rattle.sheet.specs.Sheet.{Sheet, accepted, refused, sizeTests, sizeVerdict, wordKinds, readLines, afterSize, readSheet, sheetOf}
+use Rattle.sheet.specs.Whole.{Each, Both, InRange, Finite, Whole}
+use Rattle.sheet.proofs.Lines.{both, between, in-order, passed, ran, lines-length, grid-length}
 use Rattle.sheet.proofs.Entries.{listed}
-use Rattle.sheet.proofs.Opened.{blocksRun, zzRun, zxRun, zyRun, xxRun, xyRun, yyRun, opened}
-use Rattle.sheet.proofs.Whole.{counts-in-range, not-accepted, read-whole, alone-read}
-use Rattle.sheet_text.specs.written.Written.{sizeText, blockText, pairText, singleText, bareText, linesText, entriesText, linesAfterSize, sheetText, textOf, Word, Numbered, InForm}
-use Rattle.sheet_text.proofs.written.Lines.{From, from-drop}
-use Rattle.sheet_text.proofs.written.Runs.{Within, rows-within}
+use Rattle.sheet.proofs.Opened.{blocksRun, zzRun, sheetRead, opened}
+use Rattle.sheet.proofs.Whole.{ran-kinds, counts-in-range, not-accepted, read-whole, alone-read}
+use Rattle.sheet_text.specs.written.Written.{sizeText, blockText, pairText, kindText, linesText, kindsText, entriesText, wordsText, linesAfterSize, sheetText, textOf, Word, WordEach, Numbered, InForm}
+use Rattle.sheet_text.proofs.written.Lines.{From, from-drop, Fits}
+use Rattle.sheet_text.proofs.written.Runs.{Within, rows-within, Sound, kinds-sound}
 use Rattle.sheet_text.proofs.written.OnlyLines.{from-here, pair-at, single-at, bare-at, block-at, size-at}
 
 -- ---- a run of lines
@@ -61,44 +60,35 @@ module _ {A : Type 0} (s : List ℕ) (read : ℕ → Line) (verdict : ℕ × ℕ
 -- ---- words whose indexes are prescribed
 prescribed-says : (i : ℕ × ℕ) (l : Line) → prescribedVerdict i l ≡ 0 → (inForm (l .next) ≡ true) × (l .first ≡ i .0) × (l .second ≡ i .1) × Finite (l .word)
 prescribed-says i l v =
-    let o = in-order (inForm l.next && eqb l.first i.0 && eqb l.second i.1) (isFinite l.word) true v in
+    let o = in-order (prescribedTests i l) refl v in
     let x = both _ (eqb l.second i.1) o.0 in
     let y = both (inForm l.next) (eqb l.first i.0) x.0 in
-    (y.0, eqb-true _ _ y.1, eqb-true _ _ x.1, o.1)
+    (y.0, eqb-true _ _ y.1, eqb-true _ _ x.1, o.1.0)
 
 module _ (s : List ℕ) (short : length s ≤ 16777216) where
-  pairs-only : (t : List ℕ) (width : ℕ → ℕ) (n : ℕ) (c : Cursor) → 0 < length t → n ≤ cap → ((r : ℕ) → r < n → width r ≤ cap) → c .at ≤ length s
-      → wordsOf (pairLine t s) width n c .past .number ≡ 0
-      → Stands s (linesText (pairText t) (rowsFrom width 0 n)) Word (c .at) (wordsOf (pairLine t s) width n c .past .at) (wordsOf (pairLine t s) width n c .items)
-  pairs-only t width n c long few thin =
-      lines-only s (pairLine t s) prescribedVerdict wordIn (pairText t) (Within width n) Word
-      (λ k at i p v.
-      let l = pairLine t s at in
-      let g = prescribed-says i l v in
-      let o = pair-at s short t at long g.0 (omega (arith, g.1, p.0)) (omega (arith, g.2, p.1, thin i.0 p.0)) in
-      (rw (sym g.1, sym g.2) o.0, o.1, (o.2, g.3)))
-      (rowsFrom width 0 n) c (rows-within width n 0 n (omega arith))
+  kind-at : (numbers : ℕ) (t : List ℕ) (at : ℕ) (i : ℕ × ℕ) → 0 < length t → Fits numbers i → let l = wordLine numbers t s at in
+      inForm (l .next) ≡ true → l .first ≡ i .0 → l .second ≡ i .1
+      → From s at (kindText numbers t i (l .word) (drop (l .next) s)) × (l .next ≤ length s) × (l .word < 2 ^ 64)
+  kind-at zero t at i long fit h a b = bare-at s short t at long h
+  kind-at (suc zero) t at i long fit h a b = rw (sym a) (single-at s short t at long h (omega (arith, fit.0)))
+  kind-at (suc (suc n)) t at i long fit h a b = rw (sym a, sym b) (pair-at s short t at long h (omega (arith, fit.0)) (omega (arith, fit.1)))
 
-  singles-only : (t : List ℕ) (n : ℕ) (c : Cursor) → 0 < length t → n ≤ cap → c .at ≤ length s → wordsOf (singleLine t s) (λ r. 1) n c .past .number ≡ 0
-      → Stands s (linesText (singleText t) (rowsFrom (λ r. 1) 0 n)) Word (c .at) (wordsOf (singleLine t s) (λ r. 1) n c .past .at) (wordsOf (singleLine t s) (λ r. 1) n c .items)
-  singles-only t n c long few =
-      lines-only s (singleLine t s) prescribedVerdict wordIn (singleText t) (Within (λ r. 1) n) Word
-      (λ k at i p v.
-      let l = singleLine t s at in
-      let g = prescribed-says i l v in
-      let o = single-at s short t at long g.0 (omega (arith, g.1, p.0)) in
-      (rw (sym g.1) o.0, o.1, (o.2, g.3)))
-      (rowsFrom (λ r. 1) 0 n) c (rows-within (λ r. 1) n 0 n (omega arith))
-
-  bare-only : (t : List ℕ) (c : Cursor) → 0 < length t → c .at ≤ length s → wordsOf (bareLine t s) (λ r. 1) 1 c .past .number ≡ 0
-      → Stands s (linesText (bareText t) (rowsFrom (λ r. 1) 0 1)) Word (c .at) (wordsOf (bareLine t s) (λ r. 1) 1 c .past .at) (wordsOf (bareLine t s) (λ r. 1) 1 c .items)
-  bare-only t c long =
-      lines-only s (bareLine t s) prescribedVerdict wordIn (bareText t) (Within (λ r. 1) 1) Word
-      (λ k at i p v.
-      let g = prescribed-says i (bareLine t s at) v in
-      let o = bare-at s short t at long g.0 in
+  kinds-only : (kinds : List Kind) (c : Cursor) → Each Sound kinds → c .at ≤ length s → runsOf s kinds c .past .number ≡ 0 → let r = runsOf s kinds c in
+      From s (c .at) (kindsText kinds (r .words) (drop (r .past .at) s)) × (r .past .at ≤ length s)
+      × Both WordEach kinds (r .words)
+  unfolding runsOf
+  kinds-only [] c k h e = (from-here s c.at h, h, tt)
+  kinds-only (kind ∷ kinds) c k h e =
+      let d = wordsOf s kind c .past in
+      let f =
+      lines-only s (kindLine kind s) prescribedVerdict wordIn (kindText kind.numbers kind.tag) (Fits kind.numbers) Word
+      (λ n at i p v.
+      let g = prescribed-says i (kindLine kind s at) v in
+      let o = kind-at kind.numbers kind.tag at i k.0.0 p g.0 g.1 g.2 in
       (o.0, o.1, (o.2, g.3)))
-      (rowsFrom (λ r. 1) 0 1) c (rows-within (λ r. 1) 1 0 1 (omega arith))
+      kind.indexes c k.0.1 h (ran-kinds s kinds d e .open-before) in
+      let m = kinds-only kinds d k.1 f.within e in
+      (follow f m.0, m.1, ((lines-length (kindLine kind s) prescribedVerdict wordIn kind.indexes c, f.each), m.2))
 
   blocks-only : (k : ℕ) (c : Cursor) → c .at ≤ length s → blocksOf s k c .past .number ≡ 0
       → Stands s (linesText blockText (rowsFrom (λ r. 1) 0 k)) (λ (b : Block). Unit {0}) (c .at) (blocksOf s k c .past .at) (blocksOf s k c .items)
@@ -106,11 +96,9 @@ module _ (s : List ℕ) (short : length s ≤ 16777216) where
       lines-only s (blockLine s) blockVerdict blockIn blockText (Within (λ r. 1) k) (λ (b : Block). Unit {0})
       (λ n at i p v.
       let l = blockLine s at in
-      let w = in-order (inForm l.next) true (isBetween 1 l.first 65535 && isBetween 1 l.second 16) v in
-      let x = both (isBetween 1 l.first 65535) (isBetween 1 l.second 16) w.2 in
-      let m = leb-true l.first 65535 (both (leb 1 l.first) (leb l.first 65535) x.0 .1) in
-      let e = leb-true l.second 16 (both (leb 1 l.second) (leb l.second 16) x.1 .1) in
-      let o = block-at s short i at w.0 (omega arith) (omega arith) in
+      let w = in-order (blockTests l) refl v in
+      let x = both (isBetween 1 l.first 65535) (isBetween 1 l.second 16) w.1.0 in
+      let o = block-at s short i at w.0 (omega (arith, between 1 l.first 65535 x.0 .1)) (omega (arith, between 1 l.second 16 x.1 .1)) in
       (o.0, o.1, tt))
       (rowsFrom (λ r. 1) 0 k) c (rows-within (λ r. 1) k 0 k (omega arith))
 
@@ -138,8 +126,8 @@ module _ (s : List ℕ) (short : length s ≤ 16777216) where
           let v = entryVerdict q col row l in
           let d = passOf c v l.next in
           let p = passed c v l.next (listed s q left l.first (l.second + 1) d g .open-before) in
-          let o = in-order (inForm l.next && notBefore col row l.first l.second) (isFinite l.word) (ltb l.first q && ltb l.second q) p.verdict in
-          let w = both (ltb l.first q) (ltb l.second q) o.2 in
+          let o = in-order (entryTests q col row l) refl p.verdict in
+          let w = both (ltb l.first q) (ltb l.second q) o.1.1.0 in
           let a = ltb-true l.first q w.0 in
           let b = ltb-true l.second q w.1 in
           let x = pair-at s short zzTag c.at (omega arith) (both (inForm l.next) (notBefore col row l.first l.second) o.0 .0) (omega arith) (omega arith) in
@@ -149,46 +137,32 @@ module _ (s : List ℕ) (short : length s ≤ 16777216) where
             stands = record {
               so = subst (λ (y : List ℕ). From s c.at (pairText zzTag (l.first, l.second) l.word y)) (ap (λ (n : ℕ). drop n s) (sym next) ∙ from-drop m.stands.so) x.0;
               within = m.stands.within;
-              each = ((x.2, o.1), m.stands.each);
+              each = ((x.2, o.1.0), m.stands.each);
             };
             numbered = (refl, subst (λ (n : ℕ). Numbered n (entriesFrom left s q l.first (l.second + 1) d .items)) (ap (λ (y : Cursor). y .line) p.after) m.numbered);
           }
       go rest false g = record { stands = record { so = from-here s c.at h; within = h; each = tt }; numbered = tt }
 
-  -- the one word of the yy line
-  last-word : (t : List ℕ) (c : Cursor) (to : ℕ) → Stands s (linesText (bareText t) (rowsFrom (λ r. 1) 0 1)) Word (c .at) to (wordsOf (bareLine t s) (λ r. 1) 1 c .items)
-      → From s (c .at) (bareText t (0, 0) (getD (wordsOf (bareLine t s) (λ r. 1) 1 c .items) 0 0) (drop to s)) × Word (getD (wordsOf (bareLine t s) (λ r. 1) 1 c .items) 0 0)
-  unfolding rowsFrom rowFrom linesOf linesText
-  last-word t c to f = (f.so, f.each.0)
-
   -- ---- the lines after the size line
   lines-text : (z : Counts) (at : ℕ) (sheet : Sheet) (starts : Starts) → InRange z → at ≤ length s
       → readLines s z (record { at = at; line = 2; number = 0 }) ≡ accepted sheet starts → Whole s sheet starts
       → From s at (linesAfterSize sheet (drop (starts .end) s)) × InForm sheet × (z ≡ sheet .counts) × (starts .end ≤ length s)
+  unfolding runsOf linesOf
   lines-text z at sheet starts h here e whole =
       let c : Cursor = record { at = at; line = 2; number = 0 } in
       let o = opened s z at sheet starts e in
       let blocks = blocksRun s z at in
       let zz = zzRun s z at in
-      let zx = zxRun s z at in
-      let zy = zyRun s z at in
-      let xx = xxRun s z at in
-      let xy = xyRun s z at in
-      let yy = yyRun s z at in
-      let rb = ran (blockLine s) blockVerdict blockIn (rowsFrom (λ r. 1) 0 z.k) c o.blocks in
-      let s1 = blocks-only z.k c here o.blocks in
-      let s2 = entries-only z.q (length s) 0 0 blocks.past h.q s1.within o.zz in
-      let s3 = pairs-only zxTag (λ r. z .p) z.q zz.past (omega arith) (omega (arith, h.q)) (λ r l. omega (arith, h.p.1)) s2.stands.within o.zx in
-      let s4 = singles-only zyTag z.q zx.past (omega arith) (omega (arith, h.q)) s3.within o.zy in
-      let s5 = pairs-only xxTag (λ r. r + 1) z.p zy.past (omega arith) (omega (arith, h.p.1)) (λ r l. omega (arith, h.p.1)) s4.within o.xx in
-      let s6 = singles-only xyTag z.p xx.past (omega arith) (omega (arith, h.p.1)) s5.within o.xy in
-      let s7 = bare-only yyTag xy.past (omega arith) s6.within o.yy in
-      let last = last-word yyTag xy.past yy.past.at s7 in
-      let shape = subst (λ (x : Sheet). Whole s x starts) (sym o.same-sheet) whole .shape in
+      let r = ran-kinds s (wordKinds z) zz.past o.0 in
+      let rz = listed s z.q (length s) 0 0 blocks.past r.open-before in
+      let rb = ran (blockLine s) blockVerdict blockIn (rowsFrom (λ r. 1) 0 z.k) c rz.open-before in
+      let s1 = blocks-only z.k c here rz.open-before in
+      let s2 = entries-only z.q (length s) 0 0 blocks.past h.q s1.within r.open-before in
+      let s3 = kinds-only (wordKinds z) zz.past (kinds-sound z h) s2.stands.within o.0 in
+      let shape = subst (λ (x : Sheet). Whole s x starts) (sym o.1) whole .shape in
       let line : blocks .past .line ≡ z .k + 2 = omega (arith, rb.line, grid-length 1 0 z.k) in
-      let end = subst (λ (x : Starts). From s xy.past.at (bareText yyTag (0, 0) (getD yy.items 0 0) (drop x.end s))) o.same-starts last.0 in
-      subst (λ (x : Sheet). From s at (linesAfterSize x (drop starts.end s)) × InForm x × (z ≡ x .counts) × (starts.end ≤ length s)) o.same-sheet (
-        follow s1 (follow s2.stands (follow s3 (follow s4 (follow s5 (follow s6 end))))),
+      subst (λ (x : Sheet). From s at (linesAfterSize x (drop starts.end s)) × InForm x × (z ≡ x .counts) × (starts.end ≤ length s)) o.1 (
+        follow s1 (follow s2.stands (subst (λ (x : Starts). From s zz.past.at (wordsText (sheetRead s z at) (drop x.end s))) o.2 s3.0)),
         record {
           counts = h;
           blocks = shape.blocks;
@@ -197,27 +171,19 @@ module _ (s : List ℕ) (short : length s ≤ 16777216) where
           zz-words = s2.stands.each;
           zz-rising = shape.zz-rising;
           zz-lines = subst (λ (n : ℕ). Numbered n zz.items) line s2.numbered;
-          zx = s3.each;
-          zx-length = shape.zx-length;
-          zy = s4.each;
-          zy-length = shape.zy-length;
-          xx = s5.each;
-          xx-length = shape.xx-length;
-          xy = s6.each;
-          xy-length = shape.xy-length;
-          yy = last.1;
+          words = s3.2;
         },
         refl,
-        subst (λ (x : Starts). x .end ≤ length s) o.same-starts s7.within,
+        subst (λ (x : Starts). x .end ≤ length s) o.2 s3.1,
       )
 
 -- ---- a sheet and what follows it; and a sheet alone
 pub read-before : (s : List ℕ) (sheet : Sheet) (starts : Starts) → readSheet s ≡ accepted sheet starts → (s ≡ sheetText sheet (drop (starts .end) s)) × InForm sheet × (starts .end ≤ length s)
 unfolding readSheet
 read-before s sheet starts e =
-    go (ltb 16777216 (length s)) (verdictOf (inForm (sizeLine s 0 .next)) true (countsWithin (sizeLine s 0 .counts))) refl refl e (read-whole s sheet starts e)
+    go (ltb 16777216 (length s)) (sizeVerdict (sizeLine s 0)) refl refl e (read-whole s sheet starts e)
   where
-    go : (t : Bool) (v : ℕ) → ltb 16777216 (length s) ≡ t → verdictOf (inForm (sizeLine s 0 .next)) true (countsWithin (sizeLine s 0 .counts)) ≡ v
+    go : (t : Bool) (v : ℕ) → ltb 16777216 (length s) ≡ t → sizeVerdict (sizeLine s 0) ≡ v
         → cond t (refused 1 0) (afterSize v s (sizeLine s 0)) ≡ accepted sheet starts → Whole s sheet starts
         → (s ≡ sheetText sheet (drop (starts .end) s)) × InForm sheet × (starts .end ≤ length s)
     go true v u w g whole = absurd (not-accepted 1 0 sheet starts g)
@@ -225,8 +191,8 @@ read-before s sheet starts e =
     go false zero u w g whole =
         let z = sizeLine s 0 .counts in
         let short = ltb-false 16777216 (length s) u in
-        let o = in-order (inForm (sizeLine s 0 .next)) true (countsWithin z) w in
-        let h = counts-in-range z o.2 in
+        let o = in-order (sizeTests (sizeLine s 0)) refl w in
+        let h = counts-in-range z o.1.0 in
         let x = size-at s short 0 o.0 (omega (arith, h.n.1)) (omega (arith, h.p.1)) (omega (arith, h.q)) (omega (arith, h.k)) (omega (arith, h.flag)) in
         let l = lines-text s short z (sizeLine s 0 .next) sheet starts h x.1 g whole in
         let rest = linesAfterSize sheet (drop starts.end s) in

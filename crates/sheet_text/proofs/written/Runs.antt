@@ -8,13 +8,17 @@ use native.Mathlib.Decide.{decLt}
 use native.Mathlib.Omega.{arith}
 use lib.ListN.{length}
 use borrow.Author.Tests.{lt-ltb, le-ltb, le-leb, eq-eqb}
+use Rattle.sheet.specs.declared.Counts.{Counts}
 use Rattle.sheet.specs.declared.Cursor.{Cursor}
 use Rattle.sheet.specs.declared.Line.{Line}
+use Rattle.sheet.specs.Field.{cap}
 use Rattle.sheet.specs.Line.{zzTag, tagTo, inForm, pairLine}
-use Rattle.sheet.specs.Run.{Entry, rowFrom, rowsFrom, notBefore, entryVerdict, entriesFrom}
-use Rattle.sheet.specs.Whole.{Each, EntryInRange, Earlier, Rising}
+use Rattle.sheet.specs.Run.{Entry, Kind, rowFrom, rowsFrom, notBefore, entryVerdict, entriesFrom}
+use Rattle.sheet.specs.Sheet.{wordKinds}
+use Rattle.sheet.specs.Whole.{Each, Both, InRange, EntryInRange, Earlier, Rising}
+use Rattle.sheet.proofs.Entries.{each-map}
 use Rattle.sheet_text.specs.written.Written.{entriesText, Word, Numbered}
-use Rattle.sheet_text.proofs.written.Lines.{From, in-form, tag-from, Reads, pair-from, Both, pass-on, ReadBack}
+use Rattle.sheet_text.proofs.written.Lines.{From, in-form, tag-from, Reads, pair-from, Fits, pass-on, ReadBack}
 
 -- ---- indexes
 each-append : {A : Type 0} (P : A → Type 0) (xs ys : List A) → Each P xs → Each P ys → Each P (xs ++ ys)
@@ -37,17 +41,34 @@ rows-within width end r (suc n) h =
     each-append (Within width end) (rowFrom r 0 (width r)) _ (row-within width end r 0 (width r) (omega arith) (omega arith))
     (rows-within width end (r + 1) n (omega arith))
 
--- two lists side by side
-pub both-each : {A : Type 0} (P Q : ℕ × ℕ → Type 0) (W : A → Type 0) → ((i : ℕ × ℕ) → P i → Q i) → (is : List (ℕ × ℕ)) (xs : List A) → length is ≡ length xs
-    → Each P is → Each W xs → Both (λ i x. Q i × W x) is xs
-both-each P Q W f [] [] e a b = tt
-both-each P Q W f [] (x ∷ xs) e a b = omega arith
-both-each P Q W f (i ∷ is) [] e a b = omega arith
-both-each P Q W f (i ∷ is) (x ∷ xs) e a b = ((f i a.0, b.0), both-each P Q W f is xs (omega arith) a.1 b.1)
+-- what the indexes of each row have, all have
+pub rows-each : (width : ℕ → ℕ) (n : ℕ) (Q : ℕ × ℕ → Type 0) → ((i : ℕ × ℕ) → i .0 < n → i .1 < width (i .0) → Q i) → Each Q (rowsFrom width 0 n)
+rows-each width n Q f = each-map (rowsFrom width 0 n) (λ i h. f i h.0 h.1) (rows-within width n 0 n (omega arith))
 
-pub rows-both : {A : Type 0} (width : ℕ → ℕ) (n : ℕ) (Q : ℕ × ℕ → Type 0) (W : A → Type 0) → ((i : ℕ × ℕ) → i .0 < n → i .1 < width (i .0) → Q i)
-    → (xs : List A) → length (rowsFrom width 0 n) ≡ length xs → Each W xs → Both (λ i x. Q i × W x) (rowsFrom width 0 n) xs
-rows-both width n Q W f xs e b = both-each (Within width n) Q W (λ i h. f i h.0 h.1) (rowsFrom width 0 n) xs e (rows-within width n 0 n (omega arith)) b
+-- two lists side by side
+pub both-each : {A B : Type 0} (P : A → Type 0) (W : B → Type 0) (xs : List A) (ys : List B) → length xs ≡ length ys → Each P xs → Each W ys → Both (λ x y. P x × W y) xs ys
+both-each P W [] [] e a b = tt
+both-each P W [] (y ∷ ys) e a b = omega arith
+both-each P W (x ∷ xs) [] e a b = omega arith
+both-each P W (x ∷ xs) (y ∷ ys) e a b = ((a.0, b.0), both-each P W xs ys (omega arith) a.1 b.1)
+
+-- ---- the kinds of a sheet have a tag, and their lines can have their indexes
+abbrev pub Sound : Kind → Type 0
+Sound kind = (0 < length kind.tag) × Each (Fits kind.numbers) kind.indexes
+
+pub kinds-sound : (z : Counts) → InRange z → Each Sound (wordKinds z)
+kinds-sound z h =
+    let few : z .q < cap = omega (arith, h.q) in
+    let thin : z .p < cap = omega (arith, h.p.1) in (
+      (omega arith, rows-each (λ r. z .p) z.q (Fits 2) (λ i x y. (omega arith, omega arith))),
+      (
+        (omega arith, rows-each (λ r. 1) z.q (Fits 1) (λ i x y. (omega arith, omega arith))),
+        (
+          (omega arith, rows-each (λ r. r + 1) z.p (Fits 2) (λ i x y. (omega arith, omega arith))),
+          ((omega arith, rows-each (λ r. 1) z.p (Fits 1) (λ i x y. (omega arith, omega arith))), ((omega arith, ((refl, refl), tt)), tt)),
+        ),
+      ),
+    )
 
 -- ---- entries
 -- the first entry comes no earlier than (col, row)

@@ -1,7 +1,7 @@
 -- The program `factor` reads every input in form, and of inputs whose sheet it reads no others.
 use Prim.Native.Nat.{ℕ, _^_, _≤_, _<_}
 use mathlib.Core.Path.{_≡_, refl, sym, ap, ap₂, subst, _∙_}
-use mathlib.Core.Bool.{true, _&&_}
+use mathlib.Core.Bool.{true}
 use mathlib.Core.List.{List, [], _∷_, map}
 use native.Mathlib.Omega.{arith}
 use lib.ListN.{length, drop, drop-of-length-le, replicate}
@@ -10,7 +10,6 @@ use borrow.Author.Tests.{ltb-true, eqb-true, eq-eqb}
 use Rattle.sheet.specs.declared.Cursor.{Cursor}
 use Rattle.sheet.specs.declared.Line.{Line}
 use Rattle.sheet.specs.declared.Starts.{Starts}
-use Rattle.sheet.specs.Field.{cap}
 use Rattle.sheet.specs.Line.{inForm, singleLine}
 use Rattle.sheet.specs.Run.{Run, passOf, linesOf, rowsFrom, wordIn}
 use Rattle.sheet.specs.Sheet.{Sheet, Outcome, accepted, readSheet}
@@ -26,11 +25,11 @@ use Rattle.sheet.specs.Answer.{Answers}
 use Rattle.workspace.specs.Memory.{Workspace}
 use Rattle.workspace.specs.Loaded.{double}
 use Rattle.workspace.specs.Load.{loadSheet}
-use Rattle.factor_output.specs.Program.{bytesHeld, doublesHeld, numbersHeld, thetaTag, thetaVerdict, thetaLines, afterTheta, afterLoad, afterSheet, factorWith, printOf, Prints, too-long, read}
+use Rattle.factor_output.specs.Program.{bytesHeld, doublesHeld, numbersHeld, thetaTag, thetaTests, thetaVerdict, thetaLines, afterTheta, afterLoad, afterSheet, factorWith, printOf, Prints, too-long, read}
 use Rattle.sheet_text.specs.written.Written.{singleText, linesText, sheetText}
 use Rattle.sheet_text.specs.written.Input.{thetaText, Input}
-use Rattle.sheet_text.proofs.written.Lines.{From, from-drop, from-length, in-form, single-from, lines-back}
-use Rattle.sheet_text.proofs.written.Runs.{Within, rows-within, rows-both}
+use Rattle.sheet_text.proofs.written.Lines.{From, from-drop, from-length, in-form, Fits, kind-from, lines-back}
+use Rattle.sheet_text.proofs.written.Runs.{Within, rows-within, rows-each, both-each}
 use Rattle.sheet_text.proofs.written.Read.{written-before}
 use Rattle.sheet_text.proofs.written.OnlyLines.{single-at}
 use Rattle.sheet_text.proofs.written.OnlySheet.{Stands, lines-only, read-before}
@@ -60,12 +59,12 @@ theta-back : (s : List ℕ) → length s ≤ 16777216 → (k : ℕ) (ws : List �
     → (thetaWords s k c .items ≡ ws) × (thetaWords s k c .past .number ≡ 0) × (thetaWords s k c .past .at ≡ length s)
 theta-back s short k ws c few e h open-before f =
     let r =
-    lines-back s (singleLine thetaTag s) thetaVerdict wordIn (singleText thetaTag) (λ i w. ((i.0 ≤ cap) × (i.1 ≡ 0)) × (w < 2 ^ 64))
+    lines-back s (singleLine thetaTag s) thetaVerdict wordIn (singleText thetaTag) (λ i w. Fits 1 i × (w < 2 ^ 64))
     (λ n at i w rest q g.
-    let o = single-from thetaTag i.0 w q.0.0 q.1 g in
+    let o = kind-from 1 thetaTag i w q.0 q.1 g in
     (rw (in-form short o.past, o.first, eq-eqb i.0 i.0 refl), o.word, o.past))
     (rowsFrom (λ r. 1) 0 k) ws c []
-    (rows-both (λ r. 1) k (λ i. (i.0 ≤ cap) × (i.1 ≡ 0)) (λ (w : ℕ). w < 2 ^ 64) (λ i x y. (omega arith, omega arith)) ws (omega (arith, grid-length 1 0 k)) h)
+    (both-each (Fits 1) (λ (w : ℕ). w < 2 ^ 64) (rowsFrom (λ r. 1) 0 k) ws (omega (arith, grid-length 1 0 k)) (rows-each (λ r. 1) k (Fits 1) (λ i x y. (omega arith, omega arith))) h)
     open-before f in
     (r.items, r.number, omega (arith, from-length r.past))
 
@@ -76,7 +75,7 @@ theta-only s short k c few =
     lines-only s (singleLine thetaTag s) thetaVerdict wordIn (singleText thetaTag) (Within (λ r. 1) k) (λ (w : ℕ). w < 2 ^ 64)
     (λ n at i p v.
     let l = singleLine thetaTag s at in
-    let o = both (inForm l.next) (eqb l.first i.0) (in-order (inForm l.next && eqb l.first i.0) true true v .0) in
+    let o = both (inForm l.next) (eqb l.first i.0) (in-order (thetaTests i l) refl v .0) in
     let first = eqb-true l.first i.0 o.1 in
     let x = single-at s short thetaTag at (omega arith) o.0 (omega (arith, p.0)) in
     (rw (sym first) x.0, x.1, x.2))
@@ -116,7 +115,7 @@ theta-printed s sheet ws i starts f v =
     rw (m.0, m.1, t.0, t.1, t.2, eq-eqb (length s) (length s) refl) refl
 
 load-printed : (s : List ℕ) (sheet : Sheet) (ws : List ℕ) → Input s sheet ws → (starts : Starts) → From s (starts .end) (thetaText ws) → (a : Answer) (v : Workspace)
-    → a ≡ Accepted → afterLoad a v (sheet .counts .k) s starts ≡ factorWith v (sheet .counts .k) (map double ws)
+    → a ≡ Accepted → afterLoad a v (sheet .counts) s starts ≡ factorWith v (sheet .counts .k) (map double ws)
 load-printed s sheet ws i starts f a v e = rw e (theta-printed s sheet ws i starts f v)
 
 -- An input in form whose sheet is without a fault, and fits: begin with its theta, the steps and the pivots are what is printed.

@@ -1,14 +1,14 @@
 -- A sheet as the text that document 01's Record 1 describes, and when a sheet is in form. Nothing here reads: proofs/written/Read.antt shows that the reader
 -- of sheets accepts each such text, and reads the sheet out of it again.
-use Prim.Native.Nat.{ℕ, _+_, _*_, _/_, _^_, _<_}
+use Prim.Native.Nat.{ℕ, zero, suc, _+_, _^_, _<_}
 use mathlib.Core.Path.{_≡_}
 use mathlib.Core.List.{List, [], _∷_, _++_}
 use lib.ListN.{length}
 use Rattle.sheet.specs.declared.Counts.{Counts}
-use Rattle.sheet.specs.Line.{tab, lf, sizeTag, blockTag, zzTag, zxTag, zyTag, xxTag, xyTag, yyTag}
-use Rattle.sheet.specs.Run.{Block, Entry, rowsFrom}
-use Rattle.sheet.specs.Sheet.{Sheet}
-use Rattle.sheet.specs.Whole.{Each, InRange, BlockInRange, Finite, EntryInRange, Rising}
+use Rattle.sheet.specs.Line.{tab, lf, sizeTag, blockTag, zzTag}
+use Rattle.sheet.specs.Run.{Block, Entry, Kind, rowsFrom}
+use Rattle.sheet.specs.Sheet.{Sheet, wordKinds, wordLists}
+use Rattle.sheet.specs.Whole.{Each, Both, InRange, BlockInRange, Finite, EntryInRange, Rising}
 use Rattle.factor_output.specs.Print.{number, hexadecimal}
 
 -- ---- lines, each with what follows it
@@ -40,6 +40,12 @@ singleText t i w rest = t ++ numberText (i .0) tab (wordText w rest)
 abbrev pub bareText : List ℕ → ℕ × ℕ → ℕ → List ℕ → List ℕ
 bareText t i w rest = t ++ wordText w rest
 
+-- a line of a kind, by how many numbers stand before the word
+abbrev pub kindText : ℕ → List ℕ → ℕ × ℕ → ℕ → List ℕ → List ℕ
+kindText zero t = bareText t
+kindText (suc zero) t = singleText t
+kindText (suc (suc n)) t = pairText t
+
 -- a line for each pair of indexes and what stands in it
 unfoldable pub linesText : {A : Type 0} → (ℕ × ℕ → A → List ℕ → List ℕ) → List (ℕ × ℕ) → List A → List ℕ → List ℕ
 linesText line [] xs rest = rest
@@ -51,15 +57,15 @@ unfoldable pub entriesText : List Entry → List ℕ → List ℕ
 entriesText [] rest = rest
 entriesText (e ∷ es) rest = pairText zzTag (e .col, e .row) (e .word) (entriesText es rest)
 
+-- the lines of each kind, with its words
+abbrev pub kindsText : List Kind → List (List ℕ) → List ℕ → List ℕ
+kindsText [] words rest = rest
+kindsText (kind ∷ kinds) [] rest = rest
+kindsText (kind ∷ kinds) (ws ∷ words) rest = linesText (kindText (kind .numbers) (kind .tag)) (kind .indexes) ws (kindsText kinds words rest)
+
 -- ---- the sheet: one record a line, in their sequence, and what follows it
 abbrev pub wordsText : Sheet → List ℕ → List ℕ
-wordsText s rest =
-    let p = s .counts .p in
-    let q = s .counts .q in
-    linesText (pairText zxTag) (rowsFrom (λ r. p) 0 q) (s .zx)
-    (linesText (singleText zyTag) (rowsFrom (λ r. 1) 0 q) (s .zy)
-    (linesText (pairText xxTag) (rowsFrom (λ r. r + 1) 0 p) (s .xx)
-    (linesText (singleText xyTag) (rowsFrom (λ r. 1) 0 p) (s .xy) (bareText yyTag (0, 0) (s .yy) rest))))
+wordsText s rest = kindsText (wordKinds (s .counts)) (wordLists s) rest
 
 abbrev pub linesAfterSize : Sheet → List ℕ → List ℕ
 linesAfterSize s rest = linesText blockText (rowsFrom (λ r. 1) 0 (s .counts .k)) (s .blocks) (entriesText (s .zz) (wordsText s rest))
@@ -76,6 +82,10 @@ textOf s = sheetText s []
 abbrev pub Word : ℕ → Type 0
 Word w = (w < 2 ^ 64) × Finite w
 
+-- a word for each line of a kind
+abbrev pub WordEach : Kind → List ℕ → Type 0
+WordEach kind ws = (length ws ≡ length (kind .indexes)) × Each Word ws
+
 -- the entries stand in lines `line`, `line` + 1, ..
 abbrev pub Numbered : ℕ → List Entry → Type 0
 Numbered line [] = Unit {0}
@@ -90,12 +100,4 @@ pub record InForm (s : Sheet) : Type 0 where
   pub zz-words : Each (λ (e : Entry). Word (e .word)) (s .zz)
   pub zz-rising : Rising (s .zz)
   pub zz-lines : Numbered (s .counts .k + 2) (s .zz)
-  pub zx : Each Word (s .zx)
-  pub zx-length : length (s .zx) ≡ s .counts .q * s .counts .p
-  pub zy : Each Word (s .zy)
-  pub zy-length : length (s .zy) ≡ s .counts .q
-  pub xx : Each Word (s .xx)
-  pub xx-length : length (s .xx) ≡ s .counts .p * (s .counts .p + 1) / 2
-  pub xy : Each Word (s .xy)
-  pub xy-length : length (s .xy) ≡ s .counts .p
-  pub yy : Word (s .yy)
+  pub words : Both WordEach (wordKinds (s .counts)) (wordLists s)

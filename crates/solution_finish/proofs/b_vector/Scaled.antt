@@ -16,7 +16,7 @@ use Rattle.rules.specs.Arithmetic.{ieee}
 use Rattle.rules.specs.Begin.{fixedCell}
 use Rattle.rules.specs.Cholesky.{at}
 use Rattle.block_runs.specs.blocks.Blocks.{EachShape}
-use Rattle.block_runs.proofs.axpy.Sums.{times-swap}
+use Rattle.rules.proofs.Products.{times-swap}
 use Rattle.cross_block.specs.Blocks.{scaledOnce}
 use Rattle.cross_block.proofs.Turns.{as-block}
 use Rattle.layout.specs.declared.Layout.{Layout}

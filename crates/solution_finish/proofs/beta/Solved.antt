@@ -8,6 +8,7 @@ use lib.Ieee.{Float, nan}
 use Rattle.storage.specs.Runs.{tab}
 use Rattle.storage.specs.Shape.{packed}
 use Rattle.storage.specs.Part.{store}
+use Rattle.storage.specs.Placed.{blockOf}
 use Rattle.storage.proofs.Cells.{length-tab, getD-tab, take-tab}
 use Rattle.storage.proofs.Parts.{length-store, part-same}
 use Rattle.rules.specs.Arithmetic.{ieee}
@@ -29,7 +30,7 @@ first-entries : (l w : List Float) (n : ℕ) → length l ≡ n → n ≤ length
 first-entries l w n e h i = ap (λ (x : List Float). at ieee x i) (part-same 0 l w (omega arith) n e)
 
 module _ (off p : ℕ) (v b₀ b₁ b₂ b₃ : List Float) (short : p ≤ length b₀) (room : p ≤ length v)
-    (e₁ : b₁ ≡ run 0 p (λ i. Axpy.at v (0 + i)) b₀) (e₂ : b₂ ≡ solvedForward 0 off p v b₁) (e₃ : b₃ ≡ solvedBackward 0 off p v b₂) where
+    (e₁ : b₁ ≡ run 0 p (λ i. Axpy.at v (0 + i)) b₀) (e₂ : b₂ ≡ solvedForward 0 (blockOf off p p) v b₁) (e₃ : b₃ ≡ solvedBackward 0 (blockOf off p p) v b₂) where
   abbrev L : ℕ → ℕ → Float
   L = block off (packed p) v
 

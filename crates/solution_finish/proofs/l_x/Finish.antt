@@ -1,42 +1,37 @@
 -- The pivots that C leaves tell which radicand was not above 0.
-use Prim.Native.Nat.{ℕ, zero, suc, _+_, _-_, _*_, _≤_, _<_}
+use Prim.Native.Nat.{ℕ, zero, suc, _+_, _-_, _≤_, _<_}
 use mathlib.Core.Path.{_≡_, refl, sym, ap, ap₂, subst, _∙_}
-use mathlib.Core.Bool.{Bool, true, false, not, _&&_, _||_}
+use mathlib.Core.Bool.{Bool, true, false, not}
 use mathlib.Core.List.{List, [], _++_, append-nil}
 use mathlib.Core.Option.{Option, none, some}
-use mathlib.Core.Logic.{_⊎_, inl, inr, by-cases}
+use mathlib.Core.Logic.{by-cases}
 use native.Mathlib.Decide.{decLt}
 use native.Mathlib.Nat.{add-zero}
 use native.Mathlib.Numerals.{add-one}
 use native.Mathlib.Omega.{arith}
-use borrow.Author.Tests.{le-ltb, ne-eqb}
-use lib.Dec.{T, ltb, eqb}
 use lib.ListN.{length, length-append, getD}
-use lib.Ieee as Ieee
-use lib.Ieee.{Float, nan, inf, fin, binary64, fits, up, down, below, level}
-use lib.Ieee.Positive.{positive}
+use lib.Ieee.{Float, nan}
 use lib.Seq.{take-all}
-use Rattle.square_root.specs.Root.{sqrtOf}
-use Rattle.square_root.proofs.Theorems.{sqrt-positive}
 use Rattle.storage.specs.Runs.{start, triangle}
 use Rattle.storage.specs.Shape.{packed, sizeOf, fill, cell}
 use Rattle.storage.specs.Part.{part, store}
+use Rattle.storage.specs.Placed.{blockOf}
 use Rattle.storage.proofs.Starts.{start-below, start-le}
 use Rattle.storage.proofs.Parts.{part-in, part-left}
 use Rattle.storage.proofs.Blocks.{length-fill, cell-fill}
 use Rattle.rules.specs.Arithmetic.{ieee}
 use Rattle.rules.specs.Cholesky.{leftOfPivot, factor, radicand, next, firstBad, pivots, finishPivots}
-use Rattle.rules.proofs.Rows.{pivot-root, accepted-at, length-forward}
+use Rattle.rules.proofs.Rows.{pivot-root, none-bad, accepted-at, length-forward}
+use Rattle.rules.proofs.Doubles.{Double, chain-fits, refused-not-above, above-not-refused, never-null, root-of-accepted, root-above-same}
 use Rattle.re_lower.specs.Lower.{answerOf}
 use Rattle.re_lower.specs.declared.Pivots.{Pivots}
 use Rattle.re_lower.specs.declared.Pivots.the-variants.{Accepted, Refused}
 use Rattle.re_lower.proofs.Blocks.{accepted-none, refused-some, row-below}
-use Rattle.re_lower.proofs.Pivotal.{chain-fits, not-refused, positive-above, root-of-accepted, never-null, zeroFloat, zero-float-is}
 use Rattle.block_runs.specs.blocks.Blocks.{block}
 use Rattle.block_runs.proofs.blocks.Laws.{has-packed, read-block}
 use Rattle.re_factor.specs.Factor.{pivotAt, TriangleFactored}
 use Rattle.re_factor.proofs.Pivotal.{Doubles}
-use Rattle.solution_finish.specs.l_x.Factor.{notAbove, firstNotAbove, orRow, FixedFactored}
+use Rattle.solution_finish.specs.l_x.Factor.{triangleAt, notAbove, firstNotAbove, orRow, FixedFactored}
 
 -- ---- the first bad one of a list of numbers
 
@@ -72,14 +67,6 @@ never-accepted : (x : Pivots) (r : ℕ) → Accepted ≡ orRow x r → ⊥
 never-accepted Accepted r k = let z : _≡_ {A = ℕ} 0 1 = cc in absurd (omega arith)
 never-accepted (Refused s) r k = let z : _≡_ {A = ℕ} 0 1 = cc in absurd (omega arith)
 
--- where none is found none is bad
-none-bad : (bad : Float → Bool) (g : ℕ → Float) (n r : ℕ) → r < n → firstBad ieee bad g n ≡ none → bad (g r) ≡ false
-none-bad bad g n r h e = go (bad (g r)) refl
-  where
-    go : (b : Bool) → bad (g r) ≡ b → b ≡ false
-    go false f = refl
-    go true f = absurd (never-accepted (answerOf (firstBad ieee bad g r)) r (ap answerOf (sym e) ∙ first-or bad g r n h f))
-
 -- the one that is found is bad
 found-bad : (bad : Float → Bool) (g : ℕ → Float) (n r : ℕ) → firstBad ieee bad g n ≡ some r → bad (g r) ≡ true
 unfolding firstBad
@@ -104,77 +91,32 @@ none-before g n r e = go (pivots ieee g r) refl
         let z : r ≡ s = cc in
         absurd (omega arith)
 
--- ---- a radicand and its root
-
--- what is at most 0 is not above it
-at-most-not-above : (x : Float) → Ieee.le x zeroFloat ≡ true → Ieee.lt zeroFloat x ≡ false
-unfolding Ieee.le Ieee.lt
-at-most-not-above nan e = refl
-at-most-not-above (inf false) e = absurd (let z : _≡_ {A = ℕ} 0 1 = cc in omega arith)
-at-most-not-above (inf true) e = refl
-at-most-not-above (fin true m d) e = refl
-at-most-not-above (fin false m d) e = go (m * up d * 1) (0 * 1 * down d) (omega arith) e
-  where
-    go : (a b : ℕ) → b ≡ 0 → (below false a false b || level false a false b) ≡ true → ltb b a ≡ false
-    go a b z e =
-        by-cases (decLt b a)
-        (λ h. absurd (let t : (ltb a b || (eqb a b && true)) ≡ false = rw (le-ltb a b (omega arith), ne-eqb a b (λ q. omega arith)) refl in let y : _≡_ {A = ℕ} 0 1 = cc in omega arith))
-        (λ h. le-ltb b a (omega arith))
-
-refused-not-above : (x : Float) → ieee .refused x ≡ true → notAbove x ≡ true
-refused-not-above x e =
-    let t : Ieee.le x zeroFloat ≡ true = rw zero-float-is at e in
-    let u : ieee .above x ≡ false = rw zero-float-is (at-most-not-above x t) in
-    ap not u
-
--- the root of a radicand that is not refused is above 0 where that is
-root-same : (x : Float) → T (fits binary64 x) → Ieee.le x zeroFloat ≡ false → Ieee.lt zeroFloat (sqrtOf x) ≡ Ieee.lt zeroFloat x
-unfolding sqrtOf Ieee.lt
-root-same x f e = go (not-refused x e)
-  where
-    go : T (positive x) ⊎ ((x ≡ inf false) ⊎ (x ≡ nan)) → Ieee.lt zeroFloat (sqrtOf x) ≡ Ieee.lt zeroFloat x
-    go (inl p) = positive-above (sqrtOf x) (sqrt-positive x f p) ∙ sym (positive-above x p)
-    go (inr (inl p)) =
-        let a : Ieee.lt zeroFloat (sqrtOf x) ≡ true = ap (λ (y : Float). Ieee.lt zeroFloat (sqrtOf y)) p in
-        let b : Ieee.lt zeroFloat x ≡ true = ap (Ieee.lt zeroFloat) p in
-        a ∙ sym b
-    go (inr (inr p)) =
-        let a : Ieee.lt zeroFloat (sqrtOf x) ≡ false = ap (λ (y : Float). Ieee.lt zeroFloat (sqrtOf y)) p in
-        let b : Ieee.lt zeroFloat x ≡ false = ap (Ieee.lt zeroFloat) p in
-        a ∙ sym b
-
-bad-same : (x : Float) → T (fits binary64 x) → ieee .refused x ≡ false → notAbove (ieee .root x) ≡ notAbove x
-bad-same x f e =
-    let t : Ieee.le x zeroFloat ≡ false = rw zero-float-is at e in
-    let u : ieee .above (ieee.root x) ≡ ieee .above x = rw zero-float-is (root-same x f t) in
-    ap not u
-
 -- what is not refused by the finish is not refused by C
 not-refused-either : (x : Float) → notAbove x ≡ false → ieee .refused x ≡ false
-not-refused-either x e = go (ieee.refused x) refl
+not-refused-either x e = above-not-refused x (unnegated (ieee.above x) e)
   where
-    go : (b : Bool) → ieee .refused x ≡ b → b ≡ false
-    go false f = refl
-    go true f = absurd (let t : notAbove x ≡ true = refused-not-above x f in let z : _≡_ {A = ℕ} 0 1 = cc in omega arith)
+    unnegated : (b : Bool) → not b ≡ false → b ≡ true
+    unnegated true e = refl
+    unnegated false e = sym e
 
 -- Where the finish accepts, no pivot is 0, of either sign: no division by it is by 0.
-pub pivots-never-null : (b : ℕ → ℕ → Float) (n : ℕ) → ((r : ℕ) → r < n → T (fits binary64 (b r r))) → finishPivots ieee (radicand ieee b) n ≡ none
+pub pivots-never-null : (b : ℕ → ℕ → Float) (n : ℕ) → ((r : ℕ) → r < n → Double (b r r)) → finishPivots ieee (radicand ieee b) n ≡ none
     → (r : ℕ) → r < n → ieee .null (factor ieee b n r r) ≡ false
 pivots-never-null b n doubles e r h =
     ap ieee.null (pivot-root ieee b r n h)
     ∙ never-null (ieee.root (radicand ieee b r))
-    (root-of-accepted (radicand ieee b r) (chain-fits (b r r) _ _ r (doubles r h)) (not-refused-either (radicand ieee b r) (none-bad notAbove (radicand ieee b) n r h e)))
+    (root-of-accepted (radicand ieee b r) (chain-fits (b r r) _ _ r (doubles r h)) (not-refused-either (radicand ieee b r) (none-bad ieee notAbove (radicand ieee b) r n h e)))
 
 -- ---- the pivots that stand
 
-module _ (off n : ℕ) (v v′ : List Float) (room : off + sizeOf (packed n) ≤ length v) (doubles : Doubles off n (packed n) v) where
+module _ (off n : ℕ) (v v′ : List Float) (room : off + sizeOf (packed n) ≤ length v) (doubles : Doubles (triangleAt off n) n v) where
   abbrev b : ℕ → ℕ → Float
   b = block off (packed n) v
 
   abbrev g : ℕ → Float
   g = radicand ieee b
 
-  radicand-fits : (r : ℕ) → r < n → T (fits binary64 (g r))
+  radicand-fits : (r : ℕ) → r < n → Double (g r)
   radicand-fits r h = chain-fits (b r r) _ _ r (doubles r h)
 
   -- the first m rows of the factor stand at off, whatever follows them: their pivots are bad where their radicands are
@@ -191,14 +133,14 @@ module _ (off n : ℕ) (v v′ : List Float) (room : off + sizeOf (packed n) ≤
       ∙ part-in off (l ++ rest) v (omega arith) 0 (sizeOf (packed m)) (omega arith)
       ∙ part-left l rest 0 (sizeOf (packed m)) (omega arith) ∙ take-all (sizeOf (packed m)) l (omega arith) in
       ap answerOf
-      (first-same notAbove (pivotAt off (packed m) v′) g m
+      (first-same notAbove (pivotAt (triangleAt off m) v′) g m
       (λ r q. ap notAbove (ap (λ (x : List Float). cell ieee.zero (packed m) x r r) is ∙ cell-fill ieee.zero (packed m) (factor ieee b m) r r (has-packed m r r q (omega arith)) ∙ pivot-root ieee b r m q)
-      ∙ bad-same (g r) (radicand-fits r (omega arith)) (good r q)))
+      ∙ ap not (root-above-same (g r) (radicand-fits r (omega arith)) (good r q))))
 
   -- C accepts
-  pub accepted : (x : Pivots) → TriangleFactored off n v v′ x → x ≡ Accepted → (p : Pivots) → p ≡ firstNotAbove off n v′ → FixedFactored off n v v′ p
+  pub accepted : (x : Pivots) → TriangleFactored (blockOf off n n) v v′ x → x ≡ Accepted → (p : Pivots) → p ≡ firstNotAbove off n v′ → FixedFactored off n v v′ p
   accepted x done is-x p e =
-      let c : TriangleFactored off n v v′ Accepted = subst (TriangleFactored off n v v′) is-x done in
+      let c : TriangleFactored (blockOf off n n) v v′ Accepted = subst (TriangleFactored (blockOf off n n) v v′) is-x done in
       record {
         answer = e ∙ first-not-above-rows n (omega arith) [] (omega arith) (c.exit ∙ ap (λ (l : List Float). store off l v) (sym (append-nil (fill (packed n) (factor ieee b n)))))
             (λ r h. accepted-at ieee g r n h (accepted-none (pivots ieee g n) c.answer));
@@ -206,9 +148,9 @@ module _ (off n : ℕ) (v v′ : List Float) (room : off + sizeOf (packed n) ≤
       }
 
   -- C refuses row r
-  pub refused : (x : Pivots) (r : ℕ) → TriangleFactored off n v v′ x → x ≡ Refused r → (p q : Pivots) → p ≡ firstNotAbove off r v′ → q ≡ orRow p r → FixedFactored off n v v′ q
+  pub refused : (x : Pivots) (r : ℕ) → TriangleFactored (blockOf off n n) v v′ x → x ≡ Refused r → (p q : Pivots) → p ≡ firstNotAbove off r v′ → q ≡ orRow p r → FixedFactored off n v v′ q
   refused x r done is-x p q e f =
-      let c : TriangleFactored off n v v′ (Refused r) = subst (TriangleFactored off n v v′) is-x done in
+      let c : TriangleFactored (blockOf off n n) v v′ (Refused r) = subst (TriangleFactored (blockOf off n n) v v′) is-x done in
       let is : pivots ieee g n ≡ some r = refused-some (pivots ieee g n) r c.answer in
       let h : r < n = row-below ieee g n r is in
       let none-yet : pivots ieee g r ≡ none = none-before g n r is in
@@ -217,12 +159,12 @@ module _ (off n : ℕ) (v v′ : List Float) (room : off + sizeOf (packed n) ≤
       let now : firstNotAbove off r v′ ≡ answerOf (firstBad ieee notAbove g r) =
       first-not-above-rows r (omega arith) rest (omega (arith, start-below triangle r n h)) c.exit (λ x l. accepted-at ieee g x r l none-yet) in
       record {
-        answer = f ∙ ap (λ (x : Pivots). orRow x r) (e ∙ now) ∙ sym (first-or notAbove g r n h (refused-not-above (g r) (found-bad ieee.refused g n r is)));
+        answer = f ∙ ap (λ (x : Pivots). orRow x r) (e ∙ now) ∙ sym (first-or notAbove g r n h (ap not (refused-not-above (g r) (found-bad ieee.refused g n r is))));
         exit = λ a. absurd (never-accepted (answerOf (firstBad ieee notAbove g r)) r (sym a ∙ f ∙ ap (λ (x : Pivots). orRow x r) (e ∙ now)));
       }
 
   -- a refused row is one of the n, so the rows before it are there
-  pub refused-room : (x : Pivots) (r : ℕ) → TriangleFactored off n v v′ x → x ≡ Refused r → length v′ ≡ length v → off + sizeOf (packed r) ≤ length v′
+  pub refused-room : (x : Pivots) (r : ℕ) → TriangleFactored (blockOf off n n) v v′ x → x ≡ Refused r → length v′ ≡ length v → off + sizeOf (packed r) ≤ length v′
   refused-room x r c e long =
       let h : r < n = row-below ieee g n r (refused-some (pivots ieee g n) r (sym e ∙ c.answer)) in
       omega (arith, start-below triangle r n h)
@@ -233,7 +175,7 @@ pub record Scanning (off n : ℕ) (v : List Float) (r at : ℕ) : Type 0 where
   pub within : r ≤ n
   pub fits : off + start triangle n ≤ length v
   pub place : at ≡ off + (start triangle r + r)
-  pub none : firstBad ieee notAbove (pivotAt off (packed n) v) r ≡ none
+  pub none : firstBad ieee notAbove (pivotAt (triangleAt off n) v) r ≡ none
 
 pub scanning-none : (off n : ℕ) (v : List Float) → off + start triangle n ≤ length v → Scanning off n v 0 off
 unfolding firstBad start
@@ -241,22 +183,22 @@ scanning-none off n v h = record { within = omega arith; fits = h; place = omega
 
 module _ {off n : ℕ} {v : List Float} {r at : ℕ} (s : Scanning off n v r at) where
   pub scanning-all : n ≤ r → Accepted ≡ firstNotAbove off n v
-  scanning-all h = let e : n ≡ r = omega arith in sym (ap answerOf (ap (firstBad ieee notAbove (pivotAt off (packed n) v)) e ∙ s.none))
+  scanning-all h = let e : n ≡ r = omega arith in sym (ap answerOf (ap (firstBad ieee notAbove (pivotAt (triangleAt off n) v)) e ∙ s.none))
 
   module _ (more : r < n) where
     pub scanning-inside : at < length v
     scanning-inside = omega (arith, start-below triangle r n more, s.place, s.fits)
 
-    pub scanning-cell : getD v at nan ≡ pivotAt off (packed n) v r
+    pub scanning-cell : getD v at nan ≡ pivotAt (triangleAt off n) v r
     scanning-cell = read-block (packed n) off v r r at (has-packed n r r more (omega arith)) s.fits s.place
 
     module _ (b : Bool) (test : b ≡ notAbove (getD v at nan)) where
-      is-bad : notAbove (pivotAt off (packed n) v r) ≡ b
+      is-bad : notAbove (pivotAt (triangleAt off n) v r) ≡ b
       is-bad = ap notAbove (sym scanning-cell) ∙ sym test
 
       pub scanning-found : b ≡ true → Refused r ≡ firstNotAbove off n v
       scanning-found e =
-          sym (ap answerOf (first-stays notAbove (pivotAt off (packed n) v) (suc r) n r more (first-here notAbove (pivotAt off (packed n) v) r s.none (is-bad ∙ e))))
+          sym (ap answerOf (first-stays notAbove (pivotAt (triangleAt off n) v) (suc r) n r more (first-here notAbove (pivotAt (triangleAt off n) v) r s.none (is-bad ∙ e))))
 
       pub scanning-more : b ≡ false → Scanning off n v (r + 1) (at + (r + 1 + 1))
       unfolding start firstBad

@@ -25,6 +25,7 @@ use Rattle.rules.proofs.Exact.{dot-ext}
 use Rattle.layout.specs.declared.Layout.{Layout}
 use Rattle.heading_format.specs.Heading.{layoutOf}
 use Rattle.profile.specs.Finish.{flattened, fixedTriangle, fixedFactor, fixedRhs, beta}
+use Rattle.solution_finish.specs.l_x.Factor.{triangleAt}
 use Rattle.solution_finish.specs.beta.Beta.{betaOf, Effects}
 use Rattle.solution_vectors.specs.result_places.Places.{lxAt, resultLengthOf}
 use Rattle.solution_finish.specs.result_laws.Ready.{Ready}
@@ -46,7 +47,7 @@ module _ (h : List ℕ) (w : List Float) (y : Layout) (e : y ≡ layoutOf h) (v 
 
 -- the pivots that stand there
 pub same-pivots : (h : List ℕ) (w : List Float) (y : Layout) → y ≡ layoutOf h → (v : List Float) → part (lxAt y) (start triangle (y .p)) v ≡ flattened (fixedFactor h w)
-    → (r : ℕ) → r < y .p → pivotAt (lxAt y) (packed (y .p)) v r ≡ entryOf ieee (fixedFactor h w) r r
+    → (r : ℕ) → r < y .p → pivotAt (triangleAt (lxAt y) (y .p)) v r ≡ entryOf ieee (fixedFactor h w) r r
 unfolding fixedFactor
 same-pivots h w y e v is r l = same-factor h w y e v is r r l (omega arith) ∙ ap (λ (z : Layout). entryOf ieee (rows ieee (fixedTriangle h w) z.p) r r) e
 

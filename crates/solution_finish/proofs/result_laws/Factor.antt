@@ -6,9 +6,8 @@ use mathlib.Core.List.{List, [], _∷_, _++_}
 use mathlib.Core.Logic.{inl, inr}
 use mathlib.Core.Option.{none}
 use native.Mathlib.Omega.{arith}
-use lib.Dec.{T}
 use lib.ListN.{length}
-use lib.Ieee.{Float, binary64, fits}
+use lib.Ieee.{Float, binary64}
 use lib.Ieee.Fits.{sub-fits}
 use Rattle.storage.specs.Runs.{start, triangle, tab, cells}
 use Rattle.storage.specs.Shape.{packed, sizeOf, fill, cell}
@@ -24,12 +23,14 @@ use Rattle.block_runs.proofs.blocks.Laws.{has-packed}
 use Rattle.layout.specs.declared.Layout.{Layout}
 use Rattle.heading_format.specs.Heading.{layoutOf}
 use Rattle.profile.specs.Finish.{flattened, fixedTriangle, fixedFactor, refusedRow, fixedRhs}
-use Rattle.solution_finish.specs.l_x.Factor.{notAbove}
+use Rattle.solution_finish.specs.l_x.Factor.{triangleAt, notAbove}
 use Rattle.solution_finish.proofs.l_x.Finish.{first-same, pivots-never-null}
+use Rattle.rules.proofs.Doubles.{Double}
 use Rattle.re_factor.proofs.Pivotal.{Doubles}
 use Rattle.solution_vectors.specs.result_places.Places.{lxAt, wAt, resultLengthOf, Solved}
 use Rattle.solution_vectors.proofs.result_places.Parts.{flattened-snoc, solved-behind}
 use Rattle.solution_finish.specs.result_laws.Ready.{Ready}
+use Rattle.layout.specs.Shapes.{lastRows}
 
 -- ---- the factor looks at the triangle's own cells alone
 module _ (b b′ : ℕ → ℕ → Float) where
@@ -82,9 +83,9 @@ module _ (h : List ℕ) (w : List Float) (y : Layout) (e : y ≡ layoutOf h) (v 
         ap (λ (z : List Float). cell ieee.zero (packed y.p) z r x) c ∙ cell-fill ieee.zero (packed y.p) xx r x (has-packed y.p r x l m)
 
     -- every diagonal cell is the result of a difference, so it is a double
-    pub triangle-doubles : Doubles (lxAt y) (y .p) (packed (y .p)) v
+    pub triangle-doubles : Doubles (triangleAt (lxAt y) (y .p)) (y .p) v
     unfolding fixedTriangle
-    triangle-doubles r l = subst (λ (x : Float). T (fits binary64 x)) (sym (same-cells r r l (omega arith))) (sub-fits binary64 _ _)
+    triangle-doubles r l = subst Double (sym (same-cells r r l (omega arith))) (sub-fits binary64 _ _)
 
     -- the refused row
     pub same-row : finishPivots ieee (radicand ieee b) (y .p) ≡ refusedRow h w
@@ -93,7 +94,7 @@ module _ (h : List ℕ) (w : List Float) (y : Layout) (e : y ≡ layoutOf h) (v 
         first-same notAbove (radicand ieee b) (radicand ieee xx) y.p (λ r l. ap notAbove (radicand-ext b xx y.p same-cells r l))
         ∙ ap (λ (z : Layout). finishPivots ieee (radicand ieee xx) z.p) e
 
-    module _ (solved : Solved h w y (y .p + 1) v) (right : part 0 (y .p) v ≡ tab (y .p) (fixedRhs h w)) where
+    module _ (solved : Solved h w y (lastRows y) v) (right : part 0 (y .p) v ≡ tab (y .p) (fixedRhs h w)) where
       -- C has accepted it
       pub is-ready : (v′ : List Float) → v′ ≡ store (lxAt y) (fill (packed (y .p)) (factor ieee b (y .p))) v → Ready h w y v′
       unfolding fixedFactor

@@ -22,6 +22,7 @@ use Rattle.solution_vectors.specs.result_places.Places.{uAt, lxAt, responseAt, 
 use Rattle.solution_vectors.proofs.result_places.Parts.{response-at, column-at, solved-inside}
 use Rattle.solution_finish.specs.u_vector.Offsets.{offsetsLeft}
 use Rattle.solution_finish.proofs.u_vector.Sums.{offset}
+use Rattle.layout.specs.Shapes.{lastRows}
 
 -- double i of a part that lies inside
 read : (off n : ℕ) (v l : List Float) → off + n ≤ length v → part off n v ≡ l → (i k : ℕ) → i < n → k ≡ off + i → doubleAt v k ≡ at ieee l i
@@ -64,7 +65,7 @@ module _ (h : List ℕ) (w : List Float) (y : Layout) where
   u-by e =
       ap (λ (z : Layout). tab z.q (offsetOf ieee (at ieee (wOf h w z.p)) (λ j x. at ieee (wOf h w j) x) (at ieee (beta h w)) z.p)) e
 
-  module _ (v : List Float) (long : length v ≡ resultLengthOf y) (s : Solved h w y (y .p + 1) v) (b : part 0 (y .p) v ≡ beta h w) where
+  module _ (v : List Float) (long : length v ≡ resultLengthOf y) (s : Solved h w y (lastRows y) v) (b : part 0 (y .p) v ≡ beta h w) where
     -- double i of w of row r
     row-at : (r : ℕ) → r ≤ y .p → (i k : ℕ) → i < y .q → k ≡ wAt y r + i → doubleAt v k ≡ at ieee (wOf h w r) i
     row-at r l = read (wAt y r) y.q v (wOf h w r) (omega (arith, solved-inside y r l)) (s r (omega arith))
@@ -79,7 +80,7 @@ module _ (h : List ℕ) (w : List Float) (y : Layout) where
         ∙ sum-along ieee.zero (λ j. at ieee (wOf h w j) i) (at ieee (beta h w)) y.p)
 
 module _ (h : List ℕ) (w : List Float) (y : Layout) (e : y ≡ layoutOf h) where
-  pub u-are : (v v′ : List Float) → length v ≡ resultLengthOf y → Solved h w y (y .p + 1) v → part 0 (y .p) v ≡ beta h w
+  pub u-are : (v v′ : List Float) → length v ≡ resultLengthOf y → Solved h w y (lastRows y) v → part 0 (y .p) v ≡ beta h w
       → v′ ≡ offsetsLeft (uAt y) (responseAt y) (responseAt y + y .q) (y .q) (y .p) v → part (uAt y) (y .q) v′ ≡ uVector h w
   u-are v v′ long s b then =
       made-part y v v′ long then ∙ tab-ext y.q (made y v) (offsetBy h w y) (offset-is h w y v long s b) ∙ u-by h w y e

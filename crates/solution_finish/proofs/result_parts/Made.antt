@@ -22,6 +22,7 @@ use Rattle.profile.specs.Finish.{flattened, fixedFactor, uVector}
 use Rattle.solution_vectors.specs.Vectors.{withVector}
 use Rattle.deviance.specs.deviance_tail.Tail.{logDeterminantOf}
 use Rattle.deviance.proofs.deviance_value.Values.{value-same}
+use Rattle.solution_finish.specs.l_x.Factor.{triangleAt}
 use Rattle.solution_finish.specs.beta.Beta.{Effects}
 use Rattle.solution_finish.specs.u_vector.Offsets.{offsetsLeft}
 use Rattle.solution_finish.specs.b_vector.Effects.{effectBlocks}
@@ -33,13 +34,14 @@ use Rattle.solution_finish.proofs.result_laws.Beta.{same-pivots, beta-l
 use Rattle.solution_finish.proofs.result_laws.Offsets.{u-length, u-else, u-are}
 use Rattle.solution_finish.proofs.result_laws.Effects.{b-length, b-else, b-are}
 use Rattle.solution_finish.specs.result_parts.Finished.{Finished, scalarsWith}
+use Rattle.layout.specs.Shapes.{lastRows}
 
 module _ (h : List ℕ) (w : List Float) (y : Layout) (e : y ≡ layoutOf h) (v : List Float) (ready : Ready h w y v) (v₁ : List Float) (r : Float)
     (b : Effects (lxAt y) (y .p) v v₁ r) where
   long₁ : length v₁ ≡ resultLengthOf y
   long₁ = beta-long h w y e v ready v₁ r b
 
-  solved₁ : Solved h w y (y .p + 1) v₁
+  solved₁ : Solved h w y (lastRows y) v₁
   solved₁ x l = beta-else h w y e v ready v₁ r b (wAt y x) y.q (omega (arith, solved-behind y x (omega arith))) ∙ ready.solved x l
 
   module _ (ok : validLayout y ≡ true) (v₂ v₃ : List Float) (u : v₂ ≡ offsetsLeft (uAt y) (responseAt y) (responseAt y + y .q) (y .q) (y .p) v₁)
@@ -105,12 +107,12 @@ module _ (h : List ℕ) (w : List Float) (reml : Bool) (r2 : Float) where
       pair (devianceOf ieee reml (freedom z reml) s (logDeterminantOf z w) (λ i. entryOf ieee (fixedFactor h w) i i) z.p) s
 
   pub scaled : (y : Layout) → y ≡ layoutOf h → (v : List Float) → part (lxAt y) (start triangle (y .p)) v ≡ flattened (fixedFactor h w) → (d logdet : Float) (f : ℕ)
-      → d ≡ freedom y reml → logdet ≡ logDeterminantOf y w → f ≡ lxAt y → (a : Float) → a ≡ devianceOf ieee reml d (ieee .over r2 d) logdet (pivotAt f (packed (y .p)) v) (y .p)
+      → d ≡ freedom y reml → logdet ≡ logDeterminantOf y w → f ≡ lxAt y → (a : Float) → a ≡ devianceOf ieee reml d (ieee .over r2 d) logdet (pivotAt (triangleAt f (y .p)) v) (y .p)
       → record { deviance = a; sigma2 = ieee .over r2 d } ≡ scalarsWith h w reml r2
   scaled y e v is d logdet f is-d is-l is-f a q =
       ap₂ pair
-      (q ∙ ap (λ (k : ℕ). devianceOf ieee reml d (ieee.over r2 d) logdet (pivotAt k (packed y.p) v) y.p) is-f
-      ∙ value-same reml d (ieee.over r2 d) logdet y.p (pivotAt (lxAt y) (packed y.p) v) (λ i. entryOf ieee (fixedFactor h w) i i) (same-pivots h w y e v is)
+      (q ∙ ap (λ (k : ℕ). devianceOf ieee reml d (ieee.over r2 d) logdet (pivotAt (triangleAt k y.p) v) y.p) is-f
+      ∙ value-same reml d (ieee.over r2 d) logdet y.p (pivotAt (triangleAt (lxAt y) y.p) v) (λ i. entryOf ieee (fixedFactor h w) i i) (same-pivots h w y e v is)
       ∙ ap₂ (λ (x z : Float). devianceOf ieee reml x (ieee.over r2 x) z (λ i. entryOf ieee (fixedFactor h w) i i) y.p) is-d is-l)
       (ap (ieee.over r2) is-d)
       ∙ ap scalarsBy e

@@ -6,6 +6,7 @@ use mathlib.Core.List.{List}
 use lib.Ieee.{Float}
 use Rattle.storage.specs.Shape.{packed, fill}
 use Rattle.storage.specs.Part.{store}
+use Rattle.storage.specs.Placed.{Placed, blockOf, asTriangle}
 use Rattle.rules.specs.Arithmetic.{ieee}
 use Rattle.rules.specs.Cholesky.{factor, radicand, firstBad, finishPivots}
 use Rattle.re_lower.specs.Lower.{answerOf}
@@ -14,13 +15,17 @@ use Rattle.re_lower.specs.declared.Pivots.the-variants.{Accepted, Refused}
 use Rattle.block_runs.specs.blocks.Blocks.{block}
 use Rattle.re_factor.specs.Factor.{pivotAt}
 
+-- the packed triangle of n rows at off
+abbrev pub triangleAt : (off n : ℕ) → Placed
+triangleAt off n = asTriangle (blockOf off n n)
+
 -- not above 0, NaN included
 abbrev pub notAbove : Float → Bool
 notAbove x = not (ieee .above x)
 
 -- the answer for the n pivots of the packed triangle at off, as they stand
 abbrev pub firstNotAbove : (off n : ℕ) → List Float → Pivots
-firstNotAbove off n v = answerOf (firstBad ieee notAbove (pivotAt off (packed n) v) n)
+firstNotAbove off n v = answerOf (firstBad ieee notAbove (pivotAt (triangleAt off n) v) n)
 
 -- a row that was refused before, or else r
 abbrev pub orRow : Pivots → ℕ → Pivots

@@ -8,7 +8,7 @@ use borrow.Author.Tests.{eq-eqb, ne-eqb}
 use Rattle.storage.specs.Runs.{start, triangle}
 use Rattle.storage.proofs.Starts.{start-triangle}
 use Rattle.layout.specs.declared.Layout.{Layout}
-use Rattle.layout.specs.Shapes.{levels}
+use Rattle.layout.specs.Shapes.{levels, lastRows}
 use Rattle.layout.proofs.Sums.{sum-small}
 use Rattle.heading_format.specs.Heading.{validLayout}
 use Rattle.heading_format.proofs.Valid.{is-valid}
@@ -24,7 +24,7 @@ module _ (y : Layout) (ok : validLayout y ≡ true) where
   pub few-cells : start triangle (y .p) ≤ 528
   few-cells =
       let h = few-effects in
-      let g : y .p + 1 ≤ 33 = omega arith in
+      let g : lastRows y ≤ 33 = omega arith in
       omega (arith, start-triangle y.p, mul-le-mul h g)
 
   pub few-products : (r : ℕ) → r ≤ y .p → r * y .q ≤ 16776960

@@ -17,6 +17,7 @@ use Rattle.layout.specs.declared.Layout.{Layout}
 use Rattle.heading_format.specs.Heading.{layoutOf}
 use Rattle.profile.specs.Finish.{flattened, resultLength, beta, bVector, uVector, fixedFactor, wOf, resultList}
 use Rattle.solution_vectors.specs.result_places.Places.{bAt, uAt, lxAt, responseAt, wAt, resultLengthOf, Solved}
+use Rattle.layout.specs.Shapes.{lastRows}
 
 module _ (y : Layout) where
   -- document 01's formula
@@ -80,7 +81,7 @@ columns-are f a q (suc n) v h =
 module _ (h : List ℕ) (w : List Float) (y : Layout) (e : y ≡ layoutOf h) (v : List Float) (long : length v ≡ resultLengthOf y) where
   -- a list with every part in its place is the result list
   pub whole : part 0 (y .p) v ≡ beta h w → part (bAt y) (y .q) v ≡ bVector h w → part (uAt y) (y .q) v ≡ uVector h w
-      → part (lxAt y) (start triangle (y .p)) v ≡ flattened (fixedFactor h w) → Solved h w y (y .p + 1) v → v ≡ resultList h w
+      → part (lxAt y) (start triangle (y .p)) v ≡ flattened (fixedFactor h w) → Solved h w y (lastRows y) v → v ≡ resultList h w
   unfolding resultList
   whole b₁ b₂ b₃ b₄ s =
       let six : part (responseAt y + y .q) (y.p * y .q) v ≡ flattened (tab y.p (wOf h w)) =

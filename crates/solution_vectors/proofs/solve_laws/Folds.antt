@@ -11,19 +11,13 @@ use lib.Ieee.{Float}
 use Rattle.rules.specs.Arithmetic.{ieee}
 use Rattle.rules.specs.Cholesky.{at}
 use Rattle.layout.specs.declared.Layout.{Layout}
-use Rattle.layout.specs.Shapes.{pick, levels}
+use Rattle.layout.specs.Shapes.{pick}
 use Rattle.heading_format.specs.Heading.{validLayout, layoutOf}
 use Rattle.workspace.specs.Memory.{workingBlock}
-use Rattle.profile.specs.Solves.{blockIn, factorShapeOf, forwardIn, backwardIn, subtractForward, subtractFirst, subtractBackward, subtractLater}
-use Rattle.solution_vectors.specs.Vectors.{blockAt, blocksAt, withBlockAt, subtractedForward, subtractedBackward, solvedForwardIn, solvedBackwardIn}
+use Rattle.profile.specs.Solves.{blockIn, subtractForward, subtractFirst, subtractBackward, subtractLater}
+use Rattle.solution_vectors.specs.Vectors.{blockAt, blocksAt, subtractedForward, subtractedBackward, solvedForwardIn, solvedBackwardIn, turnedForward, turnedBackward}
 use Rattle.solution_vectors.proofs.Vectors.{block-in}
-use Rattle.solution_vectors.proofs.solve_laws.Within.{
-  factor-at,
-  length-forward-in,
-  length-backward-in,
-  forward-in-ext,
-  backward-in-ext,
-}
+use Rattle.solution_vectors.proofs.solve_laws.Within.{factor-at, forward-inside, backward-inside}
 use Rattle.solution_vectors.proofs.solve_laws.Turns.{Turning, turning-none, turning-other, turning-more, turning-solve}
 
 -- either of two rules that make a row of that row alone
@@ -106,24 +100,14 @@ module _ (h : List ℕ) (w : List Float) where
           }
 
       -- the solve inside ends it
-      pub forward-end : y ≡ layoutOf h → Forward y from i v₀ v j → i ≤ j → {v′ : List Float} → v′ ≡ solvedForwardIn h w y from i v
-          → v′ ≡ withBlockAt y from i (forwardIn (factorShapeOf h w i) (workingBlock h w i i) (firstTurns y from i v₀ i)) v₀
+      pub forward-end : y ≡ layoutOf h → Forward y from i v₀ v j → i ≤ j → {v′ : List Float} → v′ ≡ solvedForwardIn h w y from i v → v′ ≡ turnedForward h w y from i v₀
       forward-end q e l then =
           let within = e.within in
           let all : j ≡ i = omega arith in
-          let is = factor-at h w y q i e.turns.here in
-          let s = factorShapeOf h w i in
-          let f = workingBlock h w i i in
-          turning-solve e.turns (forwardIn s f) (length-forward-in s (levels y i) is f) (forward-in-ext s (levels y i) is f) then
-          ∙ ap (λ (x : ℕ). withBlockAt y from i (forwardIn s f (firstTurns y from i v₀ x)) v₀) all
+          turning-solve (rw all at e.turns) (forward-inside _ _ (factor-at h w y q i e.turns.here) (workingBlock h w i i)) then
 
-      pub backward-end : y ≡ layoutOf h → Backward y from i v₀ v j → y .k ≤ j → {v′ : List Float} → v′ ≡ solvedBackwardIn h w y from i v
-          → v′ ≡ withBlockAt y from i (backwardIn (factorShapeOf h w i) (workingBlock h w i i) (laterTurns y from i v₀ (y .k - suc i))) v₀
+      pub backward-end : y ≡ layoutOf h → Backward y from i v₀ v j → y .k ≤ j → {v′ : List Float} → v′ ≡ solvedBackwardIn h w y from i v → v′ ≡ turnedBackward h w y from i v₀
       backward-end q e l then =
           let within = e.within in
           let all : j ≡ y .k = omega arith in
-          let is = factor-at h w y q i e.turns.here in
-          let s = factorShapeOf h w i in
-          let f = workingBlock h w i i in
-          turning-solve e.turns (backwardIn s f) (length-backward-in s (levels y i) is f) (backward-in-ext s (levels y i) is f) then
-          ∙ ap (λ (x : ℕ). withBlockAt y from i (backwardIn s f (laterTurns y from i v₀ (x - suc i))) v₀) all
+          turning-solve (rw all at e.turns) (backward-inside _ _ (factor-at h w y q i e.turns.here) (workingBlock h w i i)) then

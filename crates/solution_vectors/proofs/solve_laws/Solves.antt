@@ -25,9 +25,9 @@ use Rattle.profile.specs.Solves.{
   backwardSolved,
   solvedFor,
 }
-use Rattle.solution_vectors.specs.Vectors.{blockAt, blocksAt, withVector, withBlockAt, Sized}
+use Rattle.solution_vectors.specs.Vectors.{blocksAt, withVector, forwardMade, backwardMade, turnedForward, turnedBackward, Sized}
 use Rattle.solution_vectors.proofs.Vectors.{sized-set, sized-blocks, read-vector}
-use Rattle.solution_vectors.proofs.solve_laws.Within.{factor-at, length-forward-in, length-backward-in}
+use Rattle.solution_vectors.proofs.solve_laws.Within.{factor-at, forward-inside, backward-inside}
 use Rattle.solution_vectors.proofs.solve_laws.Folds.{first-ext}
 use Rattle.solution_vectors.proofs.solve_laws.InTurn.{InTurn, turn-none, turn-more, vector-over}
 
@@ -35,9 +35,6 @@ module _ (h : List ℕ) (w : List Float) where
   -- forward, the first n blocks are solved
   abbrev pub forwardTo : List (List Float) → ℕ → List (List Float)
   forwardTo l n = forwardSolved h w l n ++ drop n l
-
-  abbrev pub forwardMade : ℕ → List (List Float) → List Float → List Float
-  forwardMade i z b = forwardIn (factorShapeOf h w i) (workingBlock h w i i) (subtractFirst h w i z (at ieee b) i)
 
   length-solved : (l : List (List Float)) (n : ℕ) → length (forwardSolved h w l n) ≡ n
   unfolding forwardSolved
@@ -52,28 +49,25 @@ module _ (h : List ℕ) (w : List Float) where
   forward-all l n e = ap (λ (x : List (List Float)). forwardSolved h w l n ++ x) (drop-of-length-le l {i = n} (omega arith)) ∙ append-nil (forwardSolved h w l n)
 
   -- the next one sets its own
-  forward-set : (l : List (List Float)) (n : ℕ) → n < length l → forwardTo l (suc n) ≡ set (forwardTo l n) n (forwardMade n (forwardTo l n) (blockIn (forwardTo l n) n))
+  forward-set : (l : List (List Float)) (n : ℕ) → n < length l → forwardTo l (suc n) ≡ set (forwardTo l n) n (forwardMade h w n (forwardTo l n) (blockIn (forwardTo l n) n))
   unfolding forwardSolved
   forward-set l n lt =
       let z : List (List Float) = forwardSolved h w l n in
       let many : length z ≡ n = length-solved l n in
       let split : forwardTo l n ≡ z ++ blockIn l n ∷ drop (suc n) l = ap (λ (x : List (List Float)). z ++ x) (drop-cons l n [] lt) in
       let own : blockIn (forwardTo l n) n ≡ blockIn l n = ap (λ (x : List (List Float)). blockIn x n) split ∙ getD-at z (blockIn l n) (drop (suc n) l) [] n many in
-      let made : forwardMade n (forwardTo l n) (blockIn (forwardTo l n) n) ≡ forwardMade n z (blockIn l n) =
+      let made : forwardMade h w n (forwardTo l n) (blockIn (forwardTo l n) n) ≡ forwardMade h w n z (blockIn l n) =
       ap (forwardIn (factorShapeOf h w n) (workingBlock h w n n))
       (ap (λ (b : List Float). subtractFirst h w n (forwardTo l n) (at ieee b) n) own
       ∙ first-ext h w n (forwardTo l n) z (at ieee (blockIn l n)) n (λ j m. List·getD-append z (drop n l) [] j (omega arith))) in
       sym
       (ap₂ (λ (x : List (List Float)) (b : List Float). set x n b) split made
-      ∙ set-at z (blockIn l n) (drop (suc n) l) (forwardMade n z (blockIn l n)) n many
-      ∙ sym (append-snoc z (forwardMade n z (blockIn l n)) (drop (suc n) l)))
+      ∙ set-at z (blockIn l n) (drop (suc n) l) (forwardMade h w n z (blockIn l n)) n many
+      ∙ sym (append-snoc z (forwardMade h w n z (blockIn l n)) (drop (suc n) l)))
 
   -- backward, the last n blocks are solved
   abbrev pub backwardTo : (k : ℕ) → List (List Float) → ℕ → List (List Float)
   backwardTo k l n = take (k - n) l ++ backwardSolved h w l n
-
-  abbrev pub backwardMade : ℕ → ℕ → List (List Float) → List Float → List Float
-  backwardMade i n z b = backwardIn (factorShapeOf h w i) (workingBlock h w i i) (subtractLater h w i (drop (suc i) z) (at ieee b) n)
 
   backward-none : (k : ℕ) (l : List (List Float)) → length l ≡ k → backwardTo k l 0 ≡ l
   unfolding backwardSolved
@@ -85,7 +79,7 @@ module _ (h : List ℕ) (w : List Float) where
   module _ (y : Layout) (is : y ≡ layoutOf h) where
     -- the next one sets its own
     backward-set : (l : List (List Float)) → length l ≡ y .k → (i n : ℕ) → i + suc n ≡ y .k
-        → backwardTo (y .k) l (suc n) ≡ set (backwardTo (y .k) l n) i (backwardMade i n (backwardTo (y .k) l n) (blockIn (backwardTo (y .k) l n) i))
+        → backwardTo (y .k) l (suc n) ≡ set (backwardTo (y .k) l n) i (backwardMade h w i n (backwardTo (y .k) l n) (blockIn (backwardTo (y .k) l n) i))
     unfolding backwardSolved
     backward-set l e i n k =
         let rest : List (List Float) = backwardSolved h w l n in
@@ -97,7 +91,7 @@ module _ (h : List ℕ) (w : List Float) where
         let split : backwardTo y.k l n ≡ take i l ++ blockIn l i ∷ rest =
         to ∙ ap (λ (x : List (List Float)). x ++ rest) (take-suc l i [] (omega arith)) ∙ append-snoc (take i l) (blockIn l i) rest in
         let own : blockIn (backwardTo y.k l n) i ≡ blockIn l i = ap (λ (x : List (List Float)). blockIn x i) split ∙ getD-at (take i l) (blockIn l i) rest [] i before in
-        let made : backwardMade i n (backwardTo y.k l n) (blockIn (backwardTo y.k l n) i)
+        let made : backwardMade h w i n (backwardTo y.k l n) (blockIn (backwardTo y.k l n) i)
         ≡ backwardIn (factorShapeOf h w i) (workingBlock h w i i) (subtractLater h w i rest (at ieee (blockIn l i)) n) =
         ap₂ (λ (z : List (List Float)) (b : List Float). backwardIn (factorShapeOf h w i) (workingBlock h w i i) (subtractLater h w i z (at ieee b) n))
         (ap (drop (suc i)) to ∙ drop-at (take (suc i) l) rest (suc i) (length-take-le (suc i) l (omega arith))) own in
@@ -106,11 +100,11 @@ module _ (h : List ℕ) (w : List Float) where
 
     -- ---- what a turn makes of a block has its size
     module _ (i : ℕ) (m : i < y .k) (z : List (List Float)) (b : List Float) where
-      forward-size : length (forwardMade i z b) ≡ levels y i
-      forward-size = length-forward-in (factorShapeOf h w i) (levels y i) (factor-at h w y is i m) _ _
+      forward-size : length (forwardMade h w i z b) ≡ levels y i
+      forward-size = forward-inside _ _ (factor-at h w y is i m) (workingBlock h w i i) .long _
 
-      backward-size : (n : ℕ) → length (backwardMade i n z b) ≡ levels y i
-      backward-size n = length-backward-in (factorShapeOf h w i) (levels y i) (factor-at h w y is i m) _ _
+      backward-size : (n : ℕ) → length (backwardMade h w i n z b) ≡ levels y i
+      backward-size n = backward-inside _ _ (factor-at h w y is i m) (workingBlock h w i i) .long _
 
     module _ (ok : validLayout y ≡ true) (l : List (List Float)) (e : Sized y l) where
       sized-forward-to : (n : ℕ) → n ≤ y .k → Sized y (forwardTo l n)
@@ -164,8 +158,7 @@ module _ (h : List ℕ) (w : List Float) where
         record { within = omega arith; turn = rw (e, backward-none y.k (blocksAt y from v₀) (sized-blocks y ok from v₀ fits .count)) (turn-none ok fits) }
 
     module _ (is : y ≡ layoutOf h) {v : List Float} where
-      pub forward-turn : {i : ℕ} → ForwardTurns y from v₀ v i → i < y .k → {v′ : List Float}
-          → v′ ≡ withBlockAt y from i (forwardMade i (blocksAt y from v) (blockAt y from v i)) v → ForwardTurns y from v₀ v′ (i + 1)
+      pub forward-turn : {i : ℕ} → ForwardTurns y from v₀ v i → i < y .k → {v′ : List Float} → v′ ≡ turnedForward h w y from i v → ForwardTurns y from v₀ v′ (i + 1)
       forward-turn {i} e m then =
           let t = e.turn in
           let l : List (List Float) = blocksAt y from v₀ in
@@ -173,11 +166,10 @@ module _ (h : List ℕ) (w : List Float) where
           let z : List (List Float) = forwardTo l i in
           record {
             within = omega arith;
-            turn = turn-more t i m (forwardMade i) (forward-size y is i m z (blockIn z i)) (ap (forwardTo l) (add-one i) ∙ forward-set l i (omega arith)) then;
+            turn = turn-more t i m (forwardMade h w i) (forward-size y is i m z (blockIn z i)) (ap (forwardTo l) (add-one i) ∙ forward-set l i (omega arith)) then;
           }
 
-      pub backward-turn : {i j : ℕ} → BackwardTurns y from v₀ v j → j ≡ suc i → {v′ : List Float}
-          → v′ ≡ withBlockAt y from i (backwardMade i (y .k - suc i) (blocksAt y from v) (blockAt y from v i)) v → BackwardTurns y from v₀ v′ i
+      pub backward-turn : {i j : ℕ} → BackwardTurns y from v₀ v j → j ≡ suc i → {v′ : List Float} → v′ ≡ turnedBackward h w y from i v → BackwardTurns y from v₀ v′ i
       backward-turn {i} {j} e q then =
           let t = subst (λ (x : ℕ). InTurn y from v₀ (backwardTo y.k (blocksAt y from v₀) (y.k - x)) v) q e.turn in
           let m : i < y .k = omega (arith, e.within) in
@@ -188,7 +180,7 @@ module _ (h : List ℕ) (w : List Float) where
           record {
             within = omega arith;
             turn =
-                turn-more t i m (backwardMade i n) (backward-size y is i m z (blockIn z i) n)
+                turn-more t i m (backwardMade h w i n) (backward-size y is i m z (blockIn z i) n)
                 (ap (backwardTo y.k l) next ∙ backward-set y is l (sized-blocks y t.validLayout from v₀ t.fits .count) i n (omega arith)) then;
           }
 

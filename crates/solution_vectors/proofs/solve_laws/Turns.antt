@@ -19,6 +19,7 @@ use Rattle.workspace.specs.Loaded.{rowStart}
 use Rattle.block_places.proofs.sheet_rows.AllRows.{rows-within}
 use Rattle.solution_vectors.specs.Vectors.{blockAt, withBlockAt}
 use Rattle.solution_vectors.proofs.Vectors.{block-length, length-block, block-same, block-other}
+use Rattle.solution_vectors.proofs.solve_laws.Within.{Inside}
 
 -- block i has the values g, and all else is as in v₀
 pub record Turning (y : Layout) (from i : ℕ) (v₀ : List Float) (g : ℕ → Float) (v : List Float) : Type 0 where
@@ -81,9 +82,8 @@ module _ {y : Layout} {from i : ℕ} {v₀ : List Float} {g : ℕ → Float} {v 
         same = same;
       }
 
-  -- a solve that looks at the block's rows alone
-  pub turning-solve : (solve : (ℕ → Float) → List Float) → ((f : ℕ → Float) → length (solve f) ≡ levels y i)
-      → ((f f′ : ℕ → Float) → ((r : ℕ) → r < levels y i → f r ≡ f′ r) → solve f ≡ solve f′)
+  -- a solve of the block's rows alone
+  pub turning-solve : {solve : (ℕ → Float) → List Float} → Inside (levels y i) solve
       → {v′ : List Float} → v′ ≡ withBlockAt y from i (solve (at ieee (blockAt y from v i))) v → v′ ≡ withBlockAt y from i (solve g) v₀
-  turning-solve solve long local then =
-      then ∙ ap (λ (b : List Float). withBlockAt y from i b v) (local _ _ cell-is) ∙ over (solve g) (long g)
+  turning-solve {solve} inside then =
+      then ∙ ap (λ (b : List Float). withBlockAt y from i b v) (inside .local _ _ cell-is) ∙ over (solve g) (inside.long g)

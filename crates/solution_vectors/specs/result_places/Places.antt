@@ -13,6 +13,7 @@ use Rattle.rules.specs.Sums.{dot}
 use Rattle.rules.specs.Cholesky.{at}
 use Rattle.layout.specs.declared.Layout.{Layout}
 use Rattle.profile.specs.Finish.{vOf, wOf, crossProduct, fixedTriangle, fixedRhs}
+use Rattle.layout.specs.Shapes.{lastRows, responseRow}
 
 abbrev pub bAt : Layout → ℕ
 bAt y = y .p
@@ -27,9 +28,9 @@ lxAt y = y .p + y .q + y .q
 abbrev pub responseAt : Layout → ℕ
 responseAt y = lxAt y + start triangle (y .p)
 
--- w of row r of the fixed rows, the response's being row p
+-- w of row r of the fixed rows, the response's first
 abbrev pub wAt : Layout → ℕ → ℕ
-wAt y r = cond (eqb r (y .p)) (responseAt y) (responseAt y + y .q + r * y .q)
+wAt y r = cond (eqb r (responseRow y)) (responseAt y) (responseAt y + y .q + r * y .q)
 
 -- how many doubles there are in all
 abbrev pub resultLengthOf : Layout → ℕ
@@ -42,7 +43,7 @@ module _ (h : List ℕ) (w : List Float) (y : Layout) where
 
   -- X'X - V'W in the place of L_X, the right side in the place of beta, and y'y less v of y times w of y
   pub record Products (v : List Float) (r : Float) : Type 0 where
-    pub solved : Solved (y .p + 1) v
+    pub solved : Solved (lastRows y) v
     pub triangle : part (lxAt y) (start triangle (y .p)) v ≡ fill (packed (y .p)) (fixedTriangle h w)
     pub right : part 0 (y .p) v ≡ tab (y .p) (fixedRhs h w)
-    pub rest : r ≡ ieee .minus (crossProduct h w (y .p) (y .p)) (dot ieee (at ieee (vOf h w (y .p))) (at ieee (wOf h w (y .p))) (y .q))
+    pub rest : r ≡ ieee .minus (crossProduct h w (responseRow y) (responseRow y)) (dot ieee (at ieee (vOf h w (responseRow y))) (at ieee (wOf h w (responseRow y))) (y .q))

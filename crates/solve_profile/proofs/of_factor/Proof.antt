@@ -6,7 +6,7 @@ use Rattle.solve_profile.proofs.of_factor.Tie as tie
 
 solve-profile-finish-requires : tie.Need-solve-profile-finish-requires
 solve-profile-finish-requires c κs =
-    let s = c.before.before.before.before.before.before.before.before in ((s.pre.0, s.pre.1, omega (arith, s.pre.2)), c.before.before.before.solve-all.ensures)
+    let s = c.before.before.before.before.before.before.before.before in ((s.pre.0, omega (arith, s.pre.1)), c.before.before.before.solve-all.ensures)
 
 returns : tie.Need-returns
 returns c = c.before.before.solve-profile-finish.ensures

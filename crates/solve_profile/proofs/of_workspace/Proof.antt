@@ -1,7 +1,7 @@
 -- `solve_profile::of_workspace`: 25, 13, or the solution.
 use mathlib.Core.Path.{ap, _∙_}
 use Rattle.heading_format.specs.declared.Progress.{Progress}
-use Rattle.heading_format.proofs.Fits.{fits}
+use Rattle.heading_format.proofs.Fits.{fits, read-fits}
 use Rattle.profile.specs.Deviance.{isFinished}
 use Rattle.solve_profile.proofs.Call.{is-valid-layout, finishes, other-length, not-finished}
 use borrow.Author.Needs.{needs}
@@ -19,7 +19,7 @@ result-length-requires c κs = let s = c.before.before.before.before.before.befo
 
 of-factor-requires : tie.Need-of-factor-requires
 of-factor-requires c κs =
-    let s = c.before.before.before.before.before.before.before.before.before.before in (c.before.before.before.before.before.before.layout.ensures, fits s.args.heading.now _ s.pre, c.before.if2.taken ∙ c.before.before.result-length.ensures)
+    let s = c.before.before.before.before.before.before.before.before.before.before in (read-fits c.before.before.before.before.before.before.layout.ensures (fits s.args.heading.now _ s.pre), c.before.if2.taken ∙ c.before.before.result-length.ensures)
 
 returns : tie.Need-returns
 returns c = let s = c.before.before.before.before.before.before.before.before.before.before.before.before.before in

@@ -2,6 +2,8 @@
 use native.Mathlib.Omega.{arith}
 use Rattle.update.specs.Names.{stepOfName}
 use Rattle.step.proofs.step_result.Laws.{few, ready-left}
+use Rattle.heading_format.proofs.Fits.{read-fits}
+use Rattle.heading_format.proofs.Fits.{read-fits}
 use Rattle.step.proofs.Moves.{handed-small}
 use Rattle.step.proofs.Turns.{read-named, read-left}
 use borrow.Author.Needs.{needs}
@@ -11,14 +13,14 @@ use Rattle.step.proofs.apply_ready.Tie as tie
 apply-requires : tie.Need-apply-requires
 apply-requires c κs = let s = c.before.before.before.before.before.before.before.before in let a = s.args in
     let y = c.before.before.before.before.layout in let g = c.before.before.progress in
-    (y.ensures, g.ensures, s.pre.0, read-named a.heading.now (stepOfName a.name) _ y.ensures s.pre.1, read-left a.heading.now _ g.ensures s.pre.2)
+    (read-fits y.ensures s.pre.0, g.ensures, read-named a.heading.now (stepOfName a.name) _ y.ensures s.pre.1, read-left a.heading.now _ g.ensures s.pre.2)
 
 write-progress-requires : tie.Need-write-progress-requires
 write-progress-requires c κs =
     let s = c.before.before.before.before.before.before.before.before.before.before.before.before in let a = s.args in
     let y = c.before.before.before.before.before.before.before.before.layout in
     let g = c.before.before.before.before.before.before.progress in
-    (s.pre.0.long, handed-small a.heading.now y.result g.result (stepOfName a.name) (λ i. omega (arith, c.before.before.before.before.before.before.before.before.before.before.before.slice-known.given i)) g.ensures (few a.heading.now a.doubles.now y.result g.result y.ensures s.pre.0) (read-named a.heading.now (stepOfName a.name) _ y.ensures s.pre.1) a.doubles.now _ _ c.before.before.before.apply.ensures)
+    (s.pre.0.long, handed-small a.heading.now y.result g.result (stepOfName a.name) (λ i. omega (arith, c.before.before.before.before.before.before.before.before.before.before.before.slice-known.given i)) g.ensures (few a.heading.now a.doubles.now y.result g.result (read-fits y.ensures s.pre.0)) (read-named a.heading.now (stepOfName a.name) _ y.ensures s.pre.1) a.doubles.now _ _ c.before.before.before.apply.ensures)
 
 returns : tie.Need-returns
 returns c =

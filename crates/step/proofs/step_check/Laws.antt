@@ -1,4 +1,4 @@
--- Where a target's stage stands among the 45, and the tests of a step by its name.
+-- Where a target's stage stands, and the tests of a step by its name.
 use Prim.Native.Nat.{ℕ, zero, suc, _+_, _*_, _/_, _≤_, _<_}
 use mathlib.Core.Path.{_≡_, refl, sym, ap, subst, _∙_}
 use mathlib.Core.Bool.{Bool, true, false, _&&_}
@@ -13,13 +13,14 @@ use Rattle.step_order.specs.Progress.{all, done}
 use Rattle.update.specs.declared.StepName.{StepName}
 use Rattle.update.specs.declared.StepName.the-variants.{S as Subtract, C as Factor, T as Solve}
 use Rattle.update.specs.Names.{stepOfName}
+use Rattle.heading_format.specs.Parts.{mostTargets}
 
 -- ---- the place of a target
 
 pub row-product : (i : ℕ) → i ≤ 8 → i * (i + 1) ≤ 72
 row-product i h = let g : i + 1 ≤ 9 = omega arith in omega (arith, mul-le-mul h g)
 
-pub place-at : (i j : ℕ) → j ≤ i → i ≤ 8 → (i * (i + 1) / 2 + j ≡ start triangle i + j) × (i * (i + 1) / 2 + j < 45)
+pub place-at : (i j : ℕ) → j ≤ i → i ≤ 8 → (i * (i + 1) / 2 + j ≡ start triangle i + j) × (i * (i + 1) / 2 + j < mostTargets)
 place-at i j g h = (omega (arith, start-triangle i), omega (arith, row-product i h))
 
 -- ---- the tests

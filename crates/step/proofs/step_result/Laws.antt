@@ -21,12 +21,12 @@ use Rattle.step_order.specs.Steps.{Step, S, C, T, row, col, index, IsStep}
 use Rattle.rules.specs.Arithmetic.{ieee}
 use Rattle.layout.specs.declared.Layout.{Layout}
 use Rattle.heading_format.specs.declared.Progress.{Progress}
-use Rattle.layout.specs.Shapes.{shape, sizes, thetaAt, workingAt, sumAt, doublesNeeded}
+use Rattle.layout.specs.Shapes.{shape, sizes, thetaAt, workingAt, sumAt, doublesNeeded, workingEnd}
 use Rattle.heading_format.specs.Heading.{layoutOf, progressOf, entryRow, validLayout, idle}
 use Rattle.heading_format.specs.Marked.{marked}
 use Rattle.heading_format.proofs.Valid.{is-valid}
 use Rattle.layout.proofs.Places.{size-working, working-behind, working-inside}
-use Rattle.workspace.specs.Memory.{workingBlock, headingWith, zeros, cleared}
+use Rattle.workspace.specs.Memory.{workingBlock, headingWith, workingZeros, cleared}
 use Rattle.workspace.specs.Answers.{Outcome, workspace}
 use Rattle.re_lower.specs.declared.Pivots.{Pivots}
 use Rattle.re_lower.specs.declared.Pivots.the-variants.{Accepted as Factored, Refused as NotFactored}
@@ -35,10 +35,9 @@ use Rattle.update.specs.declared.StepName.{StepName}
 use Rattle.update.specs.Names.{stepOfName}
 use Rattle.update.specs.Working.{subtracted}
 use Rattle.update.specs.Calls.{advanced, madeBy, sumBy, refusedBy, stepped, onPivot}
-use Rattle.block_places.proofs.block_sizes.Sizes.{doubles-small}
 use Rattle.heading_format.specs.Fits.{Fits}
 use Rattle.step_blocks.specs.factor_logs.Factors.{OwnBlock, Factors}
-use Rattle.step_blocks.proofs.factor_logs.Forms.{kept}
+use Rattle.step_blocks.proofs.factor_logs.Sums.{kept}
 use Rattle.step.specs.declared.step_result.StepResult.{StepResult}
 use Rattle.step.specs.step_result.Applied.{movedBy, doublesBy, Applied}
 use Rattle.update.proofs.Lengths.{length-solved}
@@ -63,35 +62,26 @@ unfolding tab
 same-cells zero z = refl
 same-cells (suc n) z = ap (λ (l : List Float). l ++ (z ∷ [])) (same-cells n z) ∙ replicate-more n z
 
-module _ (y : Layout) (ok : validLayout y ≡ true) (w : List Float) (room : doublesNeeded y ≤ length w) {from sum : ℕ} (is-from : from ≡ thetaAt y) (is-sum : sum ≡ sumAt y) where
-  pub sum-small : sum + 1 < 2199023255552
-  sum-small = rw is-sum (doubles-small y ok)
-
-  pub theta-before : from ≤ sum
+module _ (y : Layout) (ok : validLayout y ≡ true) (w : List Float) (room : doublesNeeded y ≤ length w) {from end : ℕ} (is-from : from ≡ thetaAt y) (is-end : end ≡ workingEnd y) where
+  pub theta-before : from ≤ end
   unfolding sumAt
-  theta-before = rw (is-from, is-sum) (omega arith)
+  theta-before = rw (is-from, is-end) (omega arith)
 
-  pub working-fit : sum + 1 ≤ length w
-  working-fit = rw is-sum room
+  pub working-fit : end ≤ length w
+  working-fit = rw is-end room
 
-  pub all-cleared : {w′ : List Float} → w′ ≡ store from (tab (sum + 1 - from) (λ x. ieee .zero)) w → w′ ≡ cleared y w
-  unfolding cleared zeros
+  pub all-cleared : {w′ : List Float} → w′ ≡ store from (tab (end - from) (λ x. ieee .zero)) w → w′ ≡ cleared y w
+  unfolding cleared workingZeros
   all-cleared e =
-      e ∙ ap (λ (l : List Float). store from l w) (same-cells (sum + 1 - from) ieee.zero)
-      ∙ ap₂ (λ (a b : ℕ). store a (replicate (b - a) ieee.zero) w) is-from (ap (λ (x : ℕ). x + 1) is-sum ∙ add-one (sumAt y))
+      e ∙ ap (λ (l : List Float). store from l w) (same-cells (end - from) ieee.zero)
+      ∙ ap₂ (λ (a b : ℕ). store a (replicate (b - a) ieee.zero) w) is-from is-end
 
 abbrev both : Answer → Progress → StepResult
 both a p = record { answer = a; progress = p }
 
-module _ (h : List ℕ) (w : List Float) (y : Layout) (g : Progress) (is : y ≡ layoutOf h) (fit : Fits h (length w)) where
-  pub valid-now : validLayout y ≡ true
-  valid-now = rw is fit.layout
-
-  pub room : doublesNeeded y ≤ length w
-  room = rw is fit.room
-
+module _ (h : List ℕ) (w : List Float) (y : Layout) (g : Progress) (fit : Fits y h (length w)) where
   pub few : y .k ≤ 8
-  few = is-valid y valid-now .blocks .1
+  few = is-valid y fit.valid .blocks .1
 
   -- ---- one step more
 
@@ -107,18 +97,18 @@ module _ (h : List ℕ) (w : List Float) (y : Layout) (g : Progress) (is : y ≡
     own-length : length (workingBlock h w i j) ≡ sizeOf (shape (layoutOf h) (entryRow h) i j)
     own-length =
         length-part (workingAt (layoutOf h) i j) (sizeOf (shape (layoutOf h) (entryRow h) i j)) w
-        (rw (← is) (omega (arith, size-working y (entryRow h) i j, own-inside, room)))
+        (rw (← fit.same) (omega (arith, size-working y (entryRow h) i j, own-inside, fit.room)))
 
     module _ (made : List Float) (long : length made ≡ sizeOf (shape (layoutOf h) (entryRow h) i j)) where
       fits-own : length made ≡ sizes y i j
-      fits-own = long ∙ rw (← is) (size-working y (entryRow h) i j)
+      fits-own = long ∙ rw (← fit.same) (size-working y (entryRow h) i j)
 
       sum-unchanged : store (sumAt y) (getD w (sumAt y) (ieee .zero) ∷ []) (store (workingAt y i j) made w) ≡ store (workingAt y i j) made w
       sum-unchanged =
-          let fits : workingAt y i j + length made ≤ length w = omega (arith, fits-own, own-inside, room) in
+          let fits : workingAt y i j + length made ≤ length w = omega (arith, fits-own, own-inside, fit.room) in
           ap (λ (x : Float). store (sumAt y) (x ∷ []) (store (workingAt y i j) made w))
           (sym (store-behind (workingAt y i j) made w fits ieee.zero (sumAt y) (omega (arith, fits-own, own-inside))))
-          ∙ kept (store (workingAt y i j) made w) (sumAt y) (omega (arith, length-store (workingAt y i j) made w fits, room))
+          ∙ kept (store (workingAt y i j) made w) (sumAt y) (omega (arith, length-store (workingAt y i j) made w fits, fit.room))
 
   subtract-long : (i j x : ℕ) → length (madeBy h w (S i j x)) ≡ sizeOf (shape (layoutOf h) (entryRow h) i j)
   unfolding madeBy subtracted
@@ -136,7 +126,7 @@ module _ (h : List ℕ) (w : List Float) (y : Layout) (g : Progress) (is : y ≡
     subtract-applied i j x n e f q =
         record {
           moved = ap (both Accepted) (one-more (S i j x) is-p e (f ∙ add-one x));
-          doubles = q ∙ sym (sum-unchanged i j n.1 n.2 (madeBy h w (S i j x)) (subtract-long i j x)) ∙ rw is refl;
+          doubles = q ∙ sym (sum-unchanged i j n.1 n.2 (madeBy h w (S i j x)) (subtract-long i j x)) ∙ rw fit.same refl;
         }
 
     pub solve-applied : (i j : ℕ) → IsStep (y .k) (T i j) → place ≡ start triangle i + j → stage ≡ j + 1 → w′ ≡ store (workingAt y i j) (madeBy h w (T i j)) w
@@ -145,7 +135,7 @@ module _ (h : List ℕ) (w : List Float) (y : Layout) (g : Progress) (is : y ≡
     solve-applied i j n e f q =
         record {
           moved = ap (both Accepted) (one-more (T i j) is-p e (f ∙ add-one j));
-          doubles = q ∙ sym (sum-unchanged i j below n.1 (madeBy h w (T i j)) (solve-long i j below n.1)) ∙ rw is refl;
+          doubles = q ∙ sym (sum-unchanged i j below n.1 (madeBy h w (T i j)) (solve-long i j below n.1)) ∙ rw fit.same refl;
         }
       where
         below : j ≤ i
@@ -159,13 +149,13 @@ module _ (h : List ℕ) (w : List Float) (y : Layout) (g : Progress) (is : y ≡
         let o : refusedBy h w (C j) ≡ none = accepted-none (refusedBy h w (C j)) (sym q ∙ t.answer) in
         record {
           moved = ap (both Accepted) (one-more (C j) is-p e (f ∙ add-one j)) ∙ ap (movedBy y g (C j)) (sym o);
-          doubles = t.accepted o ∙ after is ∙ ap (doublesBy y h w (C j)) (sym o);
+          doubles = t.accepted o ∙ after fit.same ∙ ap (doublesBy y h w (C j)) (sym o);
         }
       where
         after : y ≡ layoutOf h → store (sumAt y) (sumBy h w (C j) ∷ []) (store (workingAt y j j) (madeBy h w (C j)) w) ≡ doublesBy y h w (C j) none
         after e = ap (λ (z : Layout). store (sumAt z) (sumBy h w (C j) ∷ []) (store (workingAt z j j) (madeBy h w (C j)) w)) e
 
-  -- 26: what C left of its own block is cleared with all else
+  -- 26: what C left of its own block fit.same cleared with all else
   module _ (j : ℕ) (n : IsStep (y .k) (C j)) (w₁ : List Float) (a : Pivots) (t : Factors y h w w₁ j a) (r : ℕ) (q : a ≡ NotFactored r) where
     row-is : refusedBy h w (C j) ≡ some r
     row-is = refused-some (refusedBy h w (C j)) r (sym q ∙ t.answer)
@@ -174,18 +164,18 @@ module _ (h : List ℕ) (w : List Float) (y : Layout) (g : Progress) (is : y ≡
     kept-own = t.refused r row-is
 
     own-fits : workingAt y j j + length (kept-own .left) ≤ length w
-    own-fits = let f = kept-own.fits in omega (arith, own-inside j j (omega arith) n, room)
+    own-fits = let f = kept-own.fits in omega (arith, own-inside j j (omega arith) n, fit.room)
 
     pub still-room : doublesNeeded y ≤ length w₁
-    still-room = rw kept-own.stands (omega (arith, length-store (workingAt y j j) kept-own.left w own-fits, room))
+    still-room = rw kept-own.stands (omega (arith, length-store (workingAt y j j) kept-own.left w own-fits, fit.room))
 
     cleared-same : cleared y w₁ ≡ cleared y w
-    unfolding cleared zeros
+    unfolding cleared workingZeros
     cleared-same =
         let f = kept-own.fits in
         ap (cleared y) kept-own.stands
-        ∙ over w (workingAt y j j) kept-own.left (thetaAt y) (zeros y) own-fits (omega (arith, working-behind y j j (omega arith) n))
-        (omega (arith, length-replicate (suc (sumAt y) - thetaAt y) ieee.zero, own-inside j j (omega arith) n))
+        ∙ over w (workingAt y j j) kept-own.left (thetaAt y) (workingZeros y) own-fits (omega (arith, working-behind y j j (omega arith) n))
+        (omega (arith, length-replicate (workingEnd y - thetaAt y) ieee.zero, own-inside j j (omega arith) n))
 
     pub factor-refused : (w′ : List Float) {p : Progress} → w′ ≡ cleared y w₁ → p ≡ idle (y .k) → Applied y g h w w′ (C j) (both (refuse 26 j r) p)
     factor-refused w′ e f =
@@ -208,7 +198,7 @@ module _ (h : List ℕ) (w : List Float) (y : Layout) (g : Progress) (s : Step) 
   by-pivot m w′ none a b = ap₂ written a b ∙ accepted-whole
   by-pivot m w′ (some r) a b = ap₂ written a b ∙ ap (λ (z : Layout). written (movedBy z g s (some r)) (doublesBy z h w s (some r))) is-y
 
-  -- what is left of a workspace
+  -- what fit.same left of a workspace
   pub ready-left : (h′ : List ℕ) (w′ : List Float) (m : StepResult) → Applied y g h w w′ s m → h′ ≡ headingWith h (m .progress)
       → record { answer = m .answer; left = workspace h′ w′ } ≡ onPivot h w (refusedBy h w s) s
   ready-left h′ w′ m t e =

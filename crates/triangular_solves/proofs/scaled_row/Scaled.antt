@@ -1,23 +1,24 @@
 -- Where theta and the loaded fixed rows of a block lie, and what v of a row is by them; each callee's answer is a number of its own.
-use Prim.Native.Nat.{ℕ, suc, _+_, _*_, _≤_, _<_}
+use Prim.Native.Nat.{ℕ, _+_, _≤_, _<_}
 use mathlib.Core.Path.{_≡_, refl, sym, ap, ap₂, _∙_}
 use mathlib.Core.List.{List, []}
 use mathlib.Core.Logic.{inl}
-use native.Mathlib.Nat.{mul-le-mul-right}
 use native.Mathlib.Omega.{arith}
 use lib.ListN.{length, getD}
 use lib.Ieee.{Float, nan}
-use Rattle.storage.specs.Runs.{tab}
+use Rattle.storage.specs.Runs.{start, dense, tab}
 use Rattle.storage.specs.Shape.{Shape, columns, sizeOf}
 use Rattle.storage.specs.Part.{part, store}
+use Rattle.storage.specs.declared.Block.{Block}
+use Rattle.storage.specs.Placed.{blockOf, asColumns, Lies, read}
 use Rattle.storage.proofs.Cells.{any-default, length-tab, getD-tab}
-use Rattle.storage.proofs.Places.{place-columns, size-columns}
+use Rattle.storage.proofs.Starts.{start-below}
 use Rattle.rules.specs.Arithmetic.{ieee}
 use Rattle.rules.specs.Begin.{fixedCell}
-use Rattle.block_runs.specs.blocks.Blocks.{block}
+use Rattle.block_runs.specs.axpy.Axpy.{run}
 use Rattle.block_runs.proofs.blocks.Laws.{read-block, has-dense}
 use Rattle.layout.specs.declared.Layout.{Layout}
-use Rattle.layout.specs.Shapes.{levels, shape, loadedShape, loadedAt, thetaAt}
+use Rattle.layout.specs.Shapes.{levels, loadedShape, loadedAt, thetaAt, sheetIndex}
 use Rattle.layout.proofs.Places.{theta-inside}
 use Rattle.heading_format.specs.Heading.{layoutOf, entryRow}
 use Rattle.heading_format.specs.Fits.{Fits}
@@ -27,74 +28,66 @@ use Rattle.block_places.proofs.sheet_rows.Rows.{order-below}
 use Rattle.block_places.proofs.sheet_rows.AllRows.{rows-within}
 use Rattle.block_places.specs.block_kinds.Rows.{rowsOf}
 use Rattle.block_places.proofs.block_kinds.Shapes.{rows-level, dense-shape, loaded-pair, loaded-room}
-use Rattle.block_places.proofs.block_kinds.Workspace.{fits-valid, fits-room}
 use Rattle.profile.specs.Solves.{scaledRow, blockIn}
 use Rattle.solution_vectors.specs.Vectors.{withBlockAt, Sized}
 use Rattle.solution_vectors.proofs.Vectors.{sized-tab}
+use lib.Seq.{getD-drop}
 
--- ---- column c of n columns that lie from src on
+-- ---- column c of block a
 
-module _ (src rows n c column : ℕ) (w : List Float) (h : c < n) (e : column ≡ src + c * rows) (fits : src + rows * n ≤ length w) where
-  pub column-room : column + rows ≤ length w
-  column-room = let m : suc c ≤ n = h in omega (arith, mul-le-mul-right rows m)
+module _ (a : Block) (c column : ℕ) (h : c < a .cols) (e : column ≡ a .at + start (dense (a .rows)) c) where
+  pub column-room : {n : ℕ} → Lies n (asColumns a) → column + a .rows ≤ n
+  column-room fits = omega (arith, start-below (dense a.rows) c a.cols h)
 
   -- its cell of row r
-  pub column-cell : (r : ℕ) → r < rows → getD w (column + r) nan ≡ block src (columns rows n) w r c
-  column-cell r l =
-      read-block (columns rows n) src w r c (column + r) (has-dense rows n r c l h) (omega (arith, size-columns rows n))
-      (omega (arith, place-columns rows n r c))
+  pub column-cell : (w : List Float) → Lies (length w) (asColumns a) → (r : ℕ) → r < a .rows → getD w (column + r) nan ≡ read (asColumns a) w r c
+  column-cell w fits r l = read-block (columns a.rows a.cols) a.at w r c (column + r) (has-dense a.rows a.cols r c l h) fits (omega arith)
 
 -- ---- the workspace
 
-module _ (h : List ℕ) (w : List Float) (y : Layout) (e : y ≡ layoutOf h) (fit : Fits h (length w)) where
+module _ (h : List ℕ) (w : List Float) (y : Layout) (fit : Fits y h (length w)) where
   module _ (j : ℕ) (l : j < y .k) where
     -- theta of sorted block j
-    module _ (x s : ℕ) (p : x ≡ thetaAt y) (q : s ≡ getD (y .order) j 0) where
+    module _ (x s : ℕ) (p : x ≡ thetaAt y) (q : s ≡ sheetIndex y j) where
       pub theta-room : x + s < length w
-      theta-room = omega (arith, fits-room h w y e fit, theta-inside y, order-below y (fits-valid h w y e fit) j l)
+      theta-room = omega (arith, fit.room, theta-inside y, order-below y fit.valid j l)
 
       pub theta-read : getD w (x + s) nan ≡ thetaOf h w j
       theta-read =
           any-default w (x + s) nan ieee.zero theta-room
-          ∙ ap₂ (λ (a b : ℕ). getD w (a + b) ieee.zero) (p ∙ ap thetaAt e) (q ∙ ap (λ (z : Layout). getD z.order j 0) e)
+          ∙ ap₂ (λ (a b : ℕ). getD w (a + b) ieee.zero) (p ∙ ap thetaAt fit.same) (q ∙ ap (λ (z : Layout). sheetIndex z j) fit.same)
+          ∙ sym (getD-drop (thetaAt (layoutOf h)) w (sheetIndex (layoutOf h) j) ieee.zero)
 
     -- the rows of sorted block j in a list of q rows
-    pub rows-room : (from to n len : ℕ) → to ≡ rowStart y j → n ≡ rowsOf y j → from + y .q ≤ len → from + to + n ≤ len
-    rows-room from to n len p q fits = omega (arith, rows-within y (fits-valid h w y e fit) j l, rows-level y j l)
+    pub rows-room : (from len : ℕ) → from + y .q ≤ len → from + rowStart y j + rowsOf y j ≤ len
+    rows-room from len fits = omega (arith, rows-within y fit.valid j l, rows-level y j l)
 
     -- its fixed rows are dense
     fixed-shape : (row : ℕ → ℕ) → loadedShape y row (y .k) j ≡ columns (rowsOf y (y .k)) (rowsOf y j)
     fixed-shape row = loaded-pair y row y.k j l ∙ dense-shape y row y.k j l (omega arith) (inl refl)
 
-    pub fixed-room : (src rows n : ℕ) → src ≡ loadedAt y (y .k) j → rows ≡ rowsOf y (y .k) → n ≡ rowsOf y j → src + rows * n ≤ length w
-    fixed-room src rows n p q s =
-        rw (p, q, s)
-        (omega (
-          arith,
-          size-columns (rowsOf y y.k) (rowsOf y j),
-          loaded-room y (λ x. 0) (length w) (fits-room h w y e fit) y.k j (omega arith) (omega arith) (shape y (λ x. 0) y.k j) refl y.k j (omega arith) (omega arith)
-              (columns (rowsOf y y.k) (rowsOf y j)) (fixed-shape (λ x. 0)),
-        ))
+    abbrev fixed : Block
+    fixed = blockOf (loadedAt y y.k j) (rowsOf y y.k) (rowsOf y j)
+
+    pub fixed-lies : Lies (length w) (asColumns fixed)
+    fixed-lies = loaded-room y (λ x. 0) (length w) fit.room y.k j (omega arith) (omega arith) _ refl y.k j (omega arith) (omega arith) _ (fixed-shape (λ x. 0))
 
     -- v of row r in that block
-    row-block : (r : ℕ)
-        → blockIn (scaledRow h w r) j ≡ tab (rowsOf y j) (λ c. fixedCell ieee (thetaOf h w j) (block (loadedAt y (y .k) j) (columns (rowsOf y (y .k)) (rowsOf y j)) w r c))
+    row-block : (r : ℕ) → blockIn (scaledRow h w r) j ≡ tab (rowsOf y j) (λ c. fixedCell ieee (thetaOf h w j) (read (asColumns fixed) w r c))
     unfolding scaledRow
     row-block r =
         let made : Layout → Shape → ℕ → List Float =
         λ z s n. tab n (λ c. fixedCell ieee (thetaOf h w j) (cellOf s (part (loadedAt z z.k j) (sizeOf s) w) r c)) in
         getD-tab (layoutOf h .k) (λ i. tab (levels (layoutOf h) i) (λ c. fixedCell ieee (thetaOf h w i) (cellOf (loadedShape (layoutOf h) (entryRow h) (layoutOf h .k) i) (loadedBlock h w (layoutOf h .k) i) r c)))
-        j [] (rw e at l)
-        ∙ sym (ap (λ (z : Layout). made z (loadedShape z (entryRow h) z.k j) (levels z j)) e)
+        j [] (rw fit.same at l)
+        ∙ sym (ap (λ (z : Layout). made z (loadedShape z (entryRow h) z.k j) (levels z j)) fit.same)
         ∙ ap₂ (made y) (fixed-shape (entryRow h)) (sym (rows-level y j l))
 
-    pub block-scaled : (r from : ℕ) (theta : Float) (to n rows src : ℕ) (v u : List Float) → theta ≡ thetaOf h w j → to ≡ rowStart y j → n ≡ rowsOf y j → rows ≡ rowsOf y (y .k)
-        → src ≡ loadedAt y (y .k) j → u ≡ store (from + to) (tab n (λ c. fixedCell ieee theta (block src (columns rows n) w r c))) v
+    pub block-scaled : (r from : ℕ) (v : List Float) {u : List Float} → u ≡ run (from + rowStart y j) (rowsOf y j) (λ c. fixedCell ieee (thetaOf h w j) (read (asColumns fixed) w r c)) v
         → u ≡ withBlockAt y from j (blockIn (scaledRow h w r) j) v
-    block-scaled r from theta to n rows src v u a b c d f g =
-        g ∙ rw (a, b, c, d, f) (ap (λ (x : List Float). store (from + rowStart y j) x v) (sym (row-block r)))
+    block-scaled r from v g = g ∙ ap (λ (x : List Float). store (from + rowStart y j) x v) (sym (row-block r))
 
   -- v of row r has the layout's blocks
   pub row-sized : (r : ℕ) → Sized y (scaledRow h w r)
   unfolding scaledRow
-  row-sized r = rw e (sized-tab (layoutOf h) fit.layout _ (λ j l. length-tab (levels (layoutOf h) j) _))
+  row-sized r = rw fit.same (sized-tab (layoutOf h) (rw fit.same at fit.valid) _ (λ j l. length-tab (levels (layoutOf h) j) _))

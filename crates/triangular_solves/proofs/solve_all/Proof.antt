@@ -2,7 +2,6 @@
 use borrow.Author.Needs.{needs}
 use Prim.Native.Nat.{_+_, _-_}
 use native.Mathlib.Omega.{arith}
-use Rattle.block_places.proofs.block_kinds.Workspace.{fits-valid}
 use Rattle.triangular_solves.proofs.scaled_row.Scaled.{row-sized}
 use Rattle.triangular_solves.proofs.Rows.{Rows, rows-none, rows-room, rows-more, rows-all}
 use Rattle.triangular_solves.proofs.solve_all.Statement.{statement}
@@ -16,23 +15,23 @@ abbrev μ-loop : tie.MeasureT-loop
 
 w-at-requires : tie.Need-w-at-requires Inv-loop μ-loop
 w-at-requires c κs = let s = c.before.before.before.before.before in
-    (fits-valid _ s.args.doubles.now _ s.pre.0 s.pre.1, omega arith)
+    (s.pre.0.valid, omega arith)
 
 scale-row-requires : tie.Need-scale-row-requires Inv-loop μ-loop
 scale-row-requires c κs = let s = c.before.before.before.before.before.before.before in
-    (s.pre.0, s.pre.1, omega arith, rows-room c.before.before.before.loop.inv (omega arith) c.before.w-at.ensures)
+    (s.pre.0, omega arith, rows-room c.before.before.before.loop.inv (omega arith) c.before.w-at.ensures)
 
 backsolve-a-inv-requires : tie.Need-backsolve-a-inv-requires Inv-loop μ-loop
 backsolve-a-inv-requires c κs =
     let s = c.before.before.before.before.before.before.before.before.before.before.before in
-    (s.pre.0, s.pre.1, omega (arith, rows-room c.before.before.before.before.before.before.before.loop.inv (omega arith) c.before.before.before.before.before.w-at.ensures))
+    (s.pre.0, omega (arith, rows-room c.before.before.before.before.before.before.before.loop.inv (omega arith) c.before.before.before.before.before.w-at.ensures))
 
 loop-again : tie.Need-loop-again Inv-loop μ-loop
 loop-again c =
     let s = c.before.before.before.before.before.before.before.before.before.before.before.before.before.before in
-    rows-more s.pre.0 (fits-valid _ s.args.doubles.now _ s.pre.0 s.pre.1) c.before.before.before.before.before.before.before.before.before.before.loop.inv (omega arith) _ c.before.before.before.before.before.before.before.before.w-at.ensures (row-sized _ s.args.doubles.now _ s.pre.0 s.pre.1 _) c.before.before.before.before.before.before.scale-row.ensures c.before.before.backsolve-a-inv.ensures
+    rows-more s.pre.0.same s.pre.0.valid c.before.before.before.before.before.before.before.before.before.before.loop.inv (omega arith) _ c.before.before.before.before.before.before.before.before.w-at.ensures (row-sized _ s.args.doubles.now _ s.pre.0 _) c.before.before.before.before.before.before.scale-row.ensures c.before.before.backsolve-a-inv.ensures
 
 pub solve-all-spec : {M : Type 1} → statement M
-solve-all-spec = tie.close (tie.spec Inv-loop μ-loop (λ c. rows-none c.before.before.before.pre.2) w-at-requires
+solve-all-spec = tie.close (tie.spec Inv-loop μ-loop (λ c. rows-none c.before.before.before.pre.1) w-at-requires
     scale-row-requires backsolve-a-inv-requires (λ c. search needs) (λ c. search needs) loop-again (λ c. search needs)
     (λ c. rows-all c.before.loop.inv (omega arith)))

@@ -19,6 +19,7 @@ use Rattle.update.proofs.progress_laws.Kept.{layout-kept}
 use Rattle.workspace.specs.Memory.{Workspace, headingWith}
 use Rattle.workspace.specs.Answers.{Outcome, untouched, unlessAt, firstInfinite}
 use Rattle.update.specs.Calls.{begun, beginOf, isUnderWay, refusedBy, stepped, onPivot, stepOf, goOn, runOf}
+use Rattle.heading_format.specs.Parts.{headingLength}
 
 abbrev isAccepted : Answer → Bool
 isAccepted Accepted = true
@@ -38,7 +39,7 @@ module _ (h : List ℕ) (w : List Float) where
   unfolding stepOf stepped
   step-kept s = go (validHeading h (length w)) refl
     where
-      pivot : 128 ≤ length h → (o : Option ℕ) → Keeps h (onPivot h w o s)
+      pivot : headingLength ≤ length h → (o : Option ℕ) → Keeps h (onPivot h w o s)
       pivot long none = layout-kept h long _
       pivot long (some r) = layout-kept h long _
 

@@ -24,12 +24,13 @@ use Rattle.layout.specs.declared.Layout.{Layout}
 use Rattle.heading_format.specs.declared.Progress.{Progress}
 use Rattle.heading_format.specs.declared.State.{State}
 use Rattle.heading_format.specs.declared.State.the-variants.{UnderWay, Finished}
-use Rattle.layout.specs.Shapes.{levels, numbersNeeded, doublesNeeded}
-use Rattle.heading_format.specs.Heading.{stageOf, written, every, forerunnersDone, validState, validLayout, validProgress, validHeading}
+use Rattle.layout.specs.Shapes.{levels, doublesNeeded}
+use Rattle.heading_format.specs.Heading.{stageOf, written, every, forerunnersDone, validState, validLayout, validProgress, validHeading, numbersNeeded}
 use Rattle.heading_format.proofs.Valid.{both, unless, unless-at, every-of, every-at}
 use Rattle.heading_format.proofs.Heading.{never-20}
 use Rattle.update.specs.Calls.{advanced}
 use Rattle.step_order.proofs.Next.{all-grows}
+use Rattle.heading_format.specs.Parts.{mostTargets, headingLength}
 
 -- ---- no step is done without its forerunners, as a fact
 -- the test passes where it holds of every step of the list
@@ -109,17 +110,17 @@ state-advanced s left every-step u e =
           (λ m. let q : left ≡ 1 = omega arith in rw q refl),
     )
 
--- target (i, j) of nine rows at most lies among 45
-below-45 : (i j : ℕ) → j ≤ i → i ≤ 8 → start triangle i + j < 45
-below-45 i j l m = let g : i + 1 ≤ 9 = omega arith in omega (arith, start-triangle i, mul-le-mul m g)
+-- target (i, j) of nine rows at most has a stage
+below-most : (i j : ℕ) → j ≤ i → i ≤ 8 → start triangle i + j < mostTargets
+below-most i j l m = let g : i + 1 ≤ 9 = omega arith in omega (arith, start-triangle i, mul-le-mul m g)
 
-module _ (k : ℕ) (few : k ≤ 8) (g : Progress) (many : length (g .stages) ≡ 45) (s : Step) (n : IsStep k s) where
-  -- the place of its target is one of the 45
-  pub place-below : start triangle (row s) + col s < 45
-  place-below = below-45 (row s) (col s) (in-range k s n .1) (omega (arith, in-range k s n))
+module _ (k : ℕ) (few : k ≤ 8) (g : Progress) (many : length (g .stages) ≡ mostTargets) (s : Step) (n : IsStep k s) where
+  -- its target has a stage
+  pub place-below : start triangle (row s) + col s < mostTargets
+  place-below = below-most (row s) (col s) (in-range k s n .1) (omega (arith, in-range k s n))
 
-  -- the stages stay 45
-  pub length-advanced : length (advanced g s .stages) ≡ 45
+  -- the stages stay as many
+  pub length-advanced : length (advanced g s .stages) ≡ mostTargets
   length-advanced = length-set g.stages (start triangle (row s) + col s) (suc (index s)) ∙ many
 
   -- its stage alone moves
@@ -187,12 +188,12 @@ module _ (k : ℕ) (few : k ≤ 8) (g : Progress) (many : length (g .stages) ≡
 
 -- ---- a heading is never refused with 20 where layout and progress are valid, and numbers and doubles are enough
 module _ (y : Layout) (valid-layout : validLayout y ≡ true) (eight : length (y .m) ≡ 8) (eight′ : length (y .order) ≡ 8)
-    (rest : List ℕ) (numbers : numbersNeeded y ≤ 128 + length rest) (rows : y .sparse ≡ true → (c : ℕ) → c < levels y 0 → getD rest c 0 < levels y 1)
-    (g : Progress) (many : length (g .stages) ≡ 45) (valid-progress : validProgress (y .k) g ≡ true) where
+    (rest : List ℕ) (numbers : numbersNeeded y ≤ headingLength + length rest) (rows : y .sparse ≡ true → (c : ℕ) → c < levels y 0 → getD rest c 0 < levels y 1)
+    (g : Progress) (many : length (g .stages) ≡ mostTargets) (valid-progress : validProgress (y .k) g ≡ true) where
   -- whatever number of doubles is lent, if they are enough
   pub valid-heading-written : (doubles : ℕ) → doublesNeeded y ≤ doubles → validHeading (written y g ++ rest) doubles ≡ true
   valid-heading-written doubles room =
       never-20 y g rest doubles valid-layout valid-progress eight eight′ many (λ s. (long y.sparse s numbers, rows s)) room
     where
-      long : (b : Bool) → b ≡ true → 128 + cond b (levels y 0) 0 ≤ 128 + length rest → levels y 0 ≤ length rest
-      long b e h = let z : 128 + levels y 0 ≤ 128 + length rest = rw e at h in omega arith
+      long : (b : Bool) → b ≡ true → headingLength + cond b (levels y 0) 0 ≤ headingLength + length rest → levels y 0 ≤ length rest
+      long b e h = let z : headingLength + levels y 0 ≤ headingLength + length rest = rw e at h in omega arith

@@ -1,5 +1,4 @@
 -- `begin::init_blocks::init_last`: one copy.
-use Rattle.begin.specs.scaled_blocks.Scaled.{sortedTheta}
 use Rattle.begin.proofs.scaled_blocks.Blocks.{last-fits, last-done}
 use borrow.Author.Needs.{needs}
 use Rattle.begin.proofs.init_blocks.init_last.Statement.{statement}
@@ -7,11 +6,11 @@ use Rattle.begin.proofs.init_blocks.init_last.Tie as tie
 
 copy-requires : tie.Need-copy-requires
 copy-requires c κs = let s = c.before.before.before.before.before.before in
-    last-fits s.args.layout _ s.pre.1 _ _ _ c.before.before.before.working-at.ensures c.before.before.loaded-at.ensures c.before.size-of.ensures
+    last-fits s.args.layout _ s.pre.room _ _ _ c.before.before.before.working-at.ensures c.before.before.loaded-at.ensures c.before.size-of.ensures
 
 returns : tie.Need-returns
 returns c = let s = c.before.before.before.before.before.before.before.before.before in
-    last-done s.args.layout _ s.pre.1 _ _ _ c.before.before.before.before.before.before.working-at.ensures c.before.before.before.before.before.loaded-at.ensures c.before.before.before.before.size-of.ensures (sortedTheta s.args.layout s.args.theta.now) _ _ c.before.before.copy.ensures
+    last-done s.args.layout _ s.pre.room _ _ _ c.before.before.before.before.before.before.working-at.ensures c.before.before.before.before.before.loaded-at.ensures c.before.before.before.before.size-of.ensures s.args.theta.now _ _ c.before.before.copy.ensures
 
 pub init-last-spec : {M : Type 1} → statement M
 init-last-spec = tie.close (tie.spec (λ c κs. search needs) (λ c κs. search needs) (λ c κs. search needs) copy-requires

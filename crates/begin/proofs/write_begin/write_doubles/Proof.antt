@@ -11,19 +11,19 @@ use Rattle.begin.proofs.write_begin.write_doubles.Tie as tie
 
 add-put : tie.Need-add-put
 add-put c = let s = c.before.before.before.before.before in
-    omega (arith, s.pre.1, s.pre.2, c.before.before.theta-at.ensures, theta-inside s.args.layout, doubles-small s.args.layout s.pre.0)
+    omega (arith, s.pre.1, s.pre.0.room, c.before.before.theta-at.ensures, theta-inside s.args.layout, doubles-small s.args.layout s.pre.0.valid)
 
 put-requires : tie.Need-put-requires
 put-requires c κs = let s = c.before.before.before.before.before in
-    (omega arith, omega (arith, s.pre.1, s.pre.2, c.before.before.theta-at.ensures, theta-inside s.args.layout), omega arith)
+    (omega arith, omega (arith, s.pre.1, s.pre.0.room, c.before.before.theta-at.ensures, theta-inside s.args.layout), omega arith)
 
 mul-doubles : tie.Need-mul-doubles
 mul-doubles c = let s = c.before.before.before.before.before.before.before.before.before.before.before.before in
-    omega (arith, s.pre.2, c.before.before.before.before.before.before.before.before.before.theta-at.ensures, c.before.before.before.before.before.before.before.before.sum-at.ensures, theta-inside s.args.layout, doubles-small s.args.layout s.pre.0)
+    omega (arith, s.pre.0.room, c.before.before.before.before.before.before.before.before.before.theta-at.ensures, c.before.before.before.before.before.before.before.before.sum-at.ensures, theta-inside s.args.layout, doubles-small s.args.layout s.pre.0.valid)
 
 slice-write-doubles : tie.Need-slice-write-doubles
 slice-write-doubles c = let s = c.before.before.before.before.before.before.before.before.before.before.before.before in
-    omega (arith, s.pre.2, c.before.before.before.before.before.before.before.before.before.theta-at.ensures, c.before.before.before.before.before.before.before.before.sum-at.ensures, theta-inside s.args.layout, doubles-small s.args.layout s.pre.0)
+    omega (arith, s.pre.0.room, c.before.before.before.before.before.before.before.before.before.theta-at.ensures, c.before.before.before.before.before.before.before.before.sum-at.ensures, theta-inside s.args.layout, doubles-small s.args.layout s.pre.0.valid)
 
 returns : tie.Need-returns
 returns c = let s = c.before.before.before.before.before.before.before.before.before.before.before.before in

@@ -9,14 +9,14 @@ use lib.Dec.{ltb, leb}
 use lib.ListN.{getD}
 use Rattle.layout.specs.declared.Layout.{Layout}
 use Rattle.heading_format.proofs.Valid.{is-valid}
-use Rattle.block_places.specs.sheet_rows.Blocks.{blockOf, FirstRows}
+use Rattle.block_places.specs.sheet_rows.Blocks.{blockOfRow, FirstRows}
 use Rattle.block_places.proofs.sheet_rows.Rows.{start-small, block-none, block-more}
 use Rattle.block_places.proofs.row_map.block_of.Statement.{statement}
 use Rattle.block_places.proofs.row_map.block_of.Tie as tie
 
 abbrev Inv-loop : tie.InvT-loop
 Inv-loop counts first x k b₀ j₀ b j =
-    (k ≤ 8) × (j ≤ k) × ((y : Layout) → y .k ≡ k → counts ≡ y .m → FirstRows y first → b ≡ blockOf y j x)
+    (k ≤ 8) × (j ≤ k) × ((y : Layout) → y .k ≡ k → counts ≡ y .m → FirstRows y first → b ≡ blockOfRow y j x)
 
 abbrev μ-loop : tie.MeasureT-loop
 μ-loop counts first x k b₀ j₀ b j = k - j
@@ -42,7 +42,7 @@ loop-again c = let s = c.before.before.before.before.before.before in
 
 returns : tie.Need-returns Inv-loop μ-loop
 returns c = let s = c.before.before in let l = c.before.loop in
-    l .inv .2 s.args.layout refl s.pre.1 s.pre.2 ∙ ap (λ (j : ℕ). blockOf s.args.layout j s.args.x) (omega arith)
+    l .inv .2 s.args.layout refl s.pre.1 s.pre.2 ∙ ap (λ (j : ℕ). blockOfRow s.args.layout j s.args.x) (omega arith)
 
 pub block-of-spec : {M : Type 1} → statement M
 block-of-spec = tie.close (tie.spec Inv-loop μ-loop loop-holds (λ c. search needs) (λ c. search needs)

@@ -9,7 +9,7 @@ use Rattle.deviance.proofs.deviance_tail.value.Tie as tie
 
 value-requires : tie.Need-value-requires
 value-requires c κs = let s = c.before.before in
-    (omega (arith, few-effects s.args.layout _ s.pre.0 s.pre.1), first-rows s.args.layout _ s.pre.0 s.pre.1 _ c.working-at.ensures)
+    (omega (arith, few-effects s.args.layout _ s.pre.valid s.pre.room), first-rows s.args.layout _ s.pre.valid s.pre.room _ c.working-at.ensures)
 
 returns : tie.Need-returns
 returns c = let a = c.before.before.before.args in c.value.ensures

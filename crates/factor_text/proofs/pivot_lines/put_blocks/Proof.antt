@@ -19,20 +19,20 @@ loop-holds c = let a = c.before.before.args in blocks-none a.layout (now a.doubl
 
 put-rows-requires : tie.Need-put-rows-requires Inv-loop μ-loop
 put-rows-requires c κs = let st = c.before.before.before.before.before in let a = st.args in
-    let b = blocks-room a.layout (now a.doubles) (now a.out) st.pre.0 st.pre.1 st.pre.2 st.pre.3 _ _ _ c.before.before.loop.inv c.before.loop-test.taken in
-    (st.pre.0, st.pre.1, c.before.loop-test.taken, b.0, b.1)
+    let b = blocks-room a.layout (now a.doubles) (now a.out) st.pre.0.valid st.pre.0.room st.pre.1 st.pre.2 _ _ _ c.before.before.loop.inv c.before.loop-test.taken in
+    (st.pre.0, c.before.loop-test.taken, b.0, b.1)
 
 add-j : tie.Need-add-j Inv-loop μ-loop
 add-j c = let st = c.before.before.before.before.before.before.before.before in
-    record { fits = omega (arith, is-valid st.args.layout st.pre.0 .blocks .1, c.before.before.before.before.loop-test.taken) }
+    record { fits = omega (arith, is-valid st.args.layout st.pre.0.valid .blocks .1, c.before.before.before.before.loop-test.taken) }
 
 loop-again : tie.Need-loop-again Inv-loop μ-loop
 loop-again c = let st = c.before.before.before.before.before.before.before.before in let a = st.args in
-    blocks-next a.layout (now a.doubles) (now a.out) st.pre.0 st.pre.1 st.pre.2 st.pre.3 _ _ _ c.before.before.before.before.before.loop.inv c.before.before.before.before.loop-test.taken _ _ c.before.before.put-rows.ensures
+    blocks-next a.layout (now a.doubles) (now a.out) st.pre.0.valid st.pre.0.room st.pre.1 st.pre.2 _ _ _ c.before.before.before.before.before.loop.inv c.before.before.before.before.loop-test.taken _ _ c.before.before.put-rows.ensures
 
 returns : tie.Need-returns Inv-loop μ-loop
 returns c = let st = c.before.before.before.before in let a = st.args in
-    blocks-all a.layout (now a.doubles) (now a.out) st.pre.0 st.pre.1 st.pre.2 st.pre.3 _ _ _ c.before.loop.inv c.loop-test.left
+    blocks-all a.layout (now a.doubles) (now a.out) st.pre.0.valid st.pre.0.room st.pre.1 st.pre.2 _ _ _ c.before.loop.inv c.loop-test.left
 
 pub put-blocks-spec : {M : Type 1} → statement M
 put-blocks-spec = tie.close (tie.spec Inv-loop μ-loop loop-holds put-rows-requires add-j (λ c. search needs) loop-again

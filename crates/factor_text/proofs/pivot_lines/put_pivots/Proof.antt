@@ -1,8 +1,7 @@
 -- `factor_text::pivot_lines::put_pivots`: by the heading's own layout.
 use denote.Ref.{now}
 use lib.ListN.{length}
-use Rattle.heading_format.proofs.Fits.{fits}
-use Rattle.block_places.proofs.block_kinds.Workspace.{fits-valid, fits-room}
+use Rattle.heading_format.proofs.Fits.{fits, read-fits, room-of}
 use Rattle.factor_text.proofs.pivot_lines.Lines.{lines-put}
 use borrow.Author.Needs.{needs}
 use Rattle.factor_text.proofs.pivot_lines.put_pivots.Statement.{statement}
@@ -13,8 +12,7 @@ layout-requires c κs = let st = c.before.before.before in fits (now st.args.hea
 
 put-blocks-requires : tie.Need-put-blocks-requires
 put-blocks-requires c κs = let st = c.before.before.before.before.before in let h = now st.args.heading in
-    let w = now st.args.doubles in let fit = fits h (length w) st.pre.0 in let e = c.before.layout.ensures in
-    (fits-valid h w _ e fit, fits-room h w _ e fit, st.pre.1, st.pre.2)
+    (room-of (read-fits c.before.layout.ensures (fits h (length (now st.args.doubles)) st.pre.0)), st.pre.1, st.pre.2)
 
 returns : tie.Need-returns
 returns c = let a = c.before.before.before.before.before.before.before.before.args in

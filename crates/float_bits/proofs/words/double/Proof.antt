@@ -1,6 +1,7 @@
 -- `float_bits::words::double` meets its contract.
 use borrow.Author.Needs.{needs}
-use Rattle.float_bits.proofs.words.Laws.{nan-of-bits, no-nan-bits}
+use Rattle.float_bits.proofs.double.Bits.{no-nan-bits}
+use Rattle.float_bits.proofs.words.Laws.{nan-of-bits}
 use Rattle.float_bits.proofs.words.double.Statement.{statement}
 use Rattle.float_bits.proofs.words.double.Tie as tie
 

@@ -5,12 +5,13 @@ use Rattle.heading.proofs.Numbers.{all-stored}
 use Rattle.heading.proofs.writer.Idle.{zeros-small}
 use Rattle.heading.proofs.writer.write.Statement.{statement}
 use Rattle.heading.proofs.writer.write.Tie as tie
+use Rattle.heading_format.specs.Parts.{unusedNumbers}
 
 slice-aggregate-write-numbers : tie.Need-slice-aggregate-write-numbers
 slice-aggregate-write-numbers c = search needs
 
 write-numbers-requires : tie.Need-write-numbers-requires
-write-numbers-requires c κs = (search needs, omega (arith, slice-aggregate-write-numbers c), zeros-small 59)
+write-numbers-requires c κs = (search needs, omega (arith, slice-aggregate-write-numbers c), zeros-small unusedNumbers)
 
 returns : tie.Need-returns
 returns c =

@@ -4,10 +4,6 @@ use native.Mathlib.Omega.{arith}
 use borrow.Author.Needs.{needs}
 use Rattle.heading_check.proofs.room_check.has_room.Statement.{statement}
 use Rattle.heading_check.proofs.room_check.has_room.Tie as tie
-use Rattle.block_places.proofs.block_sizes.Sizes.{doubles-small}
-
-add-room : tie.Need-add-room
-add-room c = record { fits = omega (arith, doubles-small c.before.before.args.layout c.before.before.pre, c.sum-at.ensures) }
 
 add-if2 : tie.Need-add-if2
 add-if2 c = record { fits = omega (arith, level-most c.before.before.before.before.args.layout c.before.before.before.before.pre c.before.if1.taken, c.level.ensures) }
@@ -16,6 +12,6 @@ rows-below-requires : tie.Need-rows-below-requires
 rows-below-requires c κs = (search needs, omega (arith, level-most c.before.before.before.before.before.before.args.layout c.before.before.before.before.before.before.pre c.before.before.before.if1.taken, c.level2.ensures))
 
 pub has-room-spec : {M : Type 1} → statement M
-has-room-spec = tie.close (tie.spec (λ c κs. search needs) add-room (λ c κs. search needs) add-if2
+has-room-spec = tie.close (tie.spec (λ c κs. search needs) (λ c κs. search needs) add-if2
     (λ c κs. search needs) rows-below-requires (λ c. search room-sparse) (λ c. search room-short)
     (λ c. search room-dense))

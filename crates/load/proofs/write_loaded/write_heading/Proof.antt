@@ -1,4 +1,4 @@
--- `load::write_loaded::write_heading`: the rows stand right behind the 128 numbers.
+-- `load::write_loaded::write_heading`: the rows stand right behind the heading's parts.
 use native.Mathlib.Omega.{arith}
 use denote.Ref.{now}
 use Rattle.load_numbers.proofs.sheet_words.Loads.{few-k}

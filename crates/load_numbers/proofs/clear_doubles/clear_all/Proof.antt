@@ -1,5 +1,5 @@
 -- `load_numbers::clear_doubles::clear_all`: as many doubles as the formula says.
-use Prim.Native.Nat.{ℕ, _+_}
+use Prim.Native.Nat.{ℕ}
 use mathlib.Core.Path.{ap, _∙_}
 use denote.Ref.{now}
 use Rattle.storage.specs.Runs.{tab}
@@ -11,8 +11,7 @@ use Rattle.load_numbers.proofs.clear_doubles.clear_all.Tie as tie
 
 returns : tie.Need-returns
 returns c = let a = c.before.before.before.before.before.before.args in
-    c .before .before .clear .ensures ∙ ap (λ (n : ℕ). store 0 (tab (n + 1) (λ i. ieee .zero)) (now a.doubles)) c.before.before.before.sum-at.ensures
+    c .before .before .clear .ensures ∙ ap (λ (n : ℕ). store 0 (tab n (λ i. ieee .zero)) (now a.doubles)) c.before.before.before.doubles-needed.ensures
 
 pub clear-all-spec : {M : Type 1} → statement M
-clear-all-spec = tie.close (tie.spec (λ c κs. search needs) (λ c. search needs) (λ c κs. search needs)
-    (λ c. search needs) returns)
+clear-all-spec = tie.close (tie.spec (λ c κs. search needs) (λ c κs. search needs) (λ c. search needs) returns)

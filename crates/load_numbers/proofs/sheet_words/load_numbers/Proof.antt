@@ -11,7 +11,7 @@ map-of-requires c κs = let st = c.before.before in let a = st.args in ready-val
 
 clear-all-requires : tie.Need-clear-all-requires
 clear-all-requires c κs = let st = c.before.before.before.before in let a = st.args in
-    (ready-valid (now a.bytes) a.starts a.layout st.pre.0, st.pre.1)
+    record { valid = ready-valid (now a.bytes) a.starts a.layout st.pre.0; room = st.pre.1 }
 
 returns : tie.Need-returns
 returns c =

@@ -5,10 +5,10 @@ use Rattle.profile_deviance.proofs.full_update.factor.Statement.{statem
 use Rattle.profile_deviance.proofs.full_update.factor.Tie as tie
 
 run-requires : tie.Need-run-requires
-run-requires c κs = let s = c.before.before.before.before.before.before in turn-come s.args.heading.now s.args.doubles.now _ c.before.before.layout.ensures s.pre.1 s.pre.3
+run-requires c κs = let s = c.before.before.before.before.before.before in turn-come s.args.heading.now s.args.doubles.now _ c.before.before.layout.ensures s.pre.1.valid s.pre.2
 
 log-determinant-requires : tie.Need-log-determinant-requires
-log-determinant-requires c κs = let s = c.before.before.before.before.before.before.before.before.before.before.before.before.before.before in still s.args.heading.now s.args.doubles.now c.before.before.before.before.before.before.before.run.last.1.0 _ c.before.before.before.before.before.before.before.before.before.before.layout.ensures s.pre.1 s.pre.2 (search needs)
+log-determinant-requires c κs = let s = c.before.before.before.before.before.before.before.before.before.before.before.before.before.before in still s.args.heading.now s.args.doubles.now c.before.before.before.before.before.before.before.run.last.1.0 _ c.before.before.before.before.before.before.before.before.before.before.layout.ensures s.pre.1 (search needs)
 
 returns : tie.Need-returns
 returns c = let a = c.before.before.before.before.before.before.before.before.before.before.before.before.before.before.before.args in run-done a.heading.now a.doubles.now _ c.before.before.before.before.before.before.before.before.before.before.before.layout.ensures _ _ _ c.before.before.before.before.before.before.before.before.run.ensures c.before.before.enum-told.given.1 _ c.log-determinant.ensures

@@ -9,10 +9,10 @@ use Rattle.re_factor.proofs.block_solve.backward.Statement.{statement}
 use Rattle.re_factor.proofs.block_solve.backward.Tie as tie
 
 returns : tie.Need-returns
-returns c = let a = c.before.before.before.before.before.before.before.before.args in
+returns c = let a = c.before.before.before.before.before.before.before.before.before.args in
     let p = c.before.before.backward in
-    lent-solve (λ b f. backward ieee b f a.n a.n) a.n (λ b f. length-backward ieee b f a.n a.n) a.v.now a.z (omega arith)
-    a.doubles.now a.off _ c.before.before.before.before.before.row-start.ensures p.last.0 p.ensures
+    lent-solve (λ b f. backward ieee b f a.b.rows a.b.rows) a.b.rows (λ b f. length-backward ieee b f a.b.rows a.b.rows) a.v.now a.z (omega arith)
+    a.doubles.now a.b.at _ c.before.before.before.before.before.row-start.ensures p.last.0 p.ensures
 
 pub backward-spec : {M : Type 1} → statement M
 backward-spec = tie.close (tie.spec (λ c. search needs) (λ c κs. search needs) (λ c. search needs) (λ c. search needs)

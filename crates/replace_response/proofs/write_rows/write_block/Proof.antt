@@ -13,18 +13,14 @@ add-to c = let s = c.before.before.before in
 levels-of-requires : tie.Need-levels-of-requires
 levels-of-requires c κs = let s = c.before.before.before in omega (arith, few-blocks s.args.layout s.pre.0)
 
-add-spread : tie.Need-add-spread
-add-spread c = let s = c.before.before.before.before.before.before in
-    omega (arith, is-valid s.args.layout s.pre.0 .effects .1)
-
 spread-requires : tie.Need-spread-requires
-spread-requires c κs = let s = c.before.before.before.before.before.before in
-    block-fits s.args.layout s.pre.0 _ _ s.pre.3 s.args.j _ _ _ s.pre.2 c.before.before.before.start-of.ensures c.before.before.levels-of.ensures c.before.row-of.ensures s.pre.4
+spread-requires c κs = let s = c.before.before.before.before.before.before.before in
+    block-fits s.args.layout s.pre.0 _ _ s.pre.3 s.args.j _ _ _ s.pre.2 c.before.before.before.before.start-of.ensures c.before.before.before.levels-of.ensures c.before.before.row-of.ensures c.before.last-rows.ensures.0 s.pre.4
 
 returns : tie.Need-returns
-returns c = let s = c.before.before.before.before.before.before.before.before.before in
-    block-written s.args.layout s.pre.0 _ _ s.pre.3 s.args.j _ _ 0 s.pre.2 c.before.before.before.before.before.before.start-of.ensures c.before.before.before.before.before.levels-of.ensures c.before.before.before.before.row-of.ensures _ _ _ c.before.before.spread.ensures
+returns c = let s = c.before.before.before.before.before.before.before.before.before.before in
+    block-written s.args.layout s.pre.0 _ _ s.pre.3 s.args.j _ _ 0 s.pre.2 c.before.before.before.before.before.before.before.start-of.ensures c.before.before.before.before.before.before.levels-of.ensures c.before.before.before.before.before.row-of.ensures c.before.before.before.before.last-rows.ensures.0 _ _ _ c.before.before.spread.ensures
 
 pub write-block-spec : {M : Type 1} → statement M
-write-block-spec = tie.close (tie.spec (λ c κs. search needs) add-to levels-of-requires (λ c κs. search needs)
-    add-spread spread-requires (λ c. search needs) returns)
+write-block-spec = tie.close (tie.spec (λ c κs. search needs) add-to levels-of-requires (λ c κs. search needs) (λ c κs. search needs)
+    spread-requires (λ c. search needs) returns)

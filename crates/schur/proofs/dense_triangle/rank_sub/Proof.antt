@@ -1,11 +1,12 @@
 -- `schur::dense_triangle::rank_sub`: the first r rows are written.
 use mathlib.Core.Path.{_≡_, refl}
-use Prim.Native.Nat.{_-_, _+_}
+use Prim.Native.Nat.{_-_}
 use native.Mathlib.Omega.{arith}
 use lib.ListN.{length}
 use Rattle.storage.specs.Placed.{asTriangle, asColumns}
 use Rattle.schur.specs.Schur.{subtractSquares}
-use Rattle.schur.proofs.Turns.{Going, going-none, going-room, going-all, turn, subtractSum, sums-swapped}
+use Rattle.block_runs.proofs.blocks.Going.{Going, going-none, going-room, going-all, turn}
+use Rattle.schur.proofs.Turns.{subtractSum, sums-swapped}
 use borrow.Author.Needs.{needs}
 use Rattle.schur.proofs.dense_triangle.rank_sub.Statement.{statement}
 use Rattle.schur.proofs.dense_triangle.rank_sub.Tie as tie
@@ -27,7 +28,7 @@ add-to c = omega (arith, going-room c.before.before.before.before.before.before.
 
 loop-again : tie.Need-loop-again Inv-loop μ-loop
 loop-again c = let s = c.before.before.before.before.before.before.before.before.before.before in let a = s.args.a in let P = s.pre.1 in
-    (omega arith, turn (subtractSum a.cols) (asColumns a) (asColumns a) _ c.before.before.before.before.before.before.before.before.loop.inv.1 (omega arith) P.off-left P.off-right (λ i. sums-swapped a.cols _ _ _) (omega arith) refl c.before.before.before.subtract-run.ensures)
+    (omega arith, turn c.before.before.before.before.before.before.before.before.loop.inv.1 (omega arith) (subtractSum a.cols) (asColumns a) (asColumns a) _ P.off-left P.off-right (λ i. sums-swapped a.cols _ _ _) (omega arith) refl c.before.before.before.subtract-run.ensures)
 
 returns : tie.Need-returns Inv-loop μ-loop
 returns c = going-all c.before.before.loop.inv.1 (omega arith)

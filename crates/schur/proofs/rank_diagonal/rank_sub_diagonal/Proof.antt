@@ -4,7 +4,7 @@ use mathlib.Core.Path.{subst}
 use lib.ListN.{getD-replicate}
 use lib.Ieee.{nan}
 use native.Mathlib.Omega.{arith}
-use Rattle.storage.specs.Shape.{columns}
+use Rattle.storage.specs.Placed.{asColumns}
 use Rattle.storage.proofs.Starts.{start-single}
 use Rattle.rules.specs.Arithmetic.{ieee}
 use Rattle.schur.specs.rank_diagonal.Rows.{Summed}
@@ -21,8 +21,8 @@ subtract-sums-requires c κs = omega (arith, start-single c.before.before.before
 
 returns : tie.Need-returns
 returns c = let s = c.before.before.before.before.before.before.before.before.before.before in let a = s.args in let P = s.pre.1 in let sums = c.before.before.before.before.before.before.sum-columns in
-    rows-once a.t.at a.t.rows (columns a.a.rows a.a.cols) a.a.at a.a.cols a.src a.doubles.now P.target P.off-left P.off-source sums.last.0
-    (subst (λ (n : ℕ). Summed (columns a.a.rows a.a.cols) a.a.at a.src a.doubles.now 0 n a.a.cols sums.last.0) P.rows sums.ensures)
+    rows-once a.t (asColumns a.a) a.src a.doubles.now P.target P.off-left P.off-source sums.last.0
+    (subst (λ (n : ℕ). Summed (asColumns a.a) a.src a.doubles.now 0 n a.a.cols sums.last.0) P.rows sums.ensures)
     c.before.before.subtract-sums.last.0 c.before.before.subtract-sums.ensures
 
 pub rank-sub-diagonal-spec : {M : Type 1} → statement M

@@ -3,7 +3,7 @@ use mathlib.Core.Path.{_∙_}
 use lib.ListN.{getD-replicate}
 use lib.Ieee.{nan}
 use native.Mathlib.Omega.{arith}
-use Rattle.storage.specs.Shape.{entries}
+use Rattle.storage.specs.Placed.{asEntries}
 use Rattle.rules.specs.Arithmetic.{ieee}
 use Rattle.block_runs.specs.blocks.Blocks.{rowFrom}
 use Rattle.schur.proofs.rank_diagonal.Chunks.{each-row}
@@ -15,9 +15,9 @@ sum-entries-requires : tie.Need-sum-entries-requires
 sum-entries-requires c κs = (search needs, λ i h. getD-replicate 8192 i ieee.zero nan (omega arith))
 
 returns : tie.Need-returns
-returns c = let a = c.before.before.before.before.before.before.before.before.before.before.before.args in
-    let sums = c.before.before.before.before.before.before.sum-entries in c.before.before.subtract-sums.ensures
-    ∙ each-row a.off (entries a.inner (rowFrom a.heading.now a.first)) a.a a.inner a.src a.from a.m a.doubles.now sums.last.0 sums.ensures
+returns c = let a = c.before.before.before.before.before.before.before.before.before.before.before.before.args in
+    let sums = c.before.before.before.before.before.before.before.sum-entries in c.before.before.subtract-sums.ensures
+    ∙ each-row a.t (asEntries (rowFrom a.heading.now a.first) a.a) a.src a.from a.m a.doubles.now sums.last.0 sums.ensures
 
 pub subtract-rows-spec : {M : Type 1} → statement M
 subtract-rows-spec = tie.close (tie.spec (λ c. search needs) sum-entries-requires (λ c. search needs) (λ c. search needs)

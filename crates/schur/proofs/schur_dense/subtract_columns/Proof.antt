@@ -1,11 +1,12 @@
 -- `schur::schur_dense::subtract_columns`: the first c columns are written.
-use mathlib.Core.Path.{_≡_, refl, sym}
+use mathlib.Core.Path.{_≡_, refl}
 use Prim.Native.Nat.{_-_}
 use native.Mathlib.Omega.{arith}
 use lib.ListN.{length}
 use Rattle.storage.specs.Placed.{asColumns}
 use Rattle.schur.specs.Schur.{subtractDots}
-use Rattle.schur.proofs.Turns.{Going, going-none, going-room, going-all, room-for-two}
+use Rattle.block_runs.proofs.blocks.Going.{Going, going-none, going-room, going-all}
+use Rattle.schur.proofs.Turns.{room-for-two}
 use Rattle.schur.proofs.schur_dense.Laws.{one-turn, two-turns}
 use borrow.Author.Needs.{needs}
 use Rattle.schur.proofs.schur_dense.subtract_columns.Statement.{statement}

@@ -6,7 +6,7 @@ use native.Mathlib.Omega.{arith}
 use borrow.Author.Needs.{needs}
 use lib.ListN.{length}
 use Rattle.sheet.specs.Run.{Block}
-use Rattle.sheet.specs.Fault.{levelsOf}
+use Rattle.sheet.specs.Fault.{coveredRows}
 use Rattle.layout.specs.Blocks.{padded}
 use Rattle.sheet_checks.specs.levels.Held.{levelList}
 use Rattle.sheet_checks.proofs.mirror_cursor.Blocks.{Search, search-start, search-found, search-on, search-out}
@@ -15,7 +15,7 @@ use Rattle.sheet_checks.proofs.mirror_cursor.block_of.Tie as tie
 
 abbrev Inv-loop : tie.InvT-loop
 Inv-loop i m left₀ j₀ left j =
-    (j ≤ 8) × ((blocks : List Block) → m ≡ padded 8 (levelList blocks) → length blocks ≤ 8 → i < levelsOf blocks → Search blocks i left j)
+    (j ≤ 8) × ((blocks : List Block) → m ≡ padded 8 (levelList blocks) → length blocks ≤ 8 → i < coveredRows blocks → Search blocks i left j)
 
 abbrev μ-loop : tie.MeasureT-loop
 μ-loop i m left₀ j₀ left j = 8 - j

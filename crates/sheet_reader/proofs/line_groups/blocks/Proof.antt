@@ -5,7 +5,7 @@ use native.Mathlib.Omega.{arith}
 use Rattle.sheet.specs.Line.{blockLine}
 use Rattle.sheet.specs.Run.{blockVerdict, blockIn, blocksOf}
 use Rattle.sheet.proofs.Lines.{grid-length}
-use Rattle.sheet_reader.proofs.line_verdict.Runs.{Rows, rows-start, rows-refused, ones-next, rows-end}
+use Rattle.sheet_reader.proofs.line_verdict.Runs.{Rows, rows-start, rows-refused, ones-next, rows-end, blocks-past}
 use Rattle.sheet_reader.proofs.line_groups.blocks.Statement.{statement}
 use Rattle.sheet_reader.proofs.line_groups.blocks.Tie as tie
 
@@ -19,5 +19,5 @@ loop-holds : tie.Need-loop-holds Inv-loop μ-loop
 loop-holds c = rows-start (omega (arith, grid-length 1 0 c.before.args.k))
 
 pub blocks-spec : {M : Type 1} → statement M
-blocks-spec = tie.close (tie.spec Inv-loop μ-loop loop-holds (λ c. search rows-refused) (λ c κs. search needs)
-    (λ c κs. search needs) (λ c. search needs) (λ c. search needs) (λ c. search ones-next) (λ c. search rows-end))
+blocks-spec = tie.close (tie.spec Inv-loop μ-loop loop-holds (λ c. blocks-past _ _ _ _ (search rows-refused)) (λ c κs. search needs)
+    (λ c κs. search needs) (λ c. search needs) (λ c. search needs) (λ c. search ones-next) (λ c. blocks-past _ _ _ _ (search rows-end)))

@@ -4,7 +4,7 @@ use native.Mathlib.Omega.{arith}
 use mathlib.Core.Path.{refl}
 use lib.ListN.{length}
 use Rattle.sheet.specs.Run.{entriesFrom}
-use Rattle.sheet_reader.proofs.line_verdict.Runs.{Entries, entries-refused, entries-other, entries-next, entries-end, second-cap}
+use Rattle.sheet_reader.proofs.line_verdict.Runs.{Entries, entries-refused, entries-other, entries-next, entries-end, entries-past, second-cap}
 use Rattle.sheet_reader.proofs.line_groups.entries.Statement.{statement}
 use Rattle.sheet_reader.proofs.line_groups.entries.Tie as tie
 
@@ -21,6 +21,6 @@ add-row : tie.Need-add-row Inv-loop μ-loop
 add-row c = record { fits = omega (arith, second-cap _ _ _ _ c.before.before.pair-line.ensures) }
 
 pub entries-spec : {M : Type 1} → statement M
-entries-spec = tie.close (tie.spec Inv-loop μ-loop loop-holds (λ c. search entries-refused) (λ c. search needs)
-    (λ c κs. search needs) (λ c. search entries-other) (λ c. search needs) (λ c κs. search needs) (λ c κs. search needs)
-    add-row (λ c. search needs) (λ c. search needs) (λ c. search entries-next) (λ c. search entries-end))
+entries-spec = tie.close (tie.spec Inv-loop μ-loop loop-holds (λ c. entries-past _ _ _ _ _ _ _ (search entries-refused)) (λ c. search needs)
+    (λ c κs. search needs) (λ c. entries-past _ _ _ _ _ _ _ (search entries-other)) (λ c. search needs) (λ c κs. search needs) (λ c κs. search needs)
+    add-row (λ c. search needs) (λ c. search needs) (λ c. search entries-next) (λ c. entries-past _ _ _ _ _ _ _ (search entries-end)))

@@ -1,15 +1,15 @@
 -- `sheet_reader::line_groups::row_words`: the lines that are left still end as the whole row does.
 use Prim.Native.Nat.{_-_}
 use borrow.Author.Needs.{needs}
+use Rattle.sheet.specs.Line.{wordLine}
 use Rattle.sheet.specs.Run.{linesOf, rowFrom, prescribedVerdict, wordIn}
-use Rattle.sheet_reader.specs.line_verdict.Words.{lineOf}
 use Rattle.sheet_reader.proofs.line_verdict.Runs.{Row, row-starts, row-refused, row-next, row-ends}
 use Rattle.sheet_reader.proofs.line_groups.row_words.Statement.{statement}
 use Rattle.sheet_reader.proofs.line_groups.row_words.Tie as tie
 
 abbrev Inv-loop : tie.InvT-loop
 Inv-loop s t numbers row width d₀ col₀ d col =
-    Row (lineOf numbers t s) prescribedVerdict wordIn (linesOf (lineOf numbers t s) prescribedVerdict wordIn (rowFrom row 0 width) d₀ .past) row col width d
+    Row (wordLine numbers t s) prescribedVerdict wordIn (linesOf (wordLine numbers t s) prescribedVerdict wordIn (rowFrom row 0 width) d₀ .past) row col width d
 
 abbrev μ-loop : tie.MeasureT-loop
 μ-loop s t numbers row width d₀ col₀ d col = width - col

@@ -8,8 +8,9 @@ use Rattle.sheet.specs.declared.Size.{Size}
 use Rattle.sheet.specs.Line.{sizeLine, tab, lf, sizeTag, tagTo, numberTo}
 use Rattle.sheet_reader.proofs.size_line.size_line.Statement.{statement}
 use Rattle.sheet_reader.proofs.size_line.size_line.Tie as tie
+use Rattle.sheet.proofs.Made.{countsWith}
 
-counts : (s : List ℕ) (at : ℕ) (t n p q k f : Field) → t ≡ tagTo sizeTag s at → n ≡ numberTo tab s (t .next) → p ≡ numberTo tab s (n .next) → q ≡ numberTo tab s (p .next) → k ≡ numberTo tab s (q .next) → f ≡ numberTo lf s (k .next) → _≡_ {A = Size} (record { counts = record { n = n .value; p = p .value; q = q .value; k = k .value; flag = f .value }; next = f .next }) (sizeLine s at)
+counts : (s : List ℕ) (at : ℕ) (t n p q k f : Field) → t ≡ tagTo sizeTag s at → n ≡ numberTo tab s (t .next) → p ≡ numberTo tab s (n .next) → q ≡ numberTo tab s (p .next) → k ≡ numberTo tab s (q .next) → f ≡ numberTo lf s (k .next) → _≡_ {A = Size} (record { counts = countsWith (n .value) (p .value) (q .value) (k .value) (f .value); next = f .next }) (sizeLine s at)
 unfolding sizeLine
 counts s at t n p q k f e₀ e₁ e₂ e₃ e₄ e₅ = cc
 

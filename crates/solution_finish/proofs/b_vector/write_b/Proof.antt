@@ -2,7 +2,6 @@
 use Prim.Native.Nat.{_-_, _<_}
 use borrow.Author.Needs.{needs}
 use native.Mathlib.Omega.{arith}
-use Rattle.block_places.proofs.block_kinds.Workspace.{fits-valid}
 use Rattle.solution_vectors.proofs.Vectors.{Blockwise, blockwise-none, blockwise-all}
 use Rattle.solution_vectors.specs.result_places.Places.{bAt}
 use Rattle.solution_finish.specs.b_vector.Effects.{effectBlock, effectBlocks}
@@ -18,12 +17,12 @@ abbrev μ-loop : tie.MeasureT-loop
 
 loop-holds : tie.Need-loop-holds Inv-loop μ-loop
 loop-holds c = let s = c.before.before.before in
-    blockwise-none (fits-valid s.args.heading.now s.args.doubles.now s.args.layout s.pre.0 s.pre.1) (omega (arith, s.pre.2))
+    blockwise-none s.pre.0.valid (omega (arith, s.pre.1))
 
 loop-again : tie.Need-loop-again Inv-loop μ-loop
 loop-again c = let s = c.before.before.before.before.before.before.before.before.before.before in
     let l = c.before.before.before.before.before.before.loop in let t : l .j < s .args .layout .k = omega arith in
-    b-more s.args.layout (fits-valid s.args.heading.now s.args.doubles.now s.args.layout s.pre.0 s.pre.1) s.args.heading.now s.args.doubles.now l.inv t c.before.before.scale-block.ensures
+    b-more s.args.layout s.pre.0.valid s.args.heading.now s.args.doubles.now l.inv t c.before.before.scale-block.ensures
 
 returns : tie.Need-returns Inv-loop μ-loop
 unfolding effectBlocks

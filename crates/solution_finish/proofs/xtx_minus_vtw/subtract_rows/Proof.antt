@@ -14,7 +14,7 @@ abbrev μ-loop : tie.MeasureT-loop
 μ-loop y h w v₀ p i₀ v i = p - i
 
 subtract-row-requires : tie.Need-subtract-row-requires Inv-loop μ-loop
-subtract-row-requires c κs = let s = c.before.before.before.before.before.before in (s.pre.0, s.pre.1, omega arith, c.before.before.loop.inv.1)
+subtract-row-requires c κs = let s = c.before.before.before.before.before.before in (s.pre.0, omega arith, c.before.before.loop.inv.1)
 
 loop-again : tie.Need-loop-again Inv-loop μ-loop
 loop-again c = (omega arith, c.before.before.subtract-row.ensures)
@@ -25,5 +25,5 @@ returns c = let i = c.before.loop.i in
     rw e at c.before.loop.inv.1
 
 pub subtract-rows-spec : {M : Type 1} → statement M
-subtract-rows-spec = tie.close (tie.spec Inv-loop μ-loop (λ c. (refl, c.before.before.before.pre.2)) subtract-row-requires
+subtract-rows-spec = tie.close (tie.spec Inv-loop μ-loop (λ c. (refl, c.before.before.before.pre.1)) subtract-row-requires
     (λ c. omega arith) (λ c. omega arith) loop-again (λ c. c.before.loop.inv.0) returns)

@@ -8,11 +8,11 @@ use Rattle.step.proofs.apply_step.apply_subtract.Tie as tie
 
 target-place-requires : tie.Need-target-place-requires
 target-place-requires c κs = let s = c.before.before.before.before.before.before in let a = s.args in
-    let k = few a.heading.now a.doubles.now a.layout a.progress s.pre.0 s.pre.1 in let n = s.pre.2.2 in (s.pre.2.1, omega arith)
+    let k = few a.heading.now a.doubles.now a.layout a.progress s.pre.0 in let n = s.pre.1.2 in (s.pre.1.1, omega arith)
 
 returns : tie.Need-returns
 returns c = let s = c.before.before.before.before.before.before.before.before in let a = s.args in
-    subtract-applied a.heading.now a.doubles.now a.layout a.progress s.pre.0 s.pre.1 _ c.mark.ensures a.i a.j a.x s.pre.2 c.before.target-place.ensures.0 refl c.before.before.before.before.subtract.ensures
+    subtract-applied a.heading.now a.doubles.now a.layout a.progress s.pre.0 _ c.mark.ensures a.i a.j a.x s.pre.1 c.before.target-place.ensures.0 refl c.before.before.before.before.subtract.ensures
 
 pub apply-subtract-spec : {M : Type 1} → statement M
 apply-subtract-spec = tie.close (tie.spec (λ c κs. search needs) target-place-requires (λ c. search needs)

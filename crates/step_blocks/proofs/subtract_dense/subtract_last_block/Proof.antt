@@ -6,7 +6,7 @@ use Rattle.step_blocks.proofs.subtract_dense.subtract_last_block.Tie as
 
 subtract-last-requires : tie.Need-subtract-last-requires
 subtract-last-requires c κs = let s = c.before.before.before.before in let a = s.args in
-    rw (c.before.before.block.ensures, c.before.block2.ensures) (last-ready a.layout s.pre.0 _ s.pre.1 (λ x. 0) a.x s.pre.2)
+    rw (c.before.before.block.ensures, c.before.block2.ensures) (last-ready a.layout s.pre.0.valid _ s.pre.0.room (λ x. 0) a.x s.pre.1)
 
 returns : tie.Need-returns
 returns c = rw (c.before.before.before.before.before.block.ensures, c.before.before.before.before.block2.ensures) at c.before.before.subtract-last.ensures

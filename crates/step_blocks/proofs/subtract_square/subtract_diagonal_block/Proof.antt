@@ -6,7 +6,7 @@ use Rattle.step_blocks.proofs.subtract_square.subtract_diagonal_block.T
 
 rank-sub-diagonal-requires : tie.Need-rank-sub-diagonal-requires
 rank-sub-diagonal-requires c κs = let s = c.before.before.before.before.before in let a = s.args in
-    rw (c.before.before.before.block.ensures, c.before.before.block2.ensures, c.before.loaded-at.ensures) (diagonal-ready a.layout s.pre.0 _ s.pre.1 (λ x. 0) s.pre.2 s.pre.3 s.pre.4)
+    rw (c.before.before.before.block.ensures, c.before.before.block2.ensures, c.before.loaded-at.ensures) (diagonal-ready a.layout s.pre.0.valid _ s.pre.0.room (λ x. 0) s.pre.1 s.pre.2 s.pre.3)
 
 returns : tie.Need-returns
 returns c = rw (c.before.before.before.before.before.before.block.ensures, c.before.before.before.before.before.block2.ensures, c.before.before.before.before.loaded-at.ensures) at c.before.before.rank-sub-diagonal.ensures

@@ -3,7 +3,6 @@ use borrow.Author.Needs.{needs}
 use Prim.Native.Nat.{_-_}
 use mathlib.Core.Path.{refl}
 use native.Mathlib.Omega.{arith}
-use Rattle.block_places.proofs.block_kinds.Workspace.{fits-valid}
 use Rattle.solution_vectors.proofs.solve_laws.Folds.{Backward, backward-start, backward-more, backward-end}
 use Rattle.triangular_solves.proofs.backward_solve.backward_block.Statement.{statement}
 use Rattle.triangular_solves.proofs.backward_solve.backward_block.Tie as tie
@@ -16,7 +15,7 @@ abbrev μ-loop : tie.MeasureT-loop
 
 loop-holds : tie.Need-loop-holds Inv-loop μ-loop
 loop-holds c = let s = c.before.before.before in
-    backward-start _ _ (fits-valid _ s.args.doubles.now _ s.pre.0 s.pre.1) s.pre.2 s.pre.3 refl
+    backward-start _ _ s.pre.0.valid s.pre.1 s.pre.2 refl
 
 loop-again : tie.Need-loop-again Inv-loop μ-loop
 loop-again c =
@@ -24,7 +23,7 @@ loop-again c =
 
 returns : tie.Need-returns Inv-loop μ-loop
 returns c = let s = c.before.before.before.before.before.before.before.before.before.before in
-    backward-end _ _ s.pre.0 c.before.before.before.before.before.before.loop.inv (omega arith) c.before.before.backward-in.ensures
+    backward-end _ _ s.pre.0.same c.before.before.before.before.before.before.loop.inv (omega arith) c.before.before.backward-in.ensures
 
 pub backward-block-spec : {M : Type 1} → statement M
 backward-block-spec = tie.close (tie.spec Inv-loop μ-loop (λ c. search needs) loop-holds (λ c κs. search needs)

@@ -1,7 +1,6 @@
 -- `triangular_solves::backward_solve::backward_solve_ld`: the blocks from i on are solved.
 use borrow.Author.Needs.{needs}
 use native.Mathlib.Omega.{arith}
-use Rattle.block_places.proofs.block_kinds.Workspace.{fits-valid}
 use Rattle.solution_vectors.proofs.solve_laws.Solves.{BackwardTurns, backward-begin, backward-turn, backward-result}
 use Rattle.triangular_solves.proofs.backward_solve.backward_solve_ld.Statement.{statement}
 use Rattle.triangular_solves.proofs.backward_solve.backward_solve_ld.Tie as tie
@@ -14,11 +13,11 @@ abbrev μ-loop : tie.MeasureT-loop
 
 loop-holds : tie.Need-loop-holds Inv-loop μ-loop
 loop-holds c = let s = c.before.before.before in
-    backward-begin _ _ (fits-valid _ s.args.doubles.now _ s.pre.0 s.pre.1) s.pre.2
+    backward-begin _ _ s.pre.0.valid s.pre.1
 
 loop-again : tie.Need-loop-again Inv-loop μ-loop
 loop-again c = let s = c.before.before.before.before.before.before.before.before.before in
-    backward-turn _ _ s.pre.0 c.before.before.before.before.before.loop.inv (omega arith) c.before.before.backward-block.ensures
+    backward-turn _ _ s.pre.0.same c.before.before.before.before.before.loop.inv (omega arith) c.before.before.backward-block.ensures
 
 returns : tie.Need-returns Inv-loop μ-loop
 returns c = backward-result _ _ c.before.loop.inv (omega arith)

@@ -2,7 +2,6 @@
 use borrow.Author.Needs.{needs}
 use Prim.Native.Nat.{_-_}
 use native.Mathlib.Omega.{arith}
-use Rattle.block_places.proofs.block_kinds.Workspace.{fits-valid}
 use Rattle.solution_vectors.proofs.solve_laws.Folds.{Forward, forward-start, forward-more, forward-end}
 use Rattle.triangular_solves.proofs.forward_solve.forward_block.Statement.{statement}
 use Rattle.triangular_solves.proofs.forward_solve.forward_block.Tie as tie
@@ -15,7 +14,7 @@ abbrev μ-loop : tie.MeasureT-loop
 
 loop-holds : tie.Need-loop-holds Inv-loop μ-loop
 loop-holds c = let s = c.before.before.before in
-    forward-start _ _ (fits-valid _ s.args.doubles.now _ s.pre.0 s.pre.1) s.pre.2 s.pre.3
+    forward-start _ _ s.pre.0.valid s.pre.1 s.pre.2
 
 loop-again : tie.Need-loop-again Inv-loop μ-loop
 loop-again c =
@@ -23,7 +22,7 @@ loop-again c =
 
 returns : tie.Need-returns Inv-loop μ-loop
 returns c = let p = c.before.before.before.before.before.before.before.before.before.pre in
-    forward-end _ _ p.0 c.before.before.before.before.before.loop.inv (omega arith) c.before.before.forward-in.ensures
+    forward-end _ _ p.0.same c.before.before.before.before.before.loop.inv (omega arith) c.before.before.forward-in.ensures
 
 pub forward-block-spec : {M : Type 1} → statement M
 forward-block-spec = tie.close (tie.spec Inv-loop μ-loop loop-holds (λ c κs. search needs) (λ c. search needs)

@@ -2,7 +2,6 @@
 use borrow.Author.Needs.{needs}
 use Prim.Native.Nat.{_-_}
 use native.Mathlib.Omega.{arith}
-use Rattle.block_places.proofs.block_kinds.Workspace.{fits-valid}
 use Rattle.solution_vectors.proofs.solve_laws.Solves.{ForwardTurns, forward-begin, forward-turn, forward-result}
 use Rattle.triangular_solves.proofs.forward_solve.forward_solve_ld.Statement.{statement}
 use Rattle.triangular_solves.proofs.forward_solve.forward_solve_ld.Tie as tie
@@ -15,11 +14,11 @@ abbrev μ-loop : tie.MeasureT-loop
 
 loop-holds : tie.Need-loop-holds Inv-loop μ-loop
 loop-holds c = let s = c.before.before.before in
-    forward-begin _ _ (fits-valid _ s.args.doubles.now _ s.pre.0 s.pre.1) s.pre.2
+    forward-begin _ _ s.pre.0.valid s.pre.1
 
 loop-again : tie.Need-loop-again Inv-loop μ-loop
 loop-again c = let s = c.before.before.before.before.before.before.before.before.before.before in
-    forward-turn _ _ s.pre.0 c.before.before.before.before.before.before.loop.inv c.before.before.before.before.if1.taken c.before.before.forward-block.ensures
+    forward-turn _ _ s.pre.0.same c.before.before.before.before.before.before.loop.inv c.before.before.before.before.if1.taken c.before.before.forward-block.ensures
 
 returns : tie.Need-returns Inv-loop μ-loop
 returns c = forward-result _ _ c.before.before.loop.inv (omega arith)
