@@ -19,6 +19,7 @@ use Rattle.workspace.specs.Answers.{Outcome, workspace}
 use Rattle.update.specs.declared.StepName.the-variants.{S as Subtract, C as Factor, T as Solve}
 use Rattle.update.specs.Names.{stepOfName}
 use Rattle.update.specs.Compute.{steps}
+use Rattle.update.specs.Working.{logged}
 use Rattle.update.specs.Calls.{beginOf, stepOf, runOf}
 use Rattle.layout.proofs.Made.{layoutWith}
 
@@ -95,6 +96,11 @@ nine-left = refl
 first-factor : words (workingBlock (done (C 0 ∷ []) .left .heading) (done (C 0 ∷ []) .left .doubles) 0 0) ≡ 0x40094c583ada5b53 ∷ 0x40094c583ada5b53 ∷ []
 unfolding done words
 first-factor = refl
+
+-- C(2), of the last block, adds no logarithms, whatever its factor
+last-adds-none : (s : Float) (f : List Float) → logged layout (λ c. 0) (λ r c. true) 2 s f ≡ s
+unfolding logged
+last-adds-none s f = refl
 
 -- Block 1 keeps 5 - 7.2, which is refused: 26 at block 1, row 0, and progress none. What it leaves is cleared.
 refused : refusalOf (done (rustOrder 2) .answer) ≡ record { number = 26; first = 1; second = 0 }
