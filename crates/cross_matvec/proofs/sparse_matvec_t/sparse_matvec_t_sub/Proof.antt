@@ -26,16 +26,15 @@ loop-holds : tie.Need-loop-holds Inv-loop μ-loop
 loop-holds c = filling-none _ _ _ _ c.before.before.before.pre.0.cols
 
 loop-again : tie.Need-loop-again Inv-loop μ-loop
-loop-again c = let s = c.before.before.before.before.before.before.before.before.before.before.before.before in let k = c.before.before.before.before.wide in
-    sparse-subtracted _ _ _ _ _ _ s.pre.0 (omega (arith, start-single s.args.a.cols)) c.before.before.before.before.before.before.before.before.loop.inv c.before.before.before.before.before.before.if1.taken k.result (below c.before.before.before.before) k.ensures
+loop-again c = let s = c.before.before.before.before.before.before.before.before.before.before.before.before.before in let k = c.before.before.before.before.before.wide in
+    rw c.before.before.before.value.ensures
+    (sparse-subtracted _ _ _ _ _ _ s.pre.0 (omega (arith, start-single s.args.a.cols)) c.before.before.before.before.before.before.before.before.before.loop.inv c.before.before.before.before.before.before.before.if1.taken k.result (below c.before.before.before.before.before) k.ensures)
 
 returns : tie.Need-returns Inv-loop μ-loop
 returns c = filling-done c.before.before.loop.inv (omega arith)
 
 pub sparse-matvec-t-sub-spec : {M : Type 1} → statement M
 sparse-matvec-t-sub-spec = tie.close (tie.spec Inv-loop μ-loop loop-holds (λ c. omega arith) (λ c. omega arith) (λ c κs. tt)
-    (λ c. omega arith) (λ c. omega arith) (λ c. omega (arith, start-single c.before.before.before.before.before.before.before.before.before.before.args.a.cols))
-    (λ c. omega (arith, below c.before.before)) (λ c. omega (arith, below c.before.before))
-    (λ c. omega (arith, below c.before.before.before)) (λ c. omega arith) (λ c. omega arith) (λ c. omega arith)
+    (λ c κs. omega (arith, below c.before)) (λ c. omega arith) (λ c. omega arith) (λ c. omega (arith, start-single c.before.before.before.before.before.before.before.before.before.before.before.before.args.a.cols)) (λ c. omega arith) (λ c. omega arith) (λ c. omega arith)
     (λ c. omega arith) (λ c. omega arith) (λ c. omega arith) (λ c. omega arith) (λ c. omega arith) loop-again
     (λ c. omega arith) returns)
