@@ -29,17 +29,19 @@ doubles of a result list, numbered through; a call is lent the first of each.  A
      4 to 6  the lengths of the lists: theta, or Z'y, X'y, y'y, or the result list
      7, 8    how many numbers and doubles are lent
      9       how many words follow
-    10, 11   from where to before where, counted from word 0, the words are lines any of which number 9 may name
-    then     the lists; or the sheet's bytes, eight to a word, the first highest, noughts behind, and those lines; or places and words by turns
+    then     the lists; or the sheet's bytes, eight to a word, the first highest, noughts behind; or places and words by turns
 
 What is printed of a call: a line with word 0, how the answer stands (0 accepted, 1 refused, 2 a value, 3 a refused pivot of
-profile_deviance, 4 no scale, 5 a solution), the refusal's number and places (0 for the first where it is one of the lines; 26, block and row of that
-pivot) and the word of the value or of the deviance; of a solution then a line with the word of sigma2; then a line for each number and double that
-is other than before, with its place and its word.  An alteration has only the latter.
+profile_deviance, 4 no scale, 5 a solution), the refusal's number and places (26, block and row of that pivot) and the word of the value or of the
+deviance; of a solution then a line with the word of sigma2; then a line for each number and double that is other than before, with its place and
+its word.  An alteration has only the latter.
 
 The word 10 ends this part.  In the second the calls are on a workspace of 3 by 33,334 cells, one entry in each column, too large for a list: its
 heading and its loaded doubles follow a rule, and behind each call's line stands a sum over all numbers and doubles, of a solve over the numbers and
 a result list that was +0.0.
+
+The word 10 ends that part too.  In the third load is tried on sheets of 65,540 rows, too long for a list: all but their zz lines follow a rule.  A
+sheet is the word 1, the count of its zz entries, and column, row and word of each.  Each must be refused; its call's line is all that is printed.
 """
 import math
 import os
@@ -51,7 +53,6 @@ import sys
 sys.path.insert(0, os.path.dirname(os.path.abspath(__file__)))
 import sheet_list
 
-HEAD = 12
 NUMBERS, DOUBLES, RESULTS = 1024, 8192, 4096
 NAN = 0x7FF8000000000000
 TWO_PI = struct.unpack(">d", bytes.fromhex("401921fb54442d18"))[0]
@@ -711,23 +712,21 @@ class Output:
         self.lines = []
         self.memory = []
 
-    def head(self, kind, numbers, lengths, lent, body, lines=()):
+    def head(self, kind, numbers, lengths, lent, body):
         numbers, lengths = list(numbers), list(lengths)
         numbers += [0] * (3 - len(numbers))
         lengths += [0] * (3 - len(lengths))
-        end = HEAD + len(body)
-        self.words += [kind, *numbers, *lengths, *lent, len(body) + len(lines), end, end + len(lines), *body, *lines]
+        self.words += [kind, *numbers, *lengths, *lent, len(body), *body]
 
     def answer(self, kind, how, places, value, *behind):
         self.lines.append("%d %d %d %d %d %016x\n" % (kind, how, *places, value))
         self.lines += [" %016x\n" % x for x in behind]
 
-    def load(self, text, room, answer, lines=()):
+    def load(self, text, room, answer):
         self.memory = [sheet_list.PATTERN_U32] * NUMBERS + [sheet_list.PATTERN_F64] * (DOUBLES + RESULTS)
         body = [int.from_bytes(text[i:i + 8].ljust(8, b"\0"), "big") for i in range(0, len(text), 8)]
-        self.head(LOAD, [len(text)], [], room, body, lines)
-        number, first, second = answer
-        self.answer(LOAD, int(number != 0), (number, 0 if lines else first, second), 0)
+        self.head(LOAD, [len(text)], [], room, body)
+        self.answer(LOAD, int(answer[0] != 0), answer, 0)
 
     def call(self, kind, numbers, lists, lent, answer):
         self.head(kind, numbers, [len(l) for l in lists], lent, [x for l in lists for x in l])
@@ -752,7 +751,7 @@ class Output:
 
 def write_sheet(out, c):
     """A case of sheet_list.py: load, and perhaps replace_response behind alterations of the heading."""
-    out.load(c.text, c.room, c.answer, c.lines)
+    out.load(c.text, c.room, c.answer)
     out.left(dict(enumerate(c.heading)), dict(enumerate(c.doubles)))
     if not c.after:
         return
@@ -1252,6 +1251,8 @@ def main():
         c.write(out)
     out.words.append(END)
     large(out)
+    out.words.append(END)
+    long_sheets(out)
     with open(sys.argv[1], "w") as f:
         f.writelines("%016x\n" % w for w in out.words)
     with open(sys.argv[2], "w") as f:
@@ -1417,6 +1418,56 @@ def large(out):
     line(RESPONSE, w.call_response(response), (), response)
     line(PROFILE, w.call_profile(theta, 1), (1,), [theta])
     solution(1)
+
+
+def long_sheets(out):
+    """Blocks of 65,535 and 5 levels.  The proved search for faulty zz lines goes by groups of 65,536 columns, and an entry is in the group of its
+    smaller index: in the second are entries of the last block alone."""
+    sizes = [65535, 5]
+    q = sum(sizes)
+    good = {(i, i): i + 1.0 for i in (0, 3, 65534, 65535, 65536, 65537, 65539)}
+    for c, r in ((0, 65535), (3, 65536), (3, 65538), (65534, 65539)):
+        good[c, r] = good[r, c] = 0.5 * c + r
+
+    def case(first, changed, *absent):
+        """Entries of `good` changed or more, some left out; `first` is the one whose line is named."""
+        zz = {e: x for e, x in {**good, **changed}.items() if e not in absent}
+        c = sheet_list.Case(sheet(9, sizes, zz, [[1.0]] * q, [1.0] * q, [[1.0]], [1.0], 1.0))
+        assert c.answer == ((9, c.sheet.zz_line[first], 0) if first else (11, 1, 0))
+        out.words += [1, len(zz)]
+        for e, x in sorted(zz.items()):
+            out.words += [*e, bits(x)]
+        out.answer(LOAD, REFUSED, c.answer, 0)
+
+    # no fault: the gate by counts refuses these
+    case(None, {}, *good)
+    case(None, {})
+
+    # faults in the first group alone: zeros, a missing mirror on either side, unequal bits, inside the last block at the group's last column
+    case((0, 0), {(0, 0): 0.0})
+    case((0, 65535), {(0, 65535): 0.0, (65535, 0): -0.0})
+    case((65539, 65534), {}, (65534, 65539))
+    case((3, 65536), {}, (65536, 3))
+    case((3, 65538), {(65538, 3): bits(good[3, 65538]) ^ 1})
+    case((65535, 65536), {(65535, 65536): 2.0})
+    case((65536, 65535), {(65536, 65535): 2.0})
+
+    # in the second alone
+    case((65536, 65536), {(65536, 65536): 0.0})
+    case((65539, 65539), {(65539, 65539): -0.0})
+    case((65536, 65538), {(65536, 65538): 2.0, (65538, 65536): 2.0})
+    case((65538, 65536), {(65538, 65536): 2.0})
+
+    # in both, the second group's line before those of the first
+    case((65536, 65536), {(65536, 65536): -0.0}, (3, 65538))
+    case((65536, 65539), {(65536, 65539): 2.0, (65538, 65535): 2.0})
+    case((65537, 65537), {(65537, 65537): 0.0}, (3, 65538), (65534, 65539))
+
+    # in both, the first group's line before those of the second
+    case((0, 0), {(0, 0): -0.0, (65537, 65537): 0.0})
+    case((65536, 3), {(65536, 65536): 0.0}, (3, 65536))
+    case((65537, 65535), {(65537, 65535): 2.0, (65537, 65536): 2.0, (65539, 65539): 0.0})
+    case((3, 65538), {(65536, 65539): 2.0, (65537, 65537): -0.0}, (65538, 3), (65534, 65539))
 
 
 if __name__ == "__main__":

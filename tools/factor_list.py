@@ -19,19 +19,15 @@ Square roots are math.sqrt, which rounds correctly.  The inputs are the sheets o
 simulated readings, and of drawn words, of one to eight blocks; sheets with pivots refused in each block; theta lines damaged field by field,
 missing, left over; and the sizes on either side of what the program holds, 32,768 bytes and 4,096 doubles.
 
-The stored list was held to the Rust original: of its 565 inputs without another refusal, 278 have the original's pivots and 280 its refused
-pivot, bit for bit; seven differ, all with a diagonal block 1, where the original's `rank_sub_diagonal` leaves out S(1,1,0) (a difference that
+The stored list was held to the Rust original: of its 579 inputs without another refusal, 278 have the original's pivots and 295 its refused
+pivot, bit for bit; six differ, all with a diagonal block 1, where the original's `rank_sub_diagonal` leaves out S(1,1,0) (a difference that
 docs/DIFFERENCES.md lists), and they are the original's pivots once `Original` below leaves it out too.
-
-Number 9 names one faulty line of the sheet's: where there are several, a text for each is behind the input, and if one of them is printed, the
-program prints `one of` and how many they are in its place.
 
 STDIN is lines of 16 lower-case hexadecimal digits, a word each.  A case is
 
     how many bytes of the input before begin this input too
     where this input ends, how many words follow, and the words: its bytes behind those, eight to a word, the first highest; the last word is
              taken over and over to the end
-    the texts, where there are several, in the same form: 32 bytes for each, noughts behind; else 0 and 0
 """
 import os
 import random
@@ -46,8 +42,8 @@ from call_list import pair, sheet, simulated, wild
 from sheet_list import Refused, bits, join, symmetric
 
 BYTES, DOUBLES = 32768, 4096
-# as the program has them: the bytes of the longest input, of each text where several serve, and of all these texts
-ROOM, PLACE, TEXTS = 65536, 32, 512
+# as the program has it: the bytes of the longest input
+ROOM = 65536
 
 
 # ---- what the program must print
@@ -79,7 +75,7 @@ def theta_part(text, at, k):
 
 
 def factor(text, arithmetic=call_list.Workspace):
-    """Number of the refusal, or 0, and the outputs that serve."""
+    """Number of the refusal, or 0, and the output."""
     try:
         if len(text) > BYTES:
             raise Refused(12)
@@ -97,10 +93,9 @@ def factor(text, arithmetic=call_list.Workspace):
         for i, w in enumerate(theta):
             if sheet_list.infinite(w):
                 raise Refused(14, 0, i)
-        return 0, [pivots(own, theta, arithmetic)]
+        return 0, pivots(own, theta, arithmetic)
     except Refused as r:
-        number, first, second = r.answer
-        return number, [b"refused\t%d\t%d\t%d\n" % (number, line, second) for line in (r.lines or [first])]
+        return r.answer[0], b"refused\t%d\t%d\t%d\n" % r.answer
 
 
 def pivots(own, theta, arithmetic):
@@ -127,14 +122,13 @@ class Case:
 
     def __init__(self, given, byte=0, times=0):
         self.text = given + bytes([byte]) * times
-        self.number, self.outputs = factor(self.text)
+        self.number, self.output = factor(self.text)
 
     def words(self, before):
         """The case's words, where `before` is the input of the case before."""
         kept = len(os.path.commonprefix([before, self.text]))
-        texts = self.outputs if len(self.outputs) > 1 else []
-        assert len(self.text) <= ROOM and all(len(o) < PLACE for o in texts) and len(texts) * PLACE <= TEXTS
-        return [kept] + packed(self.text, kept) + packed(b"".join(o.ljust(PLACE, b"\0") for o in texts), 0)
+        assert len(self.text) <= ROOM
+        return [kept] + packed(self.text, kept)
 
 
 def packed(text, kept):
@@ -394,13 +388,13 @@ def original(driver):
         told = run([driver, "pivots"], c.text)
         if c.number and told == b"err\n":
             told = run([driver, "place"], c.text)
-        if told == c.outputs[0]:
+        if told == c.output:
             same[c.number] += 1
-        elif told == factor(c.text, Original)[1][0]:
+        elif told == factor(c.text, Original)[1]:
             left_out.append(number)
         else:
             strange.append(number)
-            print("case %d: %r, and the original %r" % (number, c.outputs[0][:400], told[:400]))
+            print("case %d: %r, and the original %r" % (number, c.output[:400], told[:400]))
     print("pivots as in the original, bit for bit: %d; refused places: %d" % (same[0], same[26]))
     print("as in the original but for a diagonal subtraction that it leaves out: %d, cases %s" % (len(left_out), " ".join(map(str, left_out))))
     print("other cases: %d" % len(strange))
@@ -426,7 +420,7 @@ def write(stdin, stdout):
             f.writelines("%016x\n" % w for w in c.words(before))
             before = c.text
             told.write(b"input %d\n" % number)
-            told.write(b"one of %d\n" % len(c.outputs) if len(c.outputs) > 1 else c.outputs[0])
+            told.write(c.output)
 
 
 def replay(program):
@@ -438,9 +432,9 @@ def replay(program):
             f.write(c.text)
             f.seek(0)
             told = subprocess.run([program], stdin=f, capture_output=True).stdout
-        if told not in c.outputs:
+        if told != c.output:
             wrong += 1
-            print("case %d: %r for %r" % (number, told[:200], c.outputs[0][:200]))
+            print("case %d: %r for %r" % (number, told[:200], c.output[:200]))
     print("inputs %d of %d" % (len(all_cases) - wrong, len(all_cases)))
     return 1 if wrong else 0
 
@@ -454,7 +448,7 @@ def main():
         sys.exit(replay(sys.argv[2]))
     if sys.argv[1] == "--print":
         with open(sys.argv[2], "rb") as f:
-            sys.stdout.buffer.write(factor(f.read())[1][0])
+            sys.stdout.buffer.write(factor(f.read())[1])
         return
     write(sys.argv[1], sys.argv[2])
 

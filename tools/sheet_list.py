@@ -11,8 +11,8 @@ the original's folder, which is kept apart from this repository (call_list.py): 
 12,7 2 40 1 crossed; 20,5 3 60 2 nested; 5,20 2 60 3 nested; 9,9,4 2 50 4 crossed; 6 1 20 5 crossed; 40,30,20 3 60 6 crossed;
 3,2,2,1,1,1,1,1 1 30 7 crossed; 15,15 4 80 8 crossed --exact.
 
-How the cases are made.  `read`, `judge`, `lay` and `load` below are written from document 01 alone (Records 1 to 3, "Refused because of the
-input", number 20), as it reads: whole lines, split at tabs, dictionaries for the entries.  They share nothing with the proved reader.  Where
+How the cases are made.  `read`, `judge`, `lay` and `load` below are written from document 01 (Records 1 to 3, "Refused because of the input", number
+20) and document 02 (the line that 9 names, item 1) alone, as they read: whole lines, split at tabs, dictionaries for the entries.  They share nothing with the proved reader.  Where
 document 01 leaves the memory's order open, docs/DECISIONS.md has it (points 22 to 24).  The sheets are written here: a few whole ones, and from
 them, line by line and field by field, damaged ones.
 
@@ -20,6 +20,7 @@ A case: a sheet, the lengths of the heading and of the doubles that load is lent
 with a pattern before, and a refused call must leave it.  An accepted one may go on: numbers of the heading are altered, both
 slices are cut, and replace_response is called with three lists; what it must answer and leave follows.
 """
+import itertools
 import random
 import re
 import struct
@@ -32,11 +33,10 @@ PATTERN_F64 = 0x4045ABCDEF012345
 
 
 class Refused(Exception):
-    def __init__(self, number, *places, lines=()):
+    def __init__(self, number, *places):
         super().__init__(number)
         places = list(places) + [0, 0]
         self.answer = (number, places[0], places[1])
-        self.lines = list(lines)
 
 
 # ---- Record 1
@@ -151,7 +151,7 @@ def judge(s):
         if zero or inside or s.zz.get((row, col)) != w:
             faulty.append(s.zz_line[(col, row)])
     if faulty:
-        raise Refused(9, min(faulty), lines=sorted(faulty))
+        raise Refused(9, min(faulty))
 
 
 # ---- Record 2
@@ -255,7 +255,6 @@ class Case:
 
     def __init__(self, text, heading=None, doubles=None):
         self.text = text
-        self.lines = []
         self.answer = (0, 0, 0)
         self.heading = self.doubles = []
         self.after = None
@@ -269,7 +268,7 @@ class Case:
                 raise Refused(12)
             self.heading, self.doubles = load(self.sheet, self.layout)
         except Refused as r:
-            self.answer, self.lines = r.answer, r.lines
+            self.answer = r.answer
             if r.answer[0] != 12:
                 self.room = (130, 60)
 
@@ -326,6 +325,74 @@ def write(n, p, blocks, zz, rng, flag=1, q=None):
 
 def join(lines):
     return b"".join(l + b"\n" for l in lines)
+
+
+# Faults of number 9, each at the entry (c, r) of zz.
+
+def plus_zero(zz, at, sizes):
+    return {**zz, at: 0.0}
+
+
+def minus_zero(zz, at, sizes):
+    return {**zz, at: -0.0}
+
+
+def opposite_zeros(zz, at, sizes):
+    """The entry +0 and its mirror -0; on the diagonal -0."""
+    return {**zz, at: 0.0, at[::-1]: -0.0}
+
+
+def equal_zeros(zz, at, sizes):
+    """The entry and its mirror +0: equal bits, and two faults."""
+    return {**zz, at: 0.0, at[::-1]: 0.0}
+
+
+def last_bit(zz, at, sizes):
+    """A bit of the word is another: off the diagonal its mirror is at fault too."""
+    if at not in zz:
+        return plus_zero(zz, at, sizes)
+    return {**zz, at: (zz[at] if isinstance(zz[at], int) else bits(zz[at])) ^ 1}
+
+
+def absent(zz, at, sizes):
+    """The entry is left out: its mirror has none."""
+    return {e: w for e, w in zz.items() if e != at}
+
+
+def inside(zz, at, sizes):
+    """Two equal mirrors inside a block: the first of at least two levels that is not before the entry's, else the last such."""
+    starts = [sum(sizes[:b]) for b in range(len(sizes))]
+    wide = [b for b, m in enumerate(sizes) if m > 1]
+    if not wide:
+        return plus_zero(zz, at, sizes)
+    b = next((b for b in wide if starts[b] + sizes[b] > at[0]), wide[-1])
+    c, r = starts[b], starts[b] + sizes[b] - 1
+    return {**zz, (c, r): 3.0, (r, c): 3.0}
+
+
+def inside_alone(zz, at, sizes):
+    """The one above the diagonal of these two, without its mirror."""
+    two = inside(zz, at, sizes)
+    new = sorted(e for e in two if e not in zz)
+    return absent(two, new[0], sizes) if new else two
+
+
+FAULTS = (plus_zero, minus_zero, opposite_zeros, equal_zeros, last_bit, absent, inside, inside_alone)
+
+
+def one_of_each(zz, order, unequal):
+    """The three kinds of fault in this order of blocks 0 to 2, which have two levels each: a zero, an entry inside a block, one without its mirror."""
+    for b, kind in enumerate(order):
+        c = 2 * b
+        if kind == "zero":
+            zz[(c, c)] = -0.0
+        elif kind == "inside":
+            zz[(c, c + 1)] = zz[(c + 1, c)] = 2.0
+        elif unequal:
+            zz[(c, 5 if b < 2 else 1)] = 77.0
+        else:
+            del zz[(4, c) if b < 2 else (1, 4)]
+    return zz
 
 
 def symmetric(sizes, rng, density, one_each=False):
@@ -463,6 +530,32 @@ def cases(accepted):
         case(write(9, 1, [(3, 1), (2, 1)], {**base, e: 1.0, e[::-1]: 1.0}, rng))
         case(write(9, 1, [(3, 1), (2, 1)], {**base, e: 1.0}, rng))
     case(write(9, 1, [(3, 1), (2, 1)], {**base, (0, 1): 0.0, (4, 0): -0.0}, rng))
+
+    # the first of several faults: each fault at each entry where it is one, alone and with another behind or before it; the three kinds in each
+    # order; several at once, eight blocks too
+    own = random.Random(9)
+    sizes = [2, 1, 2]
+    several = symmetric(sizes, own, 1.0)
+    places = sorted(several)
+    each = [(at, fault) for at in places for fault in FAULTS if at[0] != at[1] or fault not in (last_bit, absent)]
+    for at, fault in each:
+        case(write(9, 1, [(m, 1) for m in sizes], fault(dict(several), at, sizes), own))
+    for at, fault in each:
+        other, then = own.choice(places), own.choice(FAULTS)
+        case(write(9, 1, [(m, 1) for m in sizes], then(fault(dict(several), at, sizes), other, sizes), own))
+    for sizes in ([2, 2, 2], [2, 2, 2, 1, 1, 1, 1, 1]):
+        full = {(c, r): float(1 + min(c, r)) for c in range(sum(sizes)) for r in range(sum(sizes)) if c == r or (c // 2 != r // 2 or min(c, r) > 5)}
+        for order in itertools.permutations(("zero", "inside", "mirror")):
+            for unequal in (False, True):
+                case(write(9, 1, [(m, 1) for m in sizes], one_of_each(dict(full), order, unequal), own))
+    for sizes in ([1] * 8, [2, 1, 3, 1, 2, 3, 1, 2], [9, 4]):
+        for many in (1, 2, 3, 5, 9):
+            for _ in range(3):
+                zz = symmetric(sizes, own, 0.4)
+                for _ in range(many):
+                    if zz:
+                        zz = own.choice(FAULTS)(zz, own.choice(sorted(zz)), sizes)
+                case(write(9, 1, [(m, 1) for m in sizes], zz, own))
 
     # zz lines out of sequence
     full = write(9, 1, [(3, 1), (2, 1)], base, rng)

@@ -1,8 +1,10 @@
 // Test program: replays a list of calls and prints what each answers and changes. Each call is given what the last left; printed are the answer, and
 // every number and double that is other than before; behind them, calls on a workspace that is too large for a list (module large_list), with a sum
-// over every number and double. The file stdout has what must be printed; tools/call_list.py made both.
+// over every number and double; and load of sheets that are too long for it (module long_sheets). The file stdout has what must be printed;
+// tools/call_list.py made both.
 mod call_list;
 mod large_list;
+mod long_sheets;
 
 use call_list::memory;
 use call_list::report;
@@ -171,8 +173,32 @@ fn replay_large(m: &mut [u64; 65536]) {
     large_lines(m, &mut h, &mut w);
 }
 
+// load of the long sheet that the list has next. What is lent is too short for it, so that nothing is loaded.
+fn long_line(m: &[u64; 65536], s: &mut [u8]) {
+    let mut h = [0u32; 130];
+    let mut w = [0f64; 60];
+    let n = size(long_sheets::put_sheet(s) as u64, s.len());
+    report::print(m, report::of_answer(load::load(&s[..n], &mut h, &mut w)));
+}
+
+// The list's third part, in which the word 1 stands before each sheet.
+fn long_lines(m: &[u64; 65536], s: &mut [u8; long_sheets::ROOM]) {
+    let mut n: u64 = 0;
+    while n < 1000000 && test_words::read_word().word == 1 {
+        long_line(m, s);
+        n += 1;
+    }
+}
+
+fn replay_long(m: &mut [u64; 65536]) {
+    let mut s = [0u8; long_sheets::ROOM];
+    m[0] = 8;
+    long_lines(m, &mut s);
+}
+
 fn main() {
     let mut m = [0u64; 65536];
     replay(&mut m);
     replay_large(&mut m);
+    replay_long(&mut m);
 }

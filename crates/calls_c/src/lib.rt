@@ -4,8 +4,8 @@ ghost use Prim.Native.Nat.{_≤_};
 ghost use lib.Dec.{eqb};
 ghost use lib.ListN.{length};
 ghost use Rattle.refusal.specs.Numbers.{refusalOf};
-ghost use Rattle.workspace.specs.Answers.{Outcome, workspace};
-ghost use Rattle.workspace.specs.Load.{Loads};
+ghost use Rattle.workspace.specs.Answers.{workspace};
+ghost use Rattle.workspace.specs.Load.{loadOf};
 ghost use Rattle.update.specs.Calls.{beginOf, stepOf};
 ghost use Rattle.update.specs.Names.{stepOfName};
 ghost use Rattle.profile.specs.Deviance.{devianceFromFactor, profileOf};
@@ -79,12 +79,9 @@ fn name(kind: u64, i: u64, j: u64, x: u64) -> StepName
 // load::load: a refusal's number, and 0 where the sheet is loaded.
 #[no_mangle]
 pub extern "C" fn husk_load(bytes: &[u8], heading: &mut [u32], doubles: &mut [f64]) -> u64
-    ensures { λ r. ⌜ ((o : Outcome) × (Loads (now (bytes .entry)) (now (heading .entry)) (now (doubles .entry)) o) × (r ≡ refusalOf (o .answer) .number) × (o .left ≡ workspace (now (heading .exit)) (now (doubles .exit)))) ⌝ }
+    ensures { λ r. ⌜ (r ≡ refusalOf (loadOf (now (bytes .entry)) (now (heading .entry)) (now (doubles .entry)) .answer) .number) × (loadOf (now (bytes .entry)) (now (heading .entry)) (now (doubles .entry)) .left ≡ workspace (now (heading .exit)) (now (doubles .exit))) ⌝ }
 {
-    match load::load(bytes, heading, doubles) {
-        Answer::Accepted => 0,
-        Answer::Refused(r) => r.number,
-    }
+    number(load::load(bytes, heading, doubles))
 }
 
 // begin::begin.

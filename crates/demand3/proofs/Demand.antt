@@ -4,6 +4,7 @@ use mathlib.Core.List.{List}
 use lib.Ieee.{Float}
 use Rattle.sheet.specs.Sheet.{Sheet}
 use Rattle.workspace.specs.Memory.{Workspace}
+use Rattle.workspace.specs.Load.{loadOf}
 use Rattle.book.specs.Calls.{Call, leftBy}
 use Rattle.book.specs.Book.{Book, opened, bookAfter}
 use Rattle.demand3.specs.Demand.{Holds, Demand3}
@@ -33,5 +34,5 @@ holds sheet h w v here s calls =
 
 pub demand3 : Demand3
 unfolding Demand3
-demand3 bytes sheet starts h w o e l a calls =
-    holds sheet h w o.left (open-site bytes sheet starts h w o e l a) (open-invariant bytes sheet starts h w o e l a) calls
+demand3 bytes sheet starts h w e a calls =
+    holds sheet h w (loadOf bytes h w .left) (open-site bytes sheet starts h w e a) (open-invariant bytes sheet starts h w e a) calls

@@ -16,8 +16,7 @@ use Rattle.refusal.specs.declared.Answer.the-variants.{Accepted}
 use Rattle.layout.specs.Shapes.{sizes, loadedLength, workingAt, sumAt, doublesNeeded, shape, thetaAt, responseRow, thetaLength}
 use Rattle.heading_format.specs.Heading.{layoutOf, progressOf, stageOf, entryRow}
 use Rattle.workspace.specs.Memory.{Workspace, workingBlock, cellOf}
-use Rattle.workspace.specs.Answers.{Outcome}
-use Rattle.workspace.specs.Load.{Loads, headingOf}
+use Rattle.workspace.specs.Load.{loadOf, headingOf}
 use Rattle.update.specs.Calls.{stepOf, madeBy, sumBy}
 use Rattle.profile.specs.Deviance.{logDeterminant, lastBlockPivot}
 use Rattle.book.specs.Calls.{Call, called, refusalOf, replies, leftBy}
@@ -128,5 +127,5 @@ module _ (sheet : Sheet) where
 -- calls, refused ones included.
 unfoldable pub Demand3 : Type 0
 Demand3 =
-    (bytes : List ℕ) (sheet : Sheet) (starts : Starts) (h : List ℕ) (w : List Float) (o : Outcome)
-    → sheetOf bytes ≡ accepted sheet starts → Loads bytes h w o → o .answer ≡ Accepted → (calls : List Call) → Holds sheet h w (o .left) calls
+    (bytes : List ℕ) (sheet : Sheet) (starts : Starts) (h : List ℕ) (w : List Float)
+    → sheetOf bytes ≡ accepted sheet starts → loadOf bytes h w .answer ≡ Accepted → (calls : List Call) → Holds sheet h w (loadOf bytes h w .left) calls

@@ -2,14 +2,8 @@
 use Prim.Native.String.{String}
 use mathlib.Core.Path.{_≡_, refl}
 use mathlib.Core.List.{List, [], _∷_, _++_}
-use native.Mathlib.Omega.{arith}
 use lib.ListN.{replicate}
-use Rattle.sheet.specs.declared.Reading.the-variants.{Refused}
-use Rattle.sheet.specs.Text.{ended, with-line, reading}
-use Rattle.sheet.specs.Sheet.{readSheet}
-use Rattle.sheet.specs.Answer.{Answers}
-use Rattle.factor_output.specs.Print.{refusedLine}
-use Rattle.factor_output.specs.Program.{Prints, too-long}
+use Rattle.sheet.specs.Text.{ended, with-line}
 use Rattle.factor_output.specs.Worked.{sheetLines, thetaLines, outputLines}
 use Rattle.factor_output.specs.Compute.{printed}
 
@@ -97,11 +91,16 @@ sorted-blocks : printed (ended twoBlocks) ≡ ended twoPivots
 unfolding printed ended
 sorted-blocks = refl
 
--- flag 0 is 5, before the theta part is read
-flag-answers : Answers (readSheet (ended (with-line 1 "size 3 1 1 1 0" sheetLines))) (Refused 5 0)
-unfolding reading ended
-flag-answers = record { applies = omega arith; first = refl; names = refl }
+-- flag 0 is 5, before the theta part is read; 9 names its first line: entry (0, 1) of another value than its mirror, (1, 0)
+flag-zero : printed (ended (with-line 1 "size 3 1 1 1 0" sheetLines)) ≡ ended ("refused 5 0 0" ∷ [])
+unfolding printed ended
+flag-zero = refl
+
+first-faulty : printed (ended (with-line 7 "zz 1 0 4000000000000001" twoBlocks)) ≡ ended ("refused 9 5 0" ∷ [])
+unfolding printed ended
+first-faulty = refl
 
 -- more bytes than it holds is 12, whatever they are
-too-many : Prints (replicate 32769 0) (refusedLine 12 0 0)
-too-many = too-long refl
+too-many : printed (replicate 32769 0) ≡ ended ("refused 12 0 0" ∷ [])
+unfolding printed ended
+too-many = refl

@@ -1,7 +1,6 @@
 -- The program `factor` (document 01, "Worked sheets"): a sheet and k theta lines to its pivots, or to a refusal, which is then the only line.
-use Prim.Native.Nat.{ℕ, zero, suc, _+_}
-use mathlib.Core.Path.{_≡_}
-use mathlib.Core.Bool.{true, false, _&&_, cond}
+use Prim.Native.Nat.{ℕ, zero, suc}
+use mathlib.Core.Bool.{_&&_, cond}
 use mathlib.Core.List.{List, [], _∷_, _++_}
 use lib.Dec.{ltb, eqb}
 use lib.ListN.{length, replicate}
@@ -11,20 +10,17 @@ use Rattle.rules.specs.Arithmetic.{ieee}
 use Rattle.sheet.specs.declared.Cursor.{Cursor}
 use Rattle.sheet.specs.declared.Line.{Line}
 use Rattle.sheet.specs.declared.Starts.{Starts}
-use Rattle.sheet.specs.declared.Reading.{Reading}
-use Rattle.sheet.specs.declared.Reading.the-variants.{Sheet as Read, Refused as Unread}
 use Rattle.sheet.specs.Line.{tab, inForm, singleLine, Test, verdictOf}
 use Rattle.sheet.specs.Run.{Run, linesOf, rowsFrom}
-use Rattle.sheet.specs.Sheet.{accepted, refused, readSheet}
-use Rattle.sheet.specs.Sheet as Sheets
-use Rattle.sheet.specs.Answer.{Answers}
+use Rattle.sheet.specs.Sheet.{Sheet, Outcome, readSheet}
+use Rattle.sheet.specs.Fault.{faultNumber, faultyLine}
+use Rattle.sheet.specs.Answer.{checked}
 use Rattle.refusal.specs.declared.Refusal.{Refusal}
 use Rattle.refusal.specs.declared.Answer.{Answer}
 use Rattle.refusal.specs.declared.Answer.the-variants.{Accepted, Refused}
 use Rattle.layout.specs.Shapes.{shape}
 use Rattle.heading_format.specs.Heading.{layoutOf, entryRow}
 use Rattle.workspace.specs.Memory.{Workspace, cellOf, workingBlock}
-use Rattle.workspace.specs.Answers.{Outcome}
 use Rattle.workspace.specs.Loaded.{double}
 use Rattle.workspace.specs.Load.{loadSheet}
 use Rattle.update.specs.Working.{pivotCount}
@@ -99,19 +95,16 @@ abbrev pub afterLoad : Answer → Workspace → Counts → List ℕ → Starts �
 afterLoad Accepted v z s starts = afterTheta (thetaLines s (thetasDue z) (record { at = starts .end; line = starts .line; number = 0 })) s v (z .k)
 afterLoad (Refused r) v z s starts = printRefusal r
 
-abbrev pub afterSheet : Sheets.Outcome → List ℕ → List ℕ
-afterSheet (accepted sheet starts) s =
+abbrev pub afterSheet : Sheet → List ℕ → Starts → List ℕ
+afterSheet sheet s starts =
     let o = loadSheet sheet (replicate numbersHeld 0) (replicate doublesHeld (ieee .zero)) in
     afterLoad (o .answer) (o .left) (sheet .counts) s starts
-afterSheet (refused number line) s = refusedLine number line 0
 
--- what it prints for the input s, given what the sheet's reader answered
-unfoldable pub printOf : List ℕ → Reading → List ℕ
-unfolding readSheet loadSheet factorWith linesOf rowsFrom singleLine refusedLine
-printOf s (Unread number line) = refusedLine number line 0
-printOf s (Read starts) = afterSheet (readSheet s) s
+-- ---- the sheet, whose 1 to 9 come before load's 10 to 12
+abbrev pub afterRead : Outcome → List ℕ → List ℕ
+afterRead o s = checked (λ number line. refusedLine number line 0) (λ sheet starts. afterSheet sheet s starts) o
 
--- What it may print: more than it holds is 12; else one text, but for the line that 9 names.
-pub data Prints (s : List ℕ) : List ℕ → Type 0 where
-  too-long : ltb bytesHeld (length s) ≡ true → Prints s (refusedLine 12 0 0)
-  read : ltb bytesHeld (length s) ≡ false → (reading : Reading) → Answers (readSheet s) reading → Prints s (printOf s reading)
+-- WHAT IT PRINTS for the input s; more than it holds is 12
+unfoldable pub printOf : List ℕ → List ℕ
+unfolding readSheet faultNumber faultyLine loadSheet factorWith linesOf rowsFrom singleLine refusedLine
+printOf s = cond (ltb bytesHeld (length s)) (refusedLine 12 0 0) (afterRead (readSheet s) s)

@@ -1,6 +1,5 @@
-// Test program: gives each input of a list to `factor` and prints what that printed, byte for byte. Where the list has several texts of which any
-// serves, and one of them is what was printed, it prints how many they are instead. tools/factor_list.py made the list, and the file stdout, which
-// has what must be printed.
+// Test program: gives each input of a list to `factor` and prints what that printed, byte for byte. The file stdout has what must be printed;
+// tools/factor_list.py made both.
 ghost use Prim.Native.Nat.{_≤_};
 ghost use lib.ListN.{length};
 use libc::STDOUT_FILENO;
@@ -30,47 +29,19 @@ fn read_text(s: &mut [u8], from: usize) -> usize
     end
 }
 
-// Whether out begins with one of the texts in t, which have 32 bytes each, zeros behind.
-fn among(t: &[u8], out: &[u8; 131072]) -> bool {
-    let mut found = false;
-    let mut same = false;
-    let mut i: usize = 0;
-    while i < t.len() {
-        let k = i % 32;
-        same = (same | (k == 0)) & (t[i] == out[k]);
-        found = found | (same & (k == 31));
-        i += 1;
-    }
-    found
-}
-
-// A line of a word and a number.
-fn report(what: &[u8], x: u64) {
-    io::write_all(STDOUT_FILENO, what);
-    test_words::print_number(x);
+// The line with an input's number.
+fn report(number: u64) {
+    io::write_all(STDOUT_FILENO, b"input");
+    test_words::print_number(number);
     io::write_all(STDOUT_FILENO, b"\n");
 }
 
-// Prints the line with the input's number, and says whether what was printed is one of the next texts of the list, of which any serves; then it prints
-// how many they are. Behind what was printed out is zero.
-fn served(number: u64, out: &[u8; 131072]) -> bool {
-    let mut t = [0u8; 512];
-    let end = read_text(&mut t, 0);
-    let found = among(&t[..end], out);
-    report(b"input", number);
-    if found {
-        report(b"one of", (end / 32) as u64);
-    }
-    found
-}
-
-// What `factor` prints for an input.
+// What `factor` prints for an input, behind the line with its number.
 fn run(number: u64, input: &[u8]) {
     let mut out = [0u8; 131072];
     let n = factor_text::factor(input, &mut out);
-    if !served(number, &out) {
-        io::write_all(STDOUT_FILENO, &out[..n]);
-    }
+    report(number);
+    io::write_all(STDOUT_FILENO, &out[..n]);
 }
 
 // An input's first word says how many bytes it has in common with the one before, which s has. A proved loop has to end, and nothing says that a file

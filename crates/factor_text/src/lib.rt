@@ -12,7 +12,7 @@ ghost use lib.ListN.{length};
 ghost use Rattle.sheet.specs.Sheet.{Sheet, accepted, readSheet};
 ghost use Rattle.sheet.specs.Fault.{faultNumber};
 ghost use Rattle.workspace.specs.Answers.{workspace};
-ghost use Rattle.factor_output.specs.Program.{afterLoad, afterSheet};
+ghost use Rattle.factor_output.specs.Program.{afterLoad, afterRead};
 ghost use Rattle.factor_text.specs.refusal_text.Text.{Text};
 ghost use Rattle.factor_text.specs.Written.{Written};
 use heading_format::parts;
@@ -41,7 +41,7 @@ fn put_loaded(
 // A sheet that 1 to 9 do not refuse, on a heading and 4,096 doubles, all zero.
 fn put_sheet(bytes: &[u8], starts: Starts, out: &mut [u8]) -> usize
     requires { ⌜ ((sheet : Sheet) × (readSheet (now bytes) ≡ accepted sheet starts) × (faultNumber sheet ≡ 0)) × (131072 ≤ length (now out)) ⌝ }
-    ensures { λ n. ⌜ Text (afterSheet (readSheet (now (bytes .entry))) (now (bytes .entry))) n (now (out .entry)) (now (out .exit)) ⌝ }
+    ensures { λ n. ⌜ Text (afterRead (readSheet (now (bytes .entry))) (now (bytes .entry))) n (now (out .entry)) (now (out .exit)) ⌝ }
 {
     let mut h = [0u32; parts::HEADING_LENGTH];
     let mut w = [0f64; 4096];

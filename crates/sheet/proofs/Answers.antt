@@ -1,59 +1,36 @@
--- Answers 1 to 9: every outcome has one, and all that are right for it have the same number; only 9 leaves a choice, that of its line.
+-- What is answered to an outcome, 1 to 9 or where the lines start, and what one may conclude from it.
 use Prim.Native.Nat.{ℕ}
-use mathlib.Core.Path.{_≡_, refl, sym, _∙_, ap, subst}
-use mathlib.Core.Logic.{_⊎_, inl, inr}
+use mathlib.Core.Path.{_≡_, refl, ap, ap₂, _∙_}
 use mathlib.Core.Bool.{Bool, true, false, cond}
 use native.Mathlib.Omega.{arith}
-use borrow.Author.Tests.{eqb-true}
+use borrow.Author.Tests.{eqb-true, eq-eqb}
 use lib.Dec.{eqb}
-use Rattle.sheet.specs.declared.Reading.{Reading}
 use Rattle.sheet.specs.declared.Reading.the-variants.{Sheet as Read, Refused}
 use Rattle.sheet.specs.declared.Starts.{Starts}
 use Rattle.sheet.specs.Sheet.{Sheet, Outcome, accepted, refused}
-use Rattle.sheet.specs.Fault.{Faulty, faultNumber, Names, Refuses}
-use Rattle.sheet.specs.Answer.{answerOf, Answers}
-use Rattle.sheet.proofs.Faults.{refused-somewhere}
+use Rattle.sheet.specs.Fault.{faultNumber, namedLine}
+use Rattle.sheet.specs.Answer.{checked, judged}
 
-pub some-answer : (o : Outcome) → (r : Reading) × Answers o r
-some-answer (refused number line) = (Refused number line, refl)
-some-answer (accepted sheet starts) = go (refused-somewhere sheet)
+-- a sheet that goes on is without a fault
+pub judged-read : (o : Outcome) (z : Starts) → judged o ≡ Read z → (sheet : Sheet) × (o ≡ accepted sheet z) × (faultNumber sheet ≡ 0)
+judged-read (refused number line) z e = absurd (let x : _≡_ {A = ℕ} 0 1 = cc in omega arith)
+judged-read (accepted sheet starts) z e = go (eqb (faultNumber sheet) 0) refl e
   where
-    go : (faultNumber sheet ≡ 0) ⊎ ((line : ℕ) × Refuses sheet (faultNumber sheet) line) → (r : Reading) × Answers (accepted sheet starts) r
-    go (inl none) = (Read starts, (none, refl))
-    go (inr (line, r)) = (Refused (faultNumber sheet) line, r)
+    go : (t : Bool) → eqb (faultNumber sheet) 0 ≡ t → cond t (Read starts) (Refused (faultNumber sheet) (namedLine sheet)) ≡ Read z
+        → (found : Sheet) × (accepted sheet starts ≡ accepted found z) × (faultNumber found ≡ 0)
+    go true u q = (sheet, (let s : starts ≡ z = cc in ap (accepted sheet) s), eqb-true (faultNumber sheet) 0 u)
+    go false u q = absurd (let x : _≡_ {A = ℕ} 0 1 = cc in omega arith)
 
-pub one-number : (o : Outcome) (r t : Reading) → Answers o r → Answers o t → answerOf r .number ≡ answerOf t .number
-one-number (refused number line) r t a b = ap (λ (x : Reading). answerOf x .number) (a ∙ sym b)
-one-number (accepted sheet starts) (Read x) (Read y) a b = refl
-one-number (accepted sheet starts) (Read x) (Refused number line) a b = omega (arith, a.0, b.first, b.applies)
-one-number (accepted sheet starts) (Refused number line) (Read y) a b = omega (arith, b.0, a.first, a.applies)
-one-number (accepted sheet starts) (Refused number line) (Refused other place) a b = omega (arith, a.first, b.first)
-
--- of 5 to 9, only 9 names a line
-no-line : (sheet : Sheet) (number line : ℕ) → eqb number 9 ≡ false → Names sheet number line → line ≡ 0
-no-line sheet number line e h = subst (λ (t : Bool). cond t (Faulty sheet line) (line ≡ 0)) e h
-
--- THE CLAIM: two answers that are right for an outcome are the same, or both are 9.
-pub one-answer : (o : Outcome) (r t : Reading) → Answers o r → Answers o t → (r ≡ t) ⊎ ((answerOf r .number ≡ 9) × (answerOf t .number ≡ 9))
-one-answer (refused number line) r t a b = inl (a ∙ sym b)
-one-answer (accepted sheet starts) (Read x) (Read y) a b = inl (ap Read (a.1 ∙ sym b.1))
-one-answer (accepted sheet starts) (Read x) (Refused number line) a b = absurd (omega (arith, a.0, b.first, b.applies))
-one-answer (accepted sheet starts) (Refused number line) (Read y) a b = absurd (omega (arith, b.0, a.first, a.applies))
-one-answer (accepted sheet starts) (Refused number line) (Refused other place) a b = go (eqb number 9) refl
+-- what comes of a refusal
+pub judged-refused : {A : Type 0} (f : ℕ → ℕ → A) (g : Sheet → Starts → A) (o : Outcome) (number line : ℕ) → judged o ≡ Refused number line → checked f g o ≡ f number line
+judged-refused f g (refused n l) number line e = let p : n ≡ number = cc in let q : l ≡ line = cc in ap₂ f p q
+judged-refused {A} f g (accepted sheet starts) number line e = go (eqb (faultNumber sheet) 0) e
   where
-    same : number ≡ other
-    same = sym a.first ∙ b.first
+    go : (t : Bool) → cond t (Read starts) (Refused (faultNumber sheet) (namedLine sheet)) ≡ Refused number line → cond t (g sheet starts) (f (faultNumber sheet) (namedLine sheet)) ≡ f number line
+    go true q = absurd (let x : _≡_ {A = ℕ} 0 1 = cc in omega arith)
+    go false q = let m : faultNumber sheet ≡ number = cc in let l : namedLine sheet ≡ line = cc in ap₂ f m l
 
-    go : (u : Bool) → eqb number 9 ≡ u → (Refused number line ≡ Refused other place) ⊎ ((number ≡ 9) × (other ≡ 9))
-    go true e = let n = eqb-true number 9 e in inr (n, sym same ∙ n)
-    go false e =
-        let l : line ≡ 0 = no-line sheet number line e a.names in
-        let p : place ≡ 0 = no-line sheet other place (ap (λ (n : ℕ). eqb n 9) (sym same) ∙ e) b.names in
-        inl (ap (λ (n : ℕ). Refused n line) same ∙ ap (λ (k : ℕ). Refused other k) (l ∙ sym p))
-
--- Number and places, as document 01's table has them: the first place is the line, and there is no second; what is read has none.
-line-in-first-place : answerOf (Refused 9 5) ≡ record { number = 9; first = 5; second = 0 }
-line-in-first-place = refl
-
-read-has-number-0 : (starts : Starts) → answerOf (Read starts) ≡ record { number = 0; first = 0; second = 0 }
-read-has-number-0 starts = refl
+-- and of a sheet without a fault
+pub checked-fine : {A : Type 0} (f : ℕ → ℕ → A) (g : Sheet → Starts → A) (o : Outcome) (sheet : Sheet) (starts : Starts) → o ≡ accepted sheet starts → faultNumber sheet ≡ 0
+    → checked f g o ≡ g sheet starts
+checked-fine f g o sheet starts e fine = ap (checked f g) e ∙ rw (eq-eqb (faultNumber sheet) 0 fine) refl

@@ -15,7 +15,7 @@ use Rattle.sheet.specs.Run.{Run, Entry, ended, before, entryIn, entryVer
 use Rattle.sheet.proofs.Lines.{passed}
 
 -- ---- a field that begins at `at` ends past it, or nowhere
-abbrev Beyond : ℕ → ℕ → Type 0
+abbrev pub Beyond : ℕ → ℕ → Type 0
 Beyond at next = min (at + 1) nowhere ≤ next
 
 cond-beyond : (at : ℕ) (t : Bool) (f : Field) → Beyond at (f .next) → Beyond at (cond t f unfound .next)
@@ -61,7 +61,7 @@ tag-stays (x ∷ t) at (b ∷ rest) = go (eqb b x) (tag-stays t (at + 1) rest)
     go true g = omega arith
     go false g = omega arith
 
-pair-beyond : (t s : List ℕ) (at : ℕ) → Beyond at (pairLine t s at .next)
+pub pair-beyond : (t s : List ℕ) (at : ℕ) → Beyond at (pairLine t s at .next)
 unfolding pairLine
 pair-beyond t s at =
     let o = tagTo t s at in

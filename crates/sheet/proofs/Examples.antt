@@ -269,22 +269,48 @@ whole-sheet : (refusal (crossed-but 1 "size 5 1 3 2 0") ≡ 5)
 unfolding ended refusal crossed no-rows
 whole-sheet = (refl, refl, refl, refl, refl, refl)
 
--- ---- 9: a word that is +0 or -0; entries off the diagonal, inside a block; mirrors that differ are two faulty lines, and one that is absent leaves one
-zero-words : (refusal (crossed-but 6 "zz 1 1 8000000000000000") ≡ 9)
+-- they name no line, though one is faulty
+whole-sheet-names : (load (ended (with-line 1 "size 5 1 3 2 0" (without 7 crossed))) ≡ Refused 5 0)
+    × (load (ended (with-line 2 "block 2 2" (without 7 crossed))) ≡ Refused 7 0)
+    × (load (ended (with-line 2 "block 4 1" (without 7 crossed))) ≡ Refused 8 0)
+unfolding ended load crossed
+whole-sheet-names = (refl, refl, refl)
+
+-- ---- 9 names the first faulty line
+-- a word that is +0 or -0
+zero-words : (load (crossed-but 6 "zz 1 1 8000000000000000") ≡ Refused 9 6)
     × (faulty (crossed-but 6 "zz 1 1 8000000000000000") ≡ 6 ∷ [])
     × (faulty (crossed-but 6 "zz 1 1 0000000000000000") ≡ 6 ∷ [])
-unfolding ended refusal faulty crossed
+unfolding ended load faulty crossed
 zero-words = (refl, refl, refl)
 
+-- a zero whose mirror is another zero, or not zero: two faulty lines
+zero-mirrors : (faulty (ended (with-line 5 "zz 0 2 0000000000000000" (with-line 7 "zz 2 0 8000000000000000" crossed))) ≡ 5 ∷ 7 ∷ [])
+    × (load (crossed-but 7 "zz 2 0 0000000000000000") ≡ Refused 9 5)
+    × (faulty (crossed-but 7 "zz 2 0 0000000000000000") ≡ 5 ∷ 7 ∷ [])
+unfolding ended load faulty crossed
+zero-mirrors = (refl, refl, refl)
+
+-- entries off the diagonal, inside a block, though each is the other's mirror
 abbrev inside : List ℕ
 inside = ended (with-line 5 "zz 0 1 4000000000000000" (with-line 6 "zz 1 0 4000000000000000" (with-line 7 "zz 1 1 3ff0000000000000" crossed)))
 
-inside-block : (refusal inside ≡ 9) × (faulty inside ≡ 5 ∷ 6 ∷ [])
-unfolding ended refusal faulty crossed
+inside-block : (load inside ≡ Refused 9 5) × (faulty inside ≡ 5 ∷ 6 ∷ [])
+unfolding ended load faulty crossed
 inside-block = (refl, refl)
 
-no-mirror : (refusal (ended (without 7 crossed)) ≡ 9)
+-- mirrors that differ are two faulty lines, of which the one below the diagonal is named; one that is absent leaves one, on either side
+no-mirror : (load (ended (without 7 crossed)) ≡ Refused 9 5)
     × (faulty (ended (without 7 crossed)) ≡ 5 ∷ [])
+    × (load (ended (without 5 crossed)) ≡ Refused 9 6)
+    × (load (crossed-but 7 "zz 2 0 4000000000000001") ≡ Refused 9 5)
     × (faulty (crossed-but 7 "zz 2 0 4000000000000001") ≡ 5 ∷ 7 ∷ [])
-unfolding ended refusal faulty crossed
-no-mirror = (refl, refl, refl)
+unfolding ended load faulty crossed
+no-mirror = (refl, refl, refl, refl, refl)
+
+-- of several faults the first line, whatever its fault is
+several : (load (ended (with-line 4 "zz 0 0 8000000000000000" (without 7 crossed))) ≡ Refused 9 4)
+    × (load (ended (with-line 8 "zz 2 2 8000000000000000" (with-line 7 "zz 2 0 4000000000000001" crossed))) ≡ Refused 9 5)
+    × (faulty (ended (with-line 8 "zz 2 2 8000000000000000" (with-line 7 "zz 2 0 4000000000000001" crossed))) ≡ 5 ∷ 7 ∷ 8 ∷ [])
+unfolding ended load faulty crossed
+several = (refl, refl, refl)

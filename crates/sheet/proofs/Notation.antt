@@ -8,7 +8,7 @@ use Rattle.sheet.specs.declared.Reading.{Reading}
 use Rattle.sheet.specs.Run.{Entry}
 use Rattle.sheet.specs.Sheet.{Outcome, accepted, refused, readSheet, sheetOf}
 use Rattle.sheet.specs.Fault.{isFault, faultNumber}
-use Rattle.sheet.specs.Answer.{readingOf}
+use Rattle.sheet.specs.Answer.{judged}
 use Rattle.sheet.specs.Text.{reading}
 
 -- the lines without line n, counted from 1
@@ -22,7 +22,7 @@ read s = readSheet s
 
 unfoldable pub load : List ℕ → Reading
 unfolding read sheetOf
-load s = readingOf (sheetOf s)
+load s = judged (sheetOf s)
 
 -- the number of its refusal, 1 to 9, or 0
 abbrev pub numberOf : Outcome → ℕ

@@ -58,6 +58,22 @@ isFault sheet e = isZero (e .word) || isInside sheet e || not (anyOf (isMirror e
 unfoldable pub anyFaulty : Sheet → Bool
 anyFaulty sheet = anyOf (isFault sheet) (sheet .zz)
 
+-- the line of the first entry that the test passes on, or 0
+unfoldable pub firstLine : (Entry → Bool) → List Entry → ℕ
+firstLine test [] = 0
+firstLine test (e ∷ rest) = cond (test e) (e .line) (firstLine test rest)
+
+-- THE LINE THAT 9 NAMES (document 02, item 1): "the first faulty line of the sheet, with every earlier `zz` line free of fault". A faulty entry and its
+-- faulty mirror are two lines.
+unfoldable pub faultyLine : Sheet → ℕ
+unfolding firstLine
+faultyLine sheet = firstLine (isFault sheet) (sheet .zz)
+
+-- what this says of a line, both halves (proofs/Faults.antt: `names-first`, `first-named`)
+pub record FirstFaulty (sheet : Sheet) (line : ℕ) : Type 0 where
+  pub faulty : Faulty sheet line
+  pub earlier : (e : Entry) → List·Memᴰ e (sheet .zz) → e .line < line → Fault sheet e → ⊥
+
 -- ---- 5 to 9
 -- an e is not 1
 abbrev pub hasSlope : Sheet → Bool
@@ -73,11 +89,6 @@ faultNumber sheet =
     cond (eqb (sheet .counts .flag) 0) 5
     (cond (eqb (sheet .counts .k) 0) 6 (cond (hasSlope sheet) 7 (cond (not (coversRows sheet)) 8 (cond (anyFaulty sheet) 9 0))))
 
--- A sheet's refusal and its line. 9 names a faulty line, and which of them is the program's choice; the others name none.
-abbrev pub Names : Sheet → ℕ → ℕ → Type 0
-Names sheet number line = cond (eqb number 9) (Faulty sheet line) (line ≡ 0)
-
-pub record Refuses (sheet : Sheet) (number line : ℕ) : Type 0 where
-  pub applies : 0 < number
-  pub first : faultNumber sheet ≡ number
-  pub names : Names sheet number line
+-- the line that a refusal from 5 to 9 names: 9 the first faulty line, the others none
+abbrev pub namedLine : Sheet → ℕ
+namedLine sheet = cond (eqb (faultNumber sheet) 9) (faultyLine sheet) 0

@@ -10,7 +10,7 @@ use Rattle.sheet.specs.Field.{digitOf, digitsFrom, numberAt, endAt, word
 use Rattle.sheet.specs.Line.{tab, lf, sizeLine, blockLine, pairLine, singleLine, bareLine}
 use Rattle.sheet.specs.Run.{passOf, linesOf, rowFrom, rowsFrom, runsOf, entriesFrom}
 use Rattle.sheet.specs.Sheet.{readLines, readSheet}
-use Rattle.sheet.specs.Fault.{anyOf, coveredRows, blockOfRow, anyFaulty, faultNumber}
+use Rattle.sheet.specs.Fault.{anyOf, coveredRows, blockOfRow, anyFaulty, firstLine, faultyLine, faultNumber}
 
 -- the bytes of a text in which a blank stands for a tab, and _ for a blank
 unfoldable pub bytesOf : String → List ℕ
@@ -29,5 +29,5 @@ with-line n l lines = set lines (n - 1) l
 
 -- Only a name: a proof that unfolds it unfolds all that reading a sheet, and looking for 5 to 9, come down to.
 unfoldable pub reading : ℕ
-unfolding digitOf digitsFrom numberAt endAt wordAt tagAt isFinite sizeLine blockLine pairLine singleLine bareLine passOf linesOf rowFrom rowsFrom runsOf entriesFrom readLines readSheet isZero anyOf coveredRows blockOfRow anyFaulty faultNumber
+unfolding digitOf digitsFrom numberAt endAt wordAt tagAt isFinite sizeLine blockLine pairLine singleLine bareLine passOf linesOf rowFrom rowsFrom runsOf entriesFrom readLines readSheet isZero anyOf coveredRows blockOfRow anyFaulty firstLine faultyLine faultNumber
 reading = 0

@@ -10,12 +10,12 @@ use sheet::Reading;
 use sheet::Starts;
 ghost use mathlib.Core.Path.{_≡_};
 ghost use Rattle.sheet.specs.Sheet.{Sheet, accepted, readSheet, sheetOf};
-ghost use Rattle.sheet.specs.Answer.{Answers};
+ghost use Rattle.sheet.specs.Answer.{judged};
 
 // What 5 to 9 say of a sheet that 1 to 4 do not refuse, whose lines start at `starts`, whatever stands behind it.
 pub fn check_sheet(bytes: &[u8], starts: Starts) -> Reading
     requires { ⌜ ((sheet : Sheet) × (readSheet (now bytes) ≡ accepted sheet starts)) ⌝ }
-    ensures { λ r. ⌜ Answers (readSheet (now (bytes .entry))) r ⌝ }
+    ensures { λ r. ⌜ r ≡ judged (readSheet (now (bytes .entry))) ⌝ }
 {
     if starts.counts.flag == 0 {
         return Reading::Refused { number: 5, line: 0 };
@@ -44,7 +44,7 @@ pub fn check_sheet(bytes: &[u8], starts: Starts) -> Reading
 
 // What 1 to 9 say of the sheet that any bytes begin with.
 pub fn read_and_check_prefix(bytes: &[u8]) -> Reading
-    ensures { λ r. ⌜ Answers (readSheet (now (bytes .entry))) r ⌝ }
+    ensures { λ r. ⌜ r ≡ judged (readSheet (now (bytes .entry))) ⌝ }
 {
     let r = sheet_reader::read_prefix(bytes);
     match r {
@@ -55,7 +55,7 @@ pub fn read_and_check_prefix(bytes: &[u8]) -> Reading
 
 // What 1 to 9 say of any bytes.
 pub fn read_and_check(bytes: &[u8]) -> Reading
-    ensures { λ r. ⌜ Answers (sheetOf (now (bytes .entry))) r ⌝ }
+    ensures { λ r. ⌜ r ≡ judged (sheetOf (now (bytes .entry))) ⌝ }
 {
     let r = sheet_reader::read_sheet(bytes);
     match r {

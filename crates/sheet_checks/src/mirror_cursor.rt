@@ -1,25 +1,39 @@
-// One turn of the search for number 9 of a sheet (document 01, "Refused because of the input"): a zz word that is zero, an entry off the diagonal
-// inside a block, or an entry without a mirror of equal bits. One cursor for each column of a group stands at the column's first entry below the
-// diagonal whose mirror has not come. Nothing else is stored: the line of each entry is read where it stands, and once more, below the diagonal,
-// when its mirror comes.
+// What a turn of the search for number 9 of a sheet (document 01, "Refused because of the input") keeps and tests: a zz word that is zero, an entry off
+// the diagonal inside a block, or an entry without a mirror of equal bits. One cursor for each column of a group stands at the column's first entry
+// below the diagonal whose mirror may still come. Nothing else is stored: the line of each entry is read where it stands, and below the diagonal
+// again, when an entry above the diagonal looks at the cursor.
 ghost use mathlib.Core.Path.{_≡_};
 ghost use mathlib.Core.List.{List};
-ghost use Prim.Native.Nat.{ℕ, _+_, _<_, _≤_};
+ghost use Prim.Native.Nat.{ℕ, _+_, _<_, _≤_, min};
 ghost use lib.ListN.{length};
 ghost use Rattle.sheet.specs.Run.{Block, entryIn};
 ghost use Rattle.sheet.specs.Sheet.{Sheet};
 ghost use Rattle.sheet.specs.Fault.{coveredRows, blockOfRow};
 ghost use Rattle.layout.specs.Blocks.{padded};
 ghost use Rattle.sheet_checks.specs.levels.Held.{levelList};
-ghost use Rattle.sheet_checks.specs.mirror_cursor.Turns.{Grouped, isUnfit, mirrors, isPassed};
+ghost use Rattle.sheet_checks.specs.mirror_cursor.Turns.{Grouped, isUnfit, isOpposite, isPassed};
 use sheet::Line;
 use sheet_reader::word_class;
 
-// What a pass knows after a line: the first column that has had no entry below the diagonal, where the next line starts, and the number of a faulty line, or 0.
-pub struct After {
+// What a pass knows before a line: where it starts, the first column that has had no entry below the diagonal, and where the first line starts that is
+// known to be faulty, the end of the zz lines while none is.
+pub struct Known {
+    pub at: usize,
     pub due: u64,
-    pub next: usize,
-    pub fault: u64,
+    pub first: usize,
+}
+
+// Where a column's cursor stands, and where the first line starts that is known to be faulty.
+pub struct Moved {
+    pub cursor: usize,
+    pub first: usize,
+}
+
+// The same, with the line at the cursor.
+pub struct Reached {
+    pub cursor: usize,
+    pub first: usize,
+    pub line: Line,
 }
 
 // The block that holds row i.
@@ -57,11 +71,11 @@ pub fn in_group(base: u64, width: u64, l: Line) -> bool
         & ((base <= l.second) & ((l.first < base + width) | (l.second < base + width)))
 }
 
-// Whether o is the mirror of l.
-pub fn is_mirror(l: Line, o: Line) -> bool
-    ensures { λ r. ⌜ r ≡ mirrors l o ⌝ }
+// Whether o is at the place of l's mirror.
+pub fn is_opposite(l: Line, o: Line) -> bool
+    ensures { λ r. ⌜ r ≡ isOpposite l o ⌝ }
 {
-    (o.first == l.second) & ((o.second == l.first) & (o.word == l.word))
+    (o.first == l.second) & (o.second == l.first)
 }
 
 // Whether o is below the diagonal in the column of l's row, at a row that l's column is past: its mirror did not come.
@@ -69,4 +83,14 @@ pub fn is_passed(l: Line, o: Line) -> bool
     ensures { λ r. ⌜ r ≡ isPassed l o ⌝ }
 {
     (o.first == l.second) & ((l.second < o.second) & (o.second < l.first))
+}
+
+// The smaller of two places.
+pub fn earlier(a: usize, b: usize) -> usize
+    ensures { λ r. ⌜ r ≡ min a b ⌝ }
+{
+    if a < b {
+        return a;
+    }
+    b
 }

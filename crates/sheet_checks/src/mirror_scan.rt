@@ -2,46 +2,56 @@
 ghost use mathlib.Core.Path.{_≡_};
 ghost use Prim.Native.Nat.{_+_, _<_};
 ghost use lib.ListN.{length, replicate};
-ghost use Rattle.sheet_checks.specs.mirror_cursor.Held.{held, placeOf, Given, Levelled};
+ghost use Rattle.sheet_checks.specs.mirror_cursor.Held.{Given, Levelled};
 ghost use Rattle.sheet_checks.specs.mirror_cursor.Turns.{Pass};
-ghost use Rattle.sheet_checks.specs.mirror_scan.Mirror.{Judged, Closed};
+ghost use Rattle.sheet_checks.specs.mirror_scan.Mirror.{Judged};
+use crate::mirror_cursor;
+use crate::mirror_cursor::Known;
 use crate::mirror_step;
 use sheet::Starts;
 use sheet_reader::pair_line;
 
-// At the end of a pass: the number of the line at a cursor whose mirror never came, or 0.
-fn unmatched_line(bytes: &[u8], starts: Starts, n: u64, base: u64, cur: &[usize], due: u64) -> u64
-    requires { ⌜ Given (now bytes) starts n × Pass (now bytes) starts base (now cur) due n (placeOf (now bytes) starts n) × (base + length (now cur) < 1152921504606846976) ⌝ }
-    ensures { λ r. ⌜ Closed (held (now (bytes .entry))) base (length (now (cur .entry))) r ⌝ }
+// At the end of a pass a line at a cursor that is still below the diagonal in its column is faulty, since its mirror never came: where the first
+// faulty line of the group starts.
+fn first_fault(bytes: &[u8], starts: Starts, n: u64, base: u64, cur: &[usize], k: Known) -> usize
+    requires { ⌜ Given (now bytes) starts n × Pass (now bytes) starts base (now cur) n k × (base + length (now cur) < 1152921504606846976) ⌝ }
+    ensures { λ r. ⌜ Judged (now (bytes .entry)) starts base (length (now (cur .entry))) r ⌝ }
 {
+    let mut first = k.first;
     let mut col = base;
-    while col < due {
+    while col < k.due {
         let j = (col - base) as usize;
-        let o = pair_line::pair_line(b"zz\t", bytes, cur[j]);
+        let at = cur[j];
+        let o = pair_line::pair_line(b"zz\t", bytes, at);
         if (o.first == col) & (col < o.second) {
-            return mirror_step::line_number_of(bytes, starts, n, o.first, o.second);
+            first = mirror_cursor::earlier(first, at);
         }
         col += 1;
     }
-    0
+    first
 }
 
-// One pass over the lines, for the columns of `cur` from `base` on. Every cursor starts at the first zz line.
-pub fn pass(bytes: &[u8], starts: Starts, m: [u64; 8], n: u64, base: u64, cur: &mut [usize]) -> u64
+// One pass over the lines, for the columns of `cur` from `base` on: where the first faulty line of the group starts. Every cursor starts at the first zz line.
+pub fn pass(
+    bytes: &[u8],
+    starts: Starts,
+    m: [u64; 8],
+    n: u64,
+    base: u64,
+    cur: &mut [usize],
+) -> usize
     requires { ⌜ Given (now bytes) starts n × Levelled (now bytes) m × (0 < n) × (base + length (now cur) < 1152921504606846976) × (now cur ≡ replicate (length (now cur)) (starts .zz)) ⌝ }
-    ensures { λ r. ⌜ Judged (held (now (bytes .entry))) base (length (now (cur .entry))) r ⌝ }
+    ensures { λ r. ⌜ Judged (now (bytes .entry)) starts base (length (now (cur .entry))) r ⌝ }
 {
-    let mut due: u64 = 0;
-    let mut at = starts.zz;
+    let mut k = Known {
+        at: starts.zz,
+        due: 0,
+        first: starts.zx,
+    };
     let mut i: u64 = 0;
     while i < n {
-        let t = mirror_step::check_entry(bytes, starts, m, n, base, cur, due, i, at);
-        if 0 < t.fault {
-            return t.fault;
-        }
-        due = t.due;
-        at = t.next;
+        k = mirror_step::check_entry(bytes, starts, m, base, cur, i, k);
         i += 1;
     }
-    unmatched_line(bytes, starts, n, base, cur, due)
+    first_fault(bytes, starts, n, base, cur, k)
 }

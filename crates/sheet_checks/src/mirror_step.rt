@@ -1,106 +1,128 @@
-// One turn of the search for number 9 of a sheet, on the line of an entry: what its column's cursor says of it, and where the cursor then stands.
+// One turn of the search for number 9 of a sheet, on the line of an entry: what it and its column's cursor say of each other, and where the cursor then
+// stands.
 ghost use mathlib.Core.Path.{_≡_};
-ghost use Prim.Native.Nat.{ℕ, _+_, _<_};
+ghost use mathlib.Core.Bool.{false, cond};
+ghost use Prim.Native.Nat.{ℕ, _+_, _≤_, _<_, min};
 ghost use lib.ListN.{length};
-ghost use Rattle.sheet_checks.specs.mirror_cursor.Held.{held, entryOf, Given, Levelled};
-ghost use Rattle.sheet_checks.specs.mirror_cursor.Turns.{FaultyOfPair, Pass, Turned};
+ghost use Rattle.sheet.specs.Line.{zzTag, pairLine};
+ghost use Rattle.sheet.specs.Run.{entryIn};
+ghost use Rattle.sheet.specs.Sheet.{Sheet};
+ghost use Rattle.sheet.specs.Fault.{coveredRows};
+ghost use Rattle.layout.specs.Blocks.{padded};
+ghost use Rattle.sheet_checks.specs.levels.Held.{levelList};
+ghost use Rattle.sheet_checks.specs.mirror_cursor.Held.{placeOf, Given, Levelled};
+ghost use Rattle.sheet_checks.specs.mirror_cursor.Turns.{isUnfit, isPassed, AtCursor, Pass};
 use crate::mirror_cursor;
-use crate::mirror_cursor::After;
+use crate::mirror_cursor::Known;
+use crate::mirror_cursor::Moved;
+use crate::mirror_cursor::Reached;
 use sheet::Line;
 use sheet::Starts;
 use sheet_reader::pair_line;
 
-// The number of the line of the entry (col, row).
-pub fn line_number_of(bytes: &[u8], starts: Starts, n: u64, col: u64, row: u64) -> u64
-    requires { ⌜ Given (now bytes) starts n ⌝ }
-    ensures { λ r. ⌜ ((t : ℕ) → t < n → entryOf (held (now (bytes .entry))) t .col ≡ col → entryOf (held (now (bytes .entry))) t .row ≡ row → r ≡ entryOf (held (now (bytes .entry))) t .line) ⌝ }
+// The cursor of the column of l's row, for an entry l above the diagonal: past every line whose mirror would have come before l. These are faulty.
+fn skip_passed(bytes: &[u8], starts: Starts, due: u64, i: u64, l: Line, c: Moved) -> Reached
+    requires { ⌜ ((n : ℕ) × Given (now bytes) starts n × (i < n)) × (l ≡ pairLine zzTag (now bytes) (placeOf (now bytes) starts i)) × (l .second < l .first) × AtCursor (now bytes) starts i due (l .second) c ⌝ }
+    ensures { λ r. ⌜ AtCursor (now (bytes .entry)) starts i due (l .second) (record { cursor = r .cursor; first = r .first }) × (r .line ≡ pairLine zzTag (now (bytes .entry)) (r .cursor)) × (isPassed l (r .line) ≡ false) × (r .first ≤ c .first) ⌝ }
 {
-    let first = starts.counts.k + 2;
-    let mut at = starts.zz;
-    let mut i: u64 = 0;
-    while i < n {
-        let l = pair_line::pair_line(b"zz\t", bytes, at);
-        if (l.first == col) & (l.second == row) {
-            return first + i;
+    let mut at = c.cursor;
+    let mut first = c.first;
+    let mut o = pair_line::pair_line(b"zz\t", bytes, at);
+    while mirror_cursor::is_passed(l, o) {
+        first = mirror_cursor::earlier(first, at);
+        at = o.next;
+        o = pair_line::pair_line(b"zz\t", bytes, at);
+    }
+    Reached {
+        cursor: at,
+        first: first,
+        line: o,
+    }
+}
+
+// Entry i, in the line l above the diagonal, at the cursor of its row's column: its mirror is there, with equal bits or not, or it has none.
+fn meet(bytes: &[u8], starts: Starts, at: usize, due: u64, i: u64, l: Line, c: Moved) -> Moved
+    requires { ⌜ ((n : ℕ) × Given (now bytes) starts n × (i < n)) × (at ≡ placeOf (now bytes) starts i) × (l ≡ pairLine zzTag (now bytes) at) × (l .second < l .first) × AtCursor (now bytes) starts i due (l .second) c ⌝ }
+    ensures { λ r. ⌜ AtCursor (now (bytes .entry)) starts (i + 1) due (l .second) r × (r .first ≤ c .first) ⌝ }
+{
+    let p = skip_passed(bytes, starts, due, i, l, c);
+    if mirror_cursor::is_opposite(l, p.line) {
+        if p.line.word == l.word {
+            return Moved {
+                cursor: p.line.next,
+                first: p.first,
+            };
         }
-        at = l.next;
-        i += 1;
+        return Moved {
+            cursor: p.line.next,
+            first: mirror_cursor::earlier(p.first, p.cursor),
+        };
     }
-    0
+    Moved {
+        cursor: p.cursor,
+        first: mirror_cursor::earlier(p.first, at),
+    }
 }
 
-// The faulty line where entry i, in the line l above the diagonal, does not meet its mirror in the line o at its cursor: o's, if its mirror did not come, else l's.
-fn faulty_of_pair(bytes: &[u8], starts: Starts, n: u64, i: u64, l: Line, o: Line) -> u64
-    requires { ⌜ Given (now bytes) starts n × (i < n) ⌝ }
-    ensures { λ r. ⌜ FaultyOfPair (now (bytes .entry)) starts n i l o r ⌝ }
+// The first faulty line that is known, once line l at `at` has been looked at for a fault that needs no other.
+fn with_unfit(m: [u64; 8], l: Line, at: usize, first: usize) -> usize
+    ensures { λ r. ⌜ ((sheet : Sheet) (line : ℕ) → m ≡ padded 8 (levelList (sheet .blocks)) → length (sheet .blocks) ≤ 8
+        → l .first < coveredRows (sheet .blocks) → l .second < coveredRows (sheet .blocks) → r ≡ cond (isUnfit sheet (entryIn line l)) (min first at) first) ⌝ }
 {
-    if mirror_cursor::is_passed(l, o) {
-        return line_number_of(bytes, starts, n, o.first, o.second);
+    if mirror_cursor::is_unfit(m, l) {
+        return mirror_cursor::earlier(first, at);
     }
-    starts.counts.k + 2 + i
+    first
 }
 
-// The line of entry i. Below the diagonal it starts its column, if it is the first there; above, it must be the mirror of the entry at its cursor.
+// The line of entry i. Below the diagonal it starts its column, if it is the first there; above, it is held to the entry at its cursor.
 pub fn check_entry(
     bytes: &[u8],
     starts: Starts,
     m: [u64; 8],
-    n: u64,
     base: u64,
     cur: &mut [usize],
-    due: u64,
     i: u64,
-    at: usize,
-) -> After
-    requires { ⌜ Given (now bytes) starts n × Levelled (now bytes) m × Pass (now bytes) starts base (now cur) due i at × (i < n) × (base + length (now cur) < 1152921504606846976) ⌝ }
-    ensures { λ r. ⌜ Turned (now (bytes .entry)) starts base (now (cur .entry)) (now (cur .exit)) i r ⌝ }
+    k: Known,
+) -> Known
+    requires { ⌜ ((n : ℕ) × Given (now bytes) starts n × (i < n)) × Levelled (now bytes) m × Pass (now bytes) starts base (now cur) i k × (base + length (now cur) < 1152921504606846976) ⌝ }
+    ensures { λ r. ⌜ (length (now (cur .exit)) ≡ length (now (cur .entry))) × Pass (now (bytes .entry)) starts base (now (cur .exit)) (i + 1) r ⌝ }
 {
-    let l = pair_line::pair_line(b"zz\t", bytes, at);
+    let l = pair_line::pair_line(b"zz\t", bytes, k.at);
     if mirror_cursor::in_group(base, cur.len() as u64, l) {
-        if mirror_cursor::is_unfit(m, l) {
-            return After {
-                due: due,
-                next: l.next,
-                fault: starts.counts.k + 2 + i,
-            };
-        }
-        if l.first < l.second {
-            if due <= l.first {
-                let j = (l.first - base) as usize;
-                cur[j] = at;
-                return After {
-                    due: l.first + 1,
-                    next: l.next,
-                    fault: 0,
-                };
-            }
-            return After {
-                due: due,
-                next: l.next,
-                fault: 0,
-            };
-        }
+        let first = with_unfit(m, l, k.at, k.first);
         if l.second < l.first {
             let j = (l.second - base) as usize;
-            let o = pair_line::pair_line(b"zz\t", bytes, cur[j]);
-            if mirror_cursor::is_mirror(l, o) {
-                cur[j] = o.next;
-                return After {
-                    due: due,
-                    next: l.next,
-                    fault: 0,
-                };
-            }
-            return After {
-                due: due,
-                next: l.next,
-                fault: faulty_of_pair(bytes, starts, n, i, l, o),
+            let c = Moved {
+                cursor: cur[j],
+                first: first,
+            };
+            let r = meet(bytes, starts, k.at, k.due, i, l, c);
+            cur[j] = r.cursor;
+            return Known {
+                at: l.next,
+                due: k.due,
+                first: r.first,
             };
         }
+        if (l.first < l.second) & (k.due <= l.first) {
+            let j = (l.first - base) as usize;
+            cur[j] = k.at;
+            return Known {
+                at: l.next,
+                due: l.first + 1,
+                first: first,
+            };
+        }
+        return Known {
+            at: l.next,
+            due: k.due,
+            first: first,
+        };
     }
-    After {
-        due: due,
-        next: l.next,
-        fault: 0,
+    Known {
+        at: l.next,
+        due: k.due,
+        first: k.first,
     }
 }

@@ -6,31 +6,29 @@ use mathlib.Core.Bool.{Bool, true, false, not, _&&_, cond, true≢false}
 use mathlib.Core.List.{List, [], _∷_, _++_}
 use mathlib.Core.Option.{Option, none, some}
 use native.Mathlib.Omega.{arith}
-use borrow.Author.Tests.{eqb-true, eqb-false}
+use borrow.Author.Tests.{eqb-true, eqb-false, ne-eqb}
 use lib.Dec.{ltb, leb, eqb}
 use lib.Ieee.{Float}
 use Rattle.refusal.specs.declared.Refusal.{Refusal}
 use Rattle.refusal.specs.declared.Answer.{Answer}
 use Rattle.refusal.specs.declared.Answer.the-variants.{Accepted, Refused}
-use Rattle.refusal.specs.Numbers.{refusal}
-use Rattle.sheet.specs.declared.Reading.{Reading}
-use Rattle.sheet.specs.declared.Reading.the-variants.{Sheet as Read, Refused as Unread}
+use Rattle.refusal.specs.Numbers.{refusal, refuse}
 use Rattle.sheet.specs.declared.Starts.{Starts}
 use Rattle.sheet.specs.Sheet.{Sheet, accepted, refused, sheetOf}
 use Rattle.sheet.specs.Sheet as Sheets
-use Rattle.sheet.specs.Fault.{Faulty, hasSlope, coversRows, anyFaulty, coveredRows, faultNumber}
-use Rattle.sheet.specs.Answer.{Answers}
+use Rattle.sheet.specs.Fault.{Faulty, hasSlope, coversRows, anyFaulty, coveredRows, faultNumber, namedLine, FirstFaulty}
+use Rattle.sheet.specs.Answer.{checked}
 use Rattle.sheet.specs.Whole.{Each}
-use Rattle.sheet.proofs.Faults.{faulty-line, none-faulty}
+use Rattle.sheet.proofs.Faults.{faulty-line, none-faulty, lines-rise, nine-first}
 use Rattle.sheet.proofs.Numbers.{alone-refusal, long-refused}
 use Rattle.layout.specs.declared.Layout.{Layout}
 use Rattle.layout.specs.declared.Pair.{Pair}
 use Rattle.layout.specs.declared.Pair.the-variants.{Dense, Sparse, Refused as Denied}
 use Rattle.layout.specs.Gate.{thin, pairOf}
 use Rattle.layout.specs.Shapes.{Target, target, levels, across, pairs}
-use Rattle.workspace.specs.Answers.{Outcome}
+use Rattle.workspace.specs.Answers.{untouched}
 use Rattle.workspace.specs.Loaded.{countOf, ofPair, oneEach, pairIn, orRefused, firstRefusedPair, sortedLayout, layoutOfSheet}
-use Rattle.workspace.specs.Load.{hasRoom, afterGate, loadSheet, loadParsed, loadOf, Loads}
+use Rattle.workspace.specs.Load.{hasRoom, afterGate, loadSheet, loadOf}
 use Rattle.sheet_text.specs.Listed.{
   Listed,
   too-long,
@@ -44,7 +42,7 @@ use Rattle.sheet_text.specs.Listed.{
   cross-gate,
   too-short,
 }
-use Rattle.sheet.proofs.Whole.{not-accepted}
+use Rattle.sheet.proofs.Whole.{not-accepted, alone-read}
 use Rattle.workspace.proofs.Valid.{allowed-pairs}
 use Rattle.sheet_text.proofs.Long.{one-long}
 
@@ -193,15 +191,20 @@ module _ (s h : List ℕ) (w : List Float) where
         go none e true q = inl (rw q refl, sheet, starts, record { read = read; whole = whole; gate = e; room = q })
         go none e false q = inr (refusal 12 0 0, rw q refl, too-short sheet starts read q)
 
-  parsed-says : (p : Sheets.Outcome) → sheetOf s ≡ p → (r : Reading) → Answers p r → Says (loadOf s r h w .answer)
-  unfolding loadOf
-  parsed-says (refused number line) e r a =
-      subst (λ (r : Reading). Says (loadOf s r h w .answer)) (sym a) (inr (refusal number line 0, refl, bytes-listed number line e))
-  parsed-says (accepted sheet starts) e (Unread number line) a = inr (refusal number line 0, refl, sheet-listed sheet starts e number a.applies a.first)
-  parsed-says (accepted sheet starts) e (Read found) a = subst (λ (p : Sheets.Outcome). Says (loadParsed p h w .answer)) (sym e) (sheet-says sheet starts e a.0)
+    checked-says : (b : Bool) → eqb (faultNumber sheet) 0 ≡ b → Says (cond b (loadSheet sheet h w) (untouched h w (faultNumber sheet) (namedLine sheet) 0) .answer)
+    checked-says true e = sheet-says (eqb-true (faultNumber sheet) 0 e)
+    checked-says false e = inr (refusal (faultNumber sheet) (namedLine sheet) 0, refl, sheet-listed (faultNumber sheet) (some-number (eqb-false (faultNumber sheet) 0 e)) refl)
+      where
+        some-number : (faultNumber sheet ≡ 0 → ⊥) → 0 < faultNumber sheet
+        some-number f = omega arith
 
-  says : (o : Outcome) → Loads s h w o → Says (o .answer)
-  says o l = subst (λ (x : Outcome). Says x.answer) (sym l.comes) (parsed-says (sheetOf s) refl l.reading l.read)
+  parsed-says : (p : Sheets.Outcome) → sheetOf s ≡ p → Says (checked (λ number line. untouched h w number line 0) (λ sheet starts. loadSheet sheet h w) p .answer)
+  parsed-says (refused number line) e = inr (refusal number line 0, refl, bytes-listed number line e)
+  parsed-says (accepted sheet starts) e = checked-says sheet starts e (eqb (faultNumber sheet) 0) refl
+
+  says : Says (loadOf s h w .answer)
+  unfolding loadOf
+  says = parsed-says (sheetOf s) refl
 
   -- ---- where all is fine, nothing is listed
   module _ (sheet : Sheet) (starts : Starts) (f : Fine sheet starts) where
@@ -232,18 +235,57 @@ module _ (s h : List ℕ) (w : List Float) where
         true≢false (sym f.room ∙ subst (λ (x : Sheet). hasRoom (layoutOfSheet x) h w ≡ false) (this other more e) g)
 
   -- THE CLAIM, both ways: accepted is what no row of the table refuses.
-  pub accepted-iff : (o : Outcome) → Loads s h w o
-      → ((o .answer ≡ Accepted) → (n : ℕ) → Listed s h w n → ⊥) × (((n : ℕ) → Listed s h w n → ⊥) → o .answer ≡ Accepted)
-  accepted-iff o l = go (says o l)
+  pub accepted-iff : (loadOf s h w .answer ≡ Accepted → (n : ℕ) → Listed s h w n → ⊥) × (((n : ℕ) → Listed s h w n → ⊥) → loadOf s h w .answer ≡ Accepted)
+  accepted-iff = go says
     where
-      go : Says (o .answer) → ((o .answer ≡ Accepted) → (n : ℕ) → Listed s h w n → ⊥) × (((n : ℕ) → Listed s h w n → ⊥) → o .answer ≡ Accepted)
+      go : Says (loadOf s h w .answer)
+          → (loadOf s h w .answer ≡ Accepted → (n : ℕ) → Listed s h w n → ⊥) × (((n : ℕ) → Listed s h w n → ⊥) → loadOf s h w .answer ≡ Accepted)
       go (inl (a, sheet, starts, f)) = (λ e. none-listed sheet starts f, λ free. a)
       go (inr (r, a, x)) = (λ e. absurd (refused-not r (sym a ∙ e)), λ free. absurd (free r.number x))
 
   -- A refused answer names a row of the table whose condition holds.
-  pub refused-listed : (o : Outcome) (r : Refusal) → Loads s h w o → o .answer ≡ Refused r → Listed s h w (r .number)
-  refused-listed o r l e = go (says o l)
+  pub refused-listed : (r : Refusal) → loadOf s h w .answer ≡ Refused r → Listed s h w (r .number)
+  refused-listed r e = go says
     where
-      go : Says (o .answer) → Listed s h w (r .number)
+      go : Says (loadOf s h w .answer) → Listed s h w (r .number)
       go (inl f) = absurd (refused-not r (sym e ∙ f.0))
       go (inr (t, a, x)) = let q : Refused t ≡ Refused r = sym a ∙ e in let z : t ≡ r = cc in subst (λ (u : Refusal). Listed s h w u.number) z x
+
+  -- ---- 9 names the first faulty line (document 02, item 1)
+  -- it comes only from row 9: of a sheet that is read, with a fault
+  of-nine : (n : ℕ) → Listed s h w n → n ≡ 9 → (sheet : Sheet) × (starts : Starts) × (sheetOf s ≡ accepted sheet starts) × (faultNumber sheet ≡ 0 → ⊥)
+  of-nine n (too-long g) e = absurd (omega arith)
+  of-nine n (at-line number line r g) e = absurd (no (alone-refusal s number line r))
+    where
+      no : ((number ≡ 1) × (line ≡ 0)) ⊎ ((2 ≤ number) × (number ≤ 4) × (1 ≤ line)) → ⊥
+      no (inl x) = omega (arith, x.0)
+      no (inr x) = omega (arith, x.1)
+  of-nine n (not-intercept-only sheet starts r g) e = absurd (omega arith)
+  of-nine n (empty-re sheet starts r g) e = absurd (omega arith)
+  of-nine n (slopes sheet starts r g) e = absurd (omega arith)
+  of-nine n (dim-mismatch sheet starts r g) e = absurd (omega arith)
+  of-nine n (faulty sheet starts r line g) e = (sheet, starts, r, λ z. none-faulty sheet z line g)
+  of-nine n (multiblock-fill sheet starts r i j a b g) e = absurd (omega arith)
+  of-nine n (cross-gate sheet starts r i j a b g) e = absurd (omega arith)
+  of-nine n (too-short sheet starts r g) e = absurd (omega arith)
+
+  -- THE CLAIM: the line named is faulty, and no earlier one is.
+  pub nine-names-first : (r : Refusal) → loadOf s h w .answer ≡ Refused r → r .number ≡ 9
+      → (sheet : Sheet) × (starts : Starts) × (sheetOf s ≡ accepted sheet starts) × FirstFaulty sheet (r .first)
+  unfolding loadOf
+  nine-names-first r e nine =
+      let f = of-nine r.number (refused-listed r e) nine in
+      let sheet : Sheet = f.0 in
+      let come : Answer = refuse (faultNumber sheet) (namedLine sheet) 0 in
+      let same : come ≡ Refused r =
+      sym
+      (ap (λ (p : Sheets.Outcome). checked (λ number line. untouched h w number line 0) (λ sheet starts. loadSheet sheet h w) p .answer) f.2
+      ∙ ap (λ (b : Bool). cond b (loadSheet sheet h w) (untouched h w (faultNumber sheet) (namedLine sheet) 0) .answer) (ne-eqb (faultNumber sheet) 0 f.3))
+      ∙ e in
+      let number : faultNumber sheet ≡ r .number = cc in
+      let line : namedLine sheet ≡ r .first = cc in (
+        sheet,
+        f.1,
+        f.2,
+        subst (FirstFaulty sheet) line (nine-first sheet (lines-rise s sheet f.1 (alone-read s sheet f.1 f.2 .0)) (number ∙ nine)),
+      )

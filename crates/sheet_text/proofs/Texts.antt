@@ -20,9 +20,8 @@ use Rattle.sheet.proofs.Whole.{read-whole, alone-read, not-accepted}
 use Rattle.sheet_text.proofs.written.Read.{written-read}
 use Rattle.sheet_text.proofs.written.OnlySheet.{read-written}
 use Rattle.layout.specs.declared.Pair.the-variants.{Refused as Denied}
-use Rattle.workspace.specs.Answers.{Outcome}
 use Rattle.workspace.specs.Loaded.{pairIn, layoutOfSheet}
-use Rattle.workspace.specs.Load.{hasRoom, Loads}
+use Rattle.workspace.specs.Load.{hasRoom, loadOf}
 use Rattle.sheet_text.specs.Acceptable.{Acceptable}
 use Rattle.sheet_text.specs.Listed.{
   Listed,
@@ -116,10 +115,10 @@ module _ (s h : List ℕ) (w : List Float) where
     unlisted n (too-short other more e g) = true≢false (sym a.room ∙ subst (λ (x : Sheet). hasRoom (layoutOfSheet x) h w ≡ false) (sym (this e)) g)
 
   -- THE CLAIM, both ways
-  pub accepted-exactly : (o : Outcome) → Loads s h w o
-      → (o .answer ≡ Accepted → (sheet : Sheet) × Acceptable s h w sheet) × ((sheet : Sheet) → Acceptable s h w sheet → o .answer ≡ Accepted)
-  accepted-exactly o l =
-      let i = accepted-iff s h w o l in (
+  pub accepted-exactly : (loadOf s h w .answer ≡ Accepted → (sheet : Sheet) × Acceptable s h w sheet)
+      × ((sheet : Sheet) → Acceptable s h w sheet → loadOf s h w .answer ≡ Accepted)
+  accepted-exactly =
+      let i = accepted-iff s h w in (
         λ e. acceptable (i.0 e),
         λ sheet a.
             let r = written-read sheet a.form (subst (λ (x : List ℕ). length x ≤ 16777216) a.text a.short) in

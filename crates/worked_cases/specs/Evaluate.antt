@@ -12,7 +12,7 @@ use Rattle.refusal.specs.declared.Refusal.{Refusal}
 use Rattle.refusal.specs.Numbers.{refusalOf}
 use Rattle.layout.specs.declared.Pair.{Pair}
 use Rattle.layout.specs.Gate.{pairOf}
-use Rattle.workspace.specs.Answers.{Outcome as Call}
+use Rattle.workspace.specs.Answers.{untouched, Outcome as Call}
 use Rattle.workspace.specs.Load as Load
 use Rattle.workspace.specs.Load.{loadOf}
 use Rattle.workspace.specs.Compute.{words}
@@ -25,7 +25,6 @@ use Rattle.profile.specs.Deviance.{profileOf, logDeterminant}
 use Rattle.profile.specs.Finish.{Solving, solveOf, resultList}
 use Rattle.factor_output.specs.Program as Program
 use Rattle.factor_output.specs.Worked.{sheetLines, thetaLines, outputLines}
-use Rattle.factor_output.specs.Compute.{readingHere}
 use Rattle.worked_cases.specs.Table.{oneReadingLine, oneWord, CountCase, GateCase, StepCase}
 use Rattle.layout.specs.declared.Layout.{Layout}
 use Rattle.workspace.specs.Memory.{Workspace}
@@ -49,10 +48,10 @@ unfoldable pub outputBytes : List ℕ
 unfolding ended
 outputBytes = ended outputLines
 
--- a sheet without a refusal 1 to 9, loaded into a workspace that has room for the worked sheet's 14 doubles
+-- a sheet loaded into a workspace that has room for the worked sheet's 14 doubles
 unfoldable pub loaded : List ℕ → Call
-unfolding steps readingHere loadOf
-loaded s = loadOf s (readingHere s) (replicate headingLength 0) (replicate 14 (Ieee.ofBits binary64 0))
+unfolding steps reading loadOf
+loaded s = loadOf s (replicate headingLength 0) (replicate 14 (Ieee.ofBits binary64 0))
 
 -- the same, begun with one theta, and some steps done
 unfoldable pub stepsDone : List ℕ → ℕ → List Step → Call
@@ -91,13 +90,15 @@ unfolding reading
 thetaIn s (accepted sheet starts) = Program.thetaLines s (sheet .counts .k) (record { at = starts .end; line = starts .line; number = 0 }) .items
 thetaIn s (refused number line) = []
 
+-- load of a sheet as read, in which 5 to 9 are not looked for
 unfoldable pub loadedFirst : Outcome → Call
 unfolding steps Load.loadSheet
-loadedFirst o = Load.loadParsed o (replicate headingLength 0) (replicate 200 (Ieee.ofBits binary64 0))
+loadedFirst (accepted sheet starts) = Load.loadSheet sheet (replicate headingLength 0) (replicate 200 (Ieee.ofBits binary64 0))
+loadedFirst (refused number line) = untouched [] [] number line 0
 
 -- the words of the solution's list of a sheet with its theta part
 unfoldable pub solutionBits : List ℕ → ℕ → ℕ → List ℕ
-unfolding steps readingHere thetaIn loadedFirst beginOf runOf rustOrder solveOf words
+unfolding steps reading thetaIn loadedFirst beginOf runOf rustOrder solveOf words
 solutionBits s k n =
     let o = readSheet s in
     let w = loadedFirst o .left in

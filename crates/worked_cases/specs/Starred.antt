@@ -1,24 +1,22 @@
 -- The starred cases of document 01 as one proposition over the definitions.
 use mathlib.Core.Path.{_≡_}
 use mathlib.Core.Bool.{true, false}
-use lib.ListN.{replicate}
 use lib.Ieee as Ieee
 use lib.Ieee.{binary64}
 use Rattle.logarithm.specs.Ln.{lnOf}
 use Rattle.workspace.specs.Compute.{words}
-use Rattle.workspace.specs.Load.{Loads}
+use Rattle.refusal.specs.declared.Answer.the-variants.{Accepted}
 use Rattle.heading_format.specs.Heading.{progressOf}
 use Rattle.profile.specs.declared.Deviance.the-variants.{NoScale}
-use Rattle.factor_output.specs.Program.{Prints}
+use Rattle.factor_output.specs.Program.{printOf}
 use Rattle.worked_cases.specs.Table.{oneWord, twoWord, halfWord, thirdWord, zeroWord, twoLn2Word, solutionWords, countCases, gateCases, stepCases}
 use Rattle.worked_cases.specs.Evaluate.{sheetBytes, inputBytes, outputBytes, oneReadingBytes, loaded, logDeterminantBits, solving, profiled, sigma2Bits, stepCounts, gateVerdicts, stepRefusals, countsSaid, verdictsSaid, refusalsSaid}
-use Rattle.heading_format.specs.Parts.{headingLength}
 
 pub record Starred : Type 0 where
   -- the input's bytes give the output, byte for byte, through sheet, load, begin, the Rust's order and the printing
-  pub worked : Prints inputBytes outputBytes
+  pub worked : printOf inputBytes ≡ outputBytes
   -- the sheet alone loads; four steps are left
-  pub loads : Loads sheetBytes (replicate headingLength 0) (replicate 14 (Ieee.ofBits binary64 0)) (loaded sheetBytes)
+  pub loads : loaded sheetBytes .answer ≡ Accepted
   pub four-steps : progressOf (loaded sheetBytes .left .heading) .left ≡ 4
   -- logdet 2 ln 2
   pub log-determinant : logDeterminantBits sheetBytes oneWord ≡ twoLn2Word

@@ -10,6 +10,7 @@ use lib.Ieee.{Float, nan, inf}
 use Rattle.refusal.specs.declared.Answer.the-variants.{Accepted}
 use Rattle.refusal.specs.Numbers.{refusal, refusalOf, refuse}
 use Rattle.storage.specs.Runs.{tab}
+use Rattle.sheet.specs.Text.{reading}
 use Rattle.sheet.specs.Run.{Entry}
 use Rattle.sheet.specs.Sheet.{Sheet}
 use Rattle.layout.specs.Blocks.{sum}
@@ -18,7 +19,7 @@ use Rattle.workspace.specs.Compute.{leaves, word, words}
 use Rattle.workspace.specs.Memory.{thetaOf}
 use Rattle.workspace.specs.Answers.{Outcome, untouched, firstInfinite}
 use Rattle.workspace.specs.Loaded.{layoutOfSheet, entryRowIn, rowOf}
-use Rattle.workspace.specs.Load.{loadSheet}
+use Rattle.workspace.specs.Load.{loadSheet, loadOf}
 use Rattle.workspace.specs.Response.{Response, response, replaceOf}
 use Rattle.heading_format.specs.Parts.{progressAt, progressEnd, headingLength}
 use Rattle.sheet.proofs.Made.{countsWith}
@@ -43,6 +44,11 @@ sheet =
 unfoldable loaded : ℕ → Outcome
 unfolding leaves loadSheet words
 loaded room = loadSheet sheet (replicate 129 7) (replicate room (word 99))
+
+-- no bytes: 2 at line 1, and no second place
+no-bytes : loadOf [] (replicate 3 7) [] ≡ untouched (replicate 3 7) [] 2 1 0
+unfolding loadOf reading
+no-bytes = refl
 
 -- diagonals 4, absent and 1; the pair by columns; Z'X over Z'y, column by column, of block 1 and then of block 0; the triangle; then +0.0; the rest stays
 load-writes :

@@ -1,30 +1,29 @@
 -- What an accepted load leaves is a workspace: its heading is not refused with 20.
 use Prim.Native.Nat.{ℕ, _≤_}
-use mathlib.Core.Path.{_≡_, refl, sym, ap, subst}
-use mathlib.Core.Bool.{Bool, true, false, true≢false, and-eq-true-iff}
+use mathlib.Core.Path.{_≡_, refl, sym, ap}
+use mathlib.Core.Bool.{Bool, true, false, cond, true≢false, and-eq-true-iff}
 use mathlib.Core.List.{List}
 use mathlib.Core.Option.{Option, none, some}
 use native.Mathlib.Omega.{arith}
-use lib.Dec.{leb}
+use lib.Dec.{leb, eqb}
 use lib.ListN.{length}
 use lib.Ieee.{Float}
-use borrow.Author.Tests.{leb-true}
+use borrow.Author.Tests.{leb-true, eqb-true}
 use Rattle.refusal.specs.declared.Refusal.{Refusal}
 use Rattle.refusal.specs.declared.Answer.{Answer}
 use Rattle.refusal.specs.declared.Answer.the-variants.{Accepted, Refused}
 use Rattle.storage.specs.Part.{store}
 use Rattle.storage.proofs.Parts.{length-store}
-use Rattle.sheet.specs.declared.Reading.{Reading}
-use Rattle.sheet.specs.declared.Reading.the-variants.{Sheet as Read, Refused as Unread}
 use Rattle.sheet.specs.Sheet.{Sheet, accepted, refused, sheetOf}
 use Rattle.sheet.specs.Sheet as Sheets
-use Rattle.sheet.specs.Answer.{Answers}
+use Rattle.sheet.specs.Fault.{faultNumber, namedLine}
+use Rattle.sheet.specs.Answer.{checked}
 use Rattle.layout.specs.declared.Layout.{Layout}
 use Rattle.layout.specs.Shapes.{pick, pairs, doublesNeeded}
 use Rattle.heading_format.specs.Heading.{validHeading, numbersNeeded}
 use Rattle.workspace.specs.Answers.{Outcome, accept, untouched}
 use Rattle.workspace.specs.Loaded.{firstRefusedPair, layoutOfSheet}
-use Rattle.workspace.specs.Load.{Loads, headingOf, doublesOf, hasRoom, afterGate, loadSheet, loadParsed, loadOf}
+use Rattle.workspace.specs.Load.{headingOf, doublesOf, hasRoom, afterGate, loadSheet, loadOf}
 use Rattle.workspace.proofs.Lengths.{length-doubles}
 use Rattle.workspace.proofs.ValidHeading.{load-stored}
 
@@ -51,23 +50,25 @@ module _ (h : List ℕ) (w : List Float) where
   gate-good sheet y (some r) f = λ e. absurd (true≢false (sym e))
 
   module _ (s : List ℕ) where
-    sheet-good : (sheet : Sheet) (starts : _) → sheetOf s ≡ accepted sheet starts → Answers (accepted sheet starts) (Read starts) → Good (loadSheet sheet h w)
+    sheet-good : (sheet : Sheet) (starts : _) → sheetOf s ≡ accepted sheet starts → faultNumber sheet ≡ 0 → Good (loadSheet sheet h w)
     unfolding loadSheet
-    sheet-good sheet starts e a =
+    sheet-good sheet starts e fine =
         let y : Layout = layoutOfSheet sheet in
         gate-good sheet y (firstRefusedPair sheet y (pairs y.k))
         (λ gate room ok.
         let fits : doublesNeeded y ≤ length w = leb-true (doublesNeeded y) (length w) (and-eq-true-iff (leb (numbersNeeded y) (length h)) (leb (doublesNeeded y) (length w)) .0 room .1) in
-        load-stored s sheet starts e a.0 gate (length (store 0 (doublesOf sheet y) w))
+        load-stored s sheet starts e fine gate (length (store 0 (doublesOf sheet y) w))
         (omega (arith, fits, length-doubles sheet y, length-store 0 (doublesOf sheet y) w (omega (arith, fits, length-doubles sheet y)))) h)
 
-    parsed-good : (p : Sheets.Outcome) → sheetOf s ≡ p → (r : Reading) → Answers p r → Good (loadOf s r h w)
-    unfolding loadOf
-    parsed-good p e (Unread number line) a = refused-good number line 0
-    parsed-good (refused number line) e (Read starts) a = subst (λ (p : Sheets.Outcome). Good (loadParsed p h w)) (sym e) (refused-good number line 0)
-    parsed-good (accepted sheet starts) e (Read found) a =
-        subst (λ (p : Sheets.Outcome). Good (loadParsed p h w)) (sym e) (sheet-good sheet starts e (a.0, refl))
+    checked-good : (sheet : Sheet) (b : Bool) → (b ≡ true → Good (loadSheet sheet h w)) → Good (cond b (loadSheet sheet h w) (untouched h w (faultNumber sheet) (namedLine sheet) 0))
+    checked-good sheet true f = f refl
+    checked-good sheet false f = refused-good (faultNumber sheet) (namedLine sheet) 0
+
+    parsed-good : (p : Sheets.Outcome) → sheetOf s ≡ p → Good (checked (λ number line. untouched h w number line 0) (λ sheet starts. loadSheet sheet h w) p)
+    parsed-good (refused number line) e = refused-good number line 0
+    parsed-good (accepted sheet starts) e = checked-good sheet (eqb (faultNumber sheet) 0) (λ b. sheet-good sheet starts e (eqb-true (faultNumber sheet) 0 b))
 
     -- "20 never comes", of a workspace just loaded
-    pub loads-valid-heading : (o : Outcome) → Loads s h w o → o .answer ≡ Accepted → validHeading (o .left .heading) (length (o .left .doubles)) ≡ true
-    loads-valid-heading o l e = subst Good (sym l.comes) (parsed-good (sheetOf s) refl l.reading l.read) (ap isAccepted e)
+    pub loads-valid-heading : loadOf s h w .answer ≡ Accepted → let v = loadOf s h w .left in validHeading (v .heading) (length (v .doubles)) ≡ true
+    unfolding loadOf
+    loads-valid-heading e = parsed-good (sheetOf s) refl (ap isAccepted e)

@@ -1,5 +1,4 @@
 pub mod Lengths
-pub mod Choice
 pub mod Valid
 pub mod ValidHeading
 pub mod Fresh

@@ -1,6 +1,5 @@
--- Load as a function of sheet, heading and doubles to answer, heading and doubles (document 01, Record 3, "Refused because of the input").
-use Prim.Native.Nat.{ℕ, _+_}
-use mathlib.Core.Path.{_≡_}
+-- Load as a function of bytes, heading and doubles to answer, heading and doubles (document 01, Record 3, "Refused because of the input").
+use Prim.Native.Nat.{ℕ}
 use mathlib.Core.Bool.{Bool, _&&_}
 use mathlib.Core.List.{List, [], _++_}
 use mathlib.Core.Option.{Option, none, some}
@@ -9,11 +8,9 @@ use lib.ListN.{length}
 use lib.Ieee.{Float}
 use Rattle.storage.specs.Runs.{tab}
 use Rattle.storage.specs.Part.{store}
-use Rattle.sheet.specs.declared.Reading.{Reading}
-use Rattle.sheet.specs.declared.Reading.the-variants.{Sheet as Read, Refused as Unread}
-use Rattle.sheet.specs.Sheet.{Sheet, accepted, refused, sheetOf}
-use Rattle.sheet.specs.Sheet as Sheets
-use Rattle.sheet.specs.Answer.{Answers}
+use Rattle.sheet.specs.Sheet.{Sheet, sheetOf}
+use Rattle.sheet.specs.Fault.{faultNumber, faultyLine}
+use Rattle.sheet.specs.Answer.{checked}
 use Rattle.layout.specs.declared.Layout.{Layout}
 use Rattle.refusal.specs.declared.Refusal.{Refusal}
 use Rattle.layout.specs.Shapes.{pick, blockRows, pairs, doublesNeeded}
@@ -48,18 +45,7 @@ loadSheet sheet h w =
     let y = layoutOfSheet sheet in
     afterGate (firstRefusedPair sheet y (pairs (y .k))) sheet y h w
 
-abbrev pub loadParsed : Sheets.Outcome → List ℕ → List Float → Outcome
-loadParsed (accepted sheet starts) h w = loadSheet sheet h w
-loadParsed (refused number line) h w = untouched h w number line 0
-
--- the bytes s, and what their reader answered: 1 to 9, or it goes on
-unfoldable pub loadOf : List ℕ → Reading → List ℕ → List Float → Outcome
-unfolding sheetOf loadSheet
-loadOf s (Unread number line) h w = untouched h w number line 0
-loadOf s (Read starts) h w = loadParsed (sheetOf s) h w
-
--- What load of the bytes s on h and w may come to. It is one outcome, but for the line that 9 names: that is a faulty line, of the program's choice.
-pub record Loads (s : List ℕ) (h : List ℕ) (w : List Float) (o : Outcome) : Type 0 where
-  pub reading : Reading
-  pub read : Answers (sheetOf s) reading
-  pub comes : o ≡ loadOf s reading h w
+-- LOAD of the bytes s on h and w: 1 to 9, or the sheet goes on
+unfoldable pub loadOf : List ℕ → List ℕ → List Float → Outcome
+unfolding sheetOf faultNumber faultyLine loadSheet
+loadOf s h w = checked (λ number line. untouched h w number line 0) (λ sheet starts. loadSheet sheet h w) (sheetOf s)

@@ -4,7 +4,7 @@ use float_bits::words;
 use libc::STDOUT_FILENO;
 
 // The words of a call's head. Its body stands behind it.
-pub const HEAD: usize = 12;
+pub const HEAD: usize = 10;
 
 // Where m has each number and double as it was before a call, behind the room of a body. A result list stands there alone.
 const BEFORE: usize = 52224;
@@ -106,7 +106,7 @@ pub fn print_results(m: &mut [u64; 65536], v: &[f64; 4096]) {
 
 // Word i of the body.
 fn body(m: &[u64; 65536], i: usize) -> u64 {
-    if i < 52212 {
+    if i < 52214 {
         return m[HEAD + i];
     }
     0

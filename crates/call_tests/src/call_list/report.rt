@@ -68,28 +68,13 @@ pub fn of_deviance(d: Deviance) -> Reported {
     }
 }
 
-// A refusal's first place, and 0 where it is one of the lines that the body has from word 10 of the head to before word 11: number 9 may
-// name any of them.
-fn placed(m: &[u64; 65536], first: u64) -> u64 {
-    let end = test_words::size(m[11], 52224);
-    let mut i = test_words::size(m[10], 52224);
-    while i < end {
-        if m[i] == first {
-            return 0;
-        }
-        i += 1;
-    }
-    first
-}
-
 // A line: the call's number in the list's order of kinds, how the answer stands, number and places, the value's word.
 pub fn print(m: &[u64; 65536], t: Reported) {
     let r = t.refusal;
-    let first = placed(m, r.first);
     io::print_decimal(STDOUT_FILENO, m[0]);
     test_words::print_number(t.how);
     test_words::print_number(r.number);
-    test_words::print_number(first);
+    test_words::print_number(r.first);
     test_words::print_number(r.second);
     test_words::print_word(words::word_of(t.value));
 }

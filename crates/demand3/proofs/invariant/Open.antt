@@ -1,27 +1,25 @@
 -- A freshly loaded workspace stands by the opened book.
 use Prim.Native.Nat.{ℕ, _+_, _≤_, _<_}
 use mathlib.Core.Path.{_≡_, refl, sym, ap, subst, _∙_}
-use mathlib.Core.Bool.{Bool, true, false, and-eq-true-iff}
+use mathlib.Core.Bool.{Bool, true, false, cond, and-eq-true-iff}
 use mathlib.Core.List.{List, [], _++_, append-assoc, append-nil}
 use mathlib.Core.Option.{Option, none, some}
 use native.Mathlib.Nat.{zero-add}
 use native.Mathlib.Omega.{arith}
-use lib.Dec.{leb}
+use lib.Dec.{leb, eqb}
 use lib.ListN.{length, getD, take, drop, length-append, length-replicate}
 use lib.Seq.{take-at, drop-at, drop-length}
 use lib.Ieee.{Float}
-use borrow.Author.Tests.{leb-true}
+use borrow.Author.Tests.{leb-true, eqb-true}
 use Rattle.storage.specs.Runs.{tab}
 use Rattle.storage.specs.Part.{store}
 use Rattle.storage.proofs.Cells.{getD-tab}
 use Rattle.storage.proofs.Parts.{length-store, drop-store}
 use Rattle.sheet.specs.declared.Starts.{Starts}
-use Rattle.sheet.specs.declared.Reading.{Reading}
-use Rattle.sheet.specs.declared.Reading.the-variants.{Sheet as Read, Refused as Unread}
 use Rattle.sheet.specs.Sheet.{Sheet, accepted, sheetOf}
 use Rattle.sheet.specs.Sheet as Sheets
-use Rattle.sheet.specs.Answer.{Answers}
-use Rattle.sheet.specs.Fault.{faultNumber}
+use Rattle.sheet.specs.Fault.{faultNumber, namedLine}
+use Rattle.sheet.specs.Answer.{checked}
 use Rattle.refusal.specs.declared.Refusal.{Refusal}
 use Rattle.refusal.specs.declared.Answer.the-variants.{Accepted}
 use Rattle.layout.specs.declared.Layout.{Layout}
@@ -32,7 +30,7 @@ use Rattle.heading_format.proofs.Heading.{length-written, rows-back, idle-valid
 use Rattle.workspace.specs.Memory.{zeros}
 use Rattle.workspace.specs.Answers.{Outcome, workspace, accept, untouched}
 use Rattle.workspace.specs.Loaded.{firstRefusedPair, entryRowIn, loadedNumbers}
-use Rattle.workspace.specs.Load.{Loads, headingOf, doublesOf, hasRoom, afterGate, loadSheet, loadParsed, loadOf}
+use Rattle.workspace.specs.Load.{headingOf, doublesOf, hasRoom, afterGate, loadSheet, loadOf}
 use Rattle.workspace.proofs.Valid.{sparse-columns, sheet-valid}
 use Rattle.workspace.proofs.Lengths.{length-loaded, length-doubles, length-heading}
 use Rattle.workspace.proofs.ValidHeading.{row-below, length-m, length-order}
@@ -68,18 +66,18 @@ module _ (sheet : Sheet) (h : List ℕ) (w : List Float) where
       record { fine = fine; gate = p.0; room = p.1; left = ap (λ (o : Outcome). o .left) p.2 }
 
   -- the sheet was read without a fault
-  taken : (bytes : List ℕ) (starts : Starts) → sheetOf bytes ≡ accepted sheet starts → (r : Reading) → Answers (accepted sheet starts) r
-      → loadOf bytes r h w .answer ≡ Accepted → Applied sheet h w (loadOf bytes r h w)
-  unfolding loadOf
-  taken bytes starts e (Unread number line) r a = absurd (let z : _≡_ {A = ℕ} 0 1 = cc in omega arith)
-  taken bytes starts e (Read found) r a =
-      subst (λ (p : Sheets.Outcome). loadParsed p h w .answer ≡ Accepted → Applied sheet h w (loadParsed p h w)) (sym e) (sheet-opened r.0) a
+  found-fine : (b : Bool) → eqb (faultNumber sheet) 0 ≡ b → cond b (loadSheet sheet h w) (untouched h w (faultNumber sheet) (namedLine sheet) 0) .answer ≡ Accepted
+      → Applied sheet h w (cond b (loadSheet sheet h w) (untouched h w (faultNumber sheet) (namedLine sheet) 0))
+  found-fine true e a = sheet-opened (eqb-true (faultNumber sheet) 0 e) a
+  found-fine false e a = absurd (let z : _≡_ {A = ℕ} 0 1 = cc in omega arith)
 
-  -- the same of what load came to
-  load-opened : (bytes : List ℕ) (starts : Starts) (o : Outcome) → sheetOf bytes ≡ accepted sheet starts → Loads bytes h w o → o .answer ≡ Accepted → Applied sheet h w o
-  load-opened bytes starts o e l a =
-      subst (Applied sheet h w) (sym l.comes)
-      (taken bytes starts e l.reading (subst (λ (p : Sheets.Outcome). Answers p l.reading) e l.read) (ap (λ (x : Outcome). x .answer) (sym l.comes) ∙ a))
+  load-opened : (bytes : List ℕ) (starts : Starts) → sheetOf bytes ≡ accepted sheet starts → loadOf bytes h w .answer ≡ Accepted → Applied sheet h w (loadOf bytes h w)
+  unfolding loadOf
+  load-opened bytes starts e a =
+      subst (λ (p : Sheets.Outcome). come p .answer ≡ Accepted → Applied sheet h w (come p)) (sym e) (found-fine (eqb (faultNumber sheet) 0) refl) a
+    where
+      come : Sheets.Outcome → Outcome
+      come p = checked (λ number line. untouched h w number line 0) (λ sheet starts. loadSheet sheet h w) p
 
 -- ---- the heading that load writes
 module _ (sheet : Sheet) where
@@ -136,10 +134,10 @@ stored sheet h w here =
     }
 
 -- ---- what load accepted: its site
-pub open-site : (bytes : List ℕ) (sheet : Sheet) (starts : Starts) (h : List ℕ) (w : List Float) (o : Outcome)
-    → sheetOf bytes ≡ accepted sheet starts → Loads bytes h w o → o .answer ≡ Accepted → Site sheet h w
-open-site bytes sheet starts h w o e l a =
-    let t = load-opened sheet h w bytes starts o e l a in
+pub open-site : (bytes : List ℕ) (sheet : Sheet) (starts : Starts) (h : List ℕ) (w : List Float)
+    → sheetOf bytes ≡ accepted sheet starts → loadOf bytes h w .answer ≡ Accepted → Site sheet h w
+open-site bytes sheet starts h w e a =
+    let t = load-opened sheet h w bytes starts e a in
     let both = and-eq-true-iff (leb (numbersNeeded (layout sheet)) (length h)) (leb (doublesNeeded (layout sheet)) (length w)) .0 t.room in
     record {
       layout-valid = sheet-valid bytes sheet starts e t.fine t.gate;
@@ -151,10 +149,10 @@ open-site bytes sheet starts h w o e l a =
     }
 
 -- and its workspace, which stands by the opened book
-pub open-invariant : (bytes : List ℕ) (sheet : Sheet) (starts : Starts) (h : List ℕ) (w : List Float) (o : Outcome)
-    → sheetOf bytes ≡ accepted sheet starts → Loads bytes h w o → o .answer ≡ Accepted → Invariant sheet h w (opened sheet) (o .left)
-open-invariant bytes sheet starts h w o e l a =
-    subst (Invariant sheet h w (opened sheet)) (sym (load-opened sheet h w bytes starts o e l a .left)) (stored sheet h w (open-site bytes sheet starts h w o e l a))
+pub open-invariant : (bytes : List ℕ) (sheet : Sheet) (starts : Starts) (h : List ℕ) (w : List Float)
+    → sheetOf bytes ≡ accepted sheet starts → loadOf bytes h w .answer ≡ Accepted → Invariant sheet h w (opened sheet) (loadOf bytes h w .left)
+open-invariant bytes sheet starts h w e a =
+    subst (Invariant sheet h w (opened sheet)) (sym (load-opened sheet h w bytes starts e a .left)) (stored sheet h w (open-site bytes sheet starts h w e a))
 
 -- a freshly loaded workspace with any loaded numbers, of no length beyond the formula
 module _ (sheet : Sheet) (h : List ℕ) (w : List Float) (here : Site sheet h w) (loaded : List Float) (many : length loaded ≡ loadedLength (layout sheet)) where

@@ -1,9 +1,9 @@
 -- `factor_text::factor`: too little room, too long, or as the sheet's reader answered.
 use denote.Ref.{now}
-use mathlib.Core.Path.{subst}
+use mathlib.Core.Path.{sym, _∙_}
 use Rattle.sheet.specs.Sheet.{readSheet}
-use Rattle.sheet.specs.Answer.{Answers}
-use Rattle.factor_text.proofs.refusal_text.Texts.{goes-on, long-out, read-out, unread-out}
+use Rattle.sheet.proofs.Answers.{judged-read}
+use Rattle.factor_text.proofs.refusal_text.Texts.{long-out, read-out, unread-out}
 use Rattle.factor_text.proofs.Room.{too-little, enough}
 use borrow.Author.Needs.{needs}
 use Rattle.factor_text.proofs.factor.Statement.{statement}
@@ -19,17 +19,17 @@ returns-2 c = let a = c.before.before.before.before.before.before.before.before.
 
 put-sheet-requires : tie.Need-put-sheet-requires
 put-sheet-requires c κs = let s = now c.before.before.before.before.before.before.before.before.before.args.input in
-    (goes-on s _ (subst (Answers (readSheet s)) c.before.before.r.given.1 c.before.before.before.before.read-and-check-prefix.ensures), c.before.before.before.before.before.before.if1.left)
+    (judged-read (readSheet s) _ (sym c.before.before.before.before.read-and-check-prefix.ensures ∙ c.before.before.r.given.1), c.before.before.before.before.before.before.if1.left)
 
 returns-3 : tie.Need-returns-3
 returns-3 c = let a = c.before.before.before.before.before.before.before.before.before.before.before.before.args in
     let s = now a.input in let room = c.before.before.before.before.before.before.before.before.before.if1.left in
-    enough _ _ _ _ room (read-out s _ (now a.out) _ room c.before.before.before.before.before.before.before.before.if2.left _ (subst (Answers (readSheet s)) c.before.before.before.before.before.r.given.1 c.before.before.before.before.before.before.before.read-and-check-prefix.ensures) c.before.before.put-sheet.ensures)
+    enough _ _ _ _ room (read-out s _ (now a.out) _ room c.before.before.before.before.before.before.before.before.if2.left c.before.before.put-sheet.ensures)
 
 returns-4 : tie.Need-returns-4
 returns-4 c = let a = c.before.before.before.before.before.before.before.before.before.before.before.before.args in
     let s = now a.input in let room = c.before.before.before.before.before.before.before.before.before.if1.left in
-    enough _ _ _ _ room (unread-out s _ (now a.out) _ room c.before.before.before.before.before.before.before.before.if2.left _ _ (subst (Answers (readSheet s)) c.before.before.before.before.before.r2.given.1 c.before.before.before.before.before.before.before.read-and-check-prefix.ensures) c.before.before.put-refusal2.ensures)
+    enough _ _ _ _ room (unread-out s _ (now a.out) _ room c.before.before.before.before.before.before.before.before.if2.left _ _ (sym c.before.before.before.before.before.before.before.read-and-check-prefix.ensures ∙ c.before.before.before.before.before.r2.given.1) c.before.before.put-refusal2.ensures)
 
 pub factor-spec : {M : Type 1} → statement M
 factor-spec = tie.close (tie.spec returns (λ c κs. search needs) (λ c. search needs) returns-2 (λ c κs. search needs)

@@ -13,7 +13,7 @@ returns : tie.Need-returns
 returns c =
     let st = c.before.before.before.before.before.before.before.before.before.before.before.before.before.before.before in
     let p = st.pre.0 in
-    sheet-out (now st.args.bytes) st.args.starts p.0 p.1 _ _ _ _ _ _ (c.before.before.before.before.before.before.before.before.before.before.load-sheet.ensures p.0 p.1) c.before.before.before.before.put-loaded.ensures
+    sheet-out (now st.args.bytes) st.args.starts p.0 p.1 p.2 _ _ _ _ _ _ (c.before.before.before.before.before.before.before.before.before.before.load-sheet.ensures p.0 p.1) c.before.before.before.before.put-loaded.ensures
 
 pub put-sheet-spec : {M : Type 1} → statement M
 put-sheet-spec = tie.close (tie.spec (λ c. search needs) (λ c. search needs) (λ c κs. search needs) (λ c. search needs)

@@ -15,12 +15,12 @@ use Rattle.storage.proofs.Parts.{part-same, drop-store}
 use Rattle.step_order.specs.Steps.{rustOrder}
 use Rattle.rules.specs.Arithmetic.{ieee}
 use Rattle.sheet.specs.declared.Cursor.{Cursor}
-use Rattle.sheet.specs.declared.Reading.the-variants.{Sheet as Read, Refused as Unread}
+use Rattle.sheet.specs.declared.Reading.the-variants.{Refused as Unread}
 use Rattle.sheet.specs.declared.Starts.{Starts}
-use Rattle.sheet.specs.Sheet.{Sheet, accepted, refused, readSheet}
-use Rattle.sheet.specs.Sheet as Sheets
+use Rattle.sheet.specs.Sheet.{Sheet, accepted, readSheet}
 use Rattle.sheet.specs.Fault.{faultNumber}
-use Rattle.sheet.specs.Answer.{Answers}
+use Rattle.sheet.specs.Answer.{judged}
+use Rattle.sheet.proofs.Answers.{judged-refused, checked-fine}
 use Rattle.sheet.proofs.Whole.{read-whole, all-lines}
 use Rattle.layout.specs.declared.Layout.{Layout}
 use Rattle.heading_format.specs.Heading.{layoutOf, validHeading, underWay}
@@ -36,7 +36,7 @@ use Rattle.profile_deviance.specs.ready_step.ReadyInTurn.{isRefused, ReadyInTur
 use Rattle.profile_deviance.proofs.ready_step.Turns.{just-begun}
 use Rattle.load_numbers.proofs.sheet_words.Facts.{few-entries}
 use Rattle.factor_output.specs.Print.{refusedLine}
-use Rattle.factor_output.specs.Program.{bytesHeld, numbersHeld, doublesHeld, printSteps, afterBegin, factorWith, thetaLines, afterLoad, afterSheet, printOf, Prints, too-long, read}
+use Rattle.factor_output.specs.Program.{bytesHeld, numbersHeld, doublesHeld, printSteps, afterBegin, factorWith, thetaLines, afterLoad, afterSheet, afterRead, printOf}
 use Rattle.factor_text.specs.refusal_text.Text.{Text}
 use Rattle.sheet.specs.declared.Counts.{Counts}
 
@@ -117,44 +117,39 @@ module _ (s : List ℕ) (z : Starts) where
       let pp = mul-le-mul t.counts.p.1 t.counts.p.1 in
       (k, omega (arith, k, zz, qq, qp, pp, all-lines (read-whole s sheet z e), t.counts.k, t.counts.q, t.counts.p.1))
 
-  pub sheet-out : (sheet : Sheet) → readSheet s ≡ accepted sheet z → (a : Answer) (h : List ℕ) (w : List Float) (n : ℕ) (old out : List ℕ)
+  pub sheet-out : (sheet : Sheet) → readSheet s ≡ accepted sheet z → faultNumber sheet ≡ 0 → (a : Answer) (h : List ℕ) (w : List Float) (n : ℕ) (old out : List ℕ)
       → record { answer = a; left = workspace h w } ≡ loadSheet sheet (replicate numbersHeld 0) (replicate doublesHeld (ieee .zero))
-      → Text (afterLoad a (workspace h w) (z .counts) s z) n old out → Text (afterSheet (readSheet s) s) n old out
-  sheet-out sheet e a h w n old out q t =
-      subst (λ (o : Sheets.Outcome). Text (afterSheet o s) n old out) (sym e)
+      → Text (afterLoad a (workspace h w) (z .counts) s z) n old out → Text (afterRead (readSheet s) s) n old out
+  sheet-out sheet e fine a h w n old out q t =
+      subst (λ (l : List ℕ). Text l n old out)
+      (sym (checked-fine (λ number line. refusedLine number line 0) (λ sheet starts. afterSheet sheet s starts) (readSheet s) sheet z e fine))
       (subst (λ (o : Outcome). Text (afterLoad o.answer o.left sheet.counts s z) n old out) q (subst (λ (x : Counts). Text (afterLoad a (workspace h w) x s z) n old out) (read-whole s sheet z e .shape .same-counts) t))
 
 -- ---- what the sheet's reader answered
-pub goes-on : (s : List ℕ) (z : Starts) → Answers (readSheet s) (Read z) → (sheet : Sheet) × (readSheet s ≡ accepted sheet z) × (faultNumber sheet ≡ 0)
-goes-on s z a = go (readSheet s) refl a
-  where
-    go : (p : Sheets.Outcome) → readSheet s ≡ p → Answers p (Read z) → (sheet : Sheet) × (readSheet s ≡ accepted sheet z) × (faultNumber sheet ≡ 0)
-    go (accepted sheet starts) e a = (sheet, e ∙ ap (accepted sheet) (sym a.1), a.0)
-    go (refused number line) e a = absurd (let x : _≡_ {A = ℕ} 0 1 = cc in omega arith)
-
--- what it may print stands in the first n bytes, and those behind are as they were
+-- what is printed stands in the first n bytes, and those behind are as they were
 abbrev pub Printed : List ℕ → ℕ → List ℕ → List ℕ → Type 0
-Printed s n old out = (n ≤ 131072) × Prints s (take n out) × (drop n out ≡ drop n old)
+Printed s n old out = (n ≤ 131072) × (take n out ≡ printOf s) × (drop n out ≡ drop n old)
 
 module _ (s : List ℕ) (n : ℕ) (old out : List ℕ) (room : 131072 ≤ length old) where
-  -- a text that it may print
-  text-out : (l : List ℕ) → Prints s l → Text l n old out → Printed s n old out
+  -- the text that it prints
+  text-out : (l : List ℕ) → l ≡ printOf s → Text l n old out → Printed s n old out
   text-out l p t =
       let e : length l ≡ n = omega (arith, t.1.0) in (
         t .0,
-        subst (Prints s) (sym (ap (take n) t.1.1 ∙ part-same 0 l old (omega (arith, e, t.0)) n e)) p,
+        ap (take n) t.1.1 ∙ part-same 0 l old (omega (arith, e, t.0)) n e ∙ p,
         ap (drop n) t.1.1 ∙ drop-store 0 l old (omega (arith, e, t.0)) n (omega (arith, e)),
       )
 
   -- more than the program holds
   pub long-out : bytesHeld < length s → Text (refusedLine 12 0 0) n old out → Printed s n old out
-  long-out h t = text-out (refusedLine 12 0 0) (too-long (lt-ltb bytesHeld (length s) h)) t
+  unfolding printOf
+  long-out h t = text-out (refusedLine 12 0 0) (rw (lt-ltb bytesHeld (length s) h) refl) t
 
   module _ (h : length s ≤ bytesHeld) where
-    pub read-out : (z : Starts) → Answers (readSheet s) (Read z) → Text (afterSheet (readSheet s) s) n old out → Printed s n old out
+    pub read-out : Text (afterRead (readSheet s) s) n old out → Printed s n old out
     unfolding printOf
-    read-out z a t = text-out _ (read (le-ltb bytesHeld (length s) h) (Read z) a) t
+    read-out t = text-out _ (rw (le-ltb bytesHeld (length s) h) refl) t
 
-    pub unread-out : (number line : ℕ) → Answers (readSheet s) (Unread number line) → Text (refusedLine number line 0) n old out → Printed s n old out
-    unfolding printOf
-    unread-out number line a t = text-out _ (read (le-ltb bytesHeld (length s) h) (Unread number line) a) t
+    pub unread-out : (number line : ℕ) → judged (readSheet s) ≡ Unread number line → Text (refusedLine number line 0) n old out → Printed s n old out
+    unread-out number line a t =
+        read-out (subst (λ (l : List ℕ). Text l n old out) (sym (judged-refused (λ number line. refusedLine number line 0) (λ sheet starts. afterSheet sheet s starts) (readSheet s) number line a)) t)

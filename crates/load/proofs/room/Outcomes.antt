@@ -1,7 +1,7 @@
 -- What load leaves, part by part, is what is defined.
 use Prim.Native.Nat.{ℕ, _+_, _≤_}
 use mathlib.Core.Path.{_≡_, refl, sym, ap, ap₂, _∙_}
-use mathlib.Core.Bool.{true, false, _&&_, and-eq-true-iff}
+use mathlib.Core.Bool.{true, false, and-eq-true-iff}
 use mathlib.Core.List.{List, []}
 use mathlib.Core.Option.{Option, none, some}
 use native.Mathlib.Omega.{arith}
@@ -17,10 +17,10 @@ use Rattle.storage.specs.Part.{store}
 use Rattle.storage.proofs.Parts.{store-more}
 use Rattle.sheet.specs.declared.Reading.the-variants.{Sheet as Read, Refused as Unread}
 use Rattle.sheet.specs.declared.Starts.{Starts}
-use Rattle.sheet.specs.Sheet.{Sheet, accepted, refused, readSheet, sheetOf}
-use Rattle.sheet.specs.Sheet as Sheets
+use Rattle.sheet.specs.Sheet.{Sheet, accepted, readSheet, sheetOf}
 use Rattle.sheet.specs.Fault.{faultNumber}
-use Rattle.sheet.specs.Answer.{Answers}
+use Rattle.sheet.specs.Answer.{judged}
+use Rattle.sheet.proofs.Answers.{judged-read, judged-refused, checked-fine}
 use Rattle.sheet.proofs.Whole.{alone-read}
 use Rattle.layout.specs.declared.Layout.{Layout}
 use Rattle.heading_format.specs.declared.Progress.{Progress}
@@ -30,7 +30,7 @@ use Rattle.heading_format.proofs.Valid.{is-valid}
 use Rattle.heading_format.proofs.Heading.{length-written}
 use Rattle.workspace.specs.Answers.{Outcome, workspace, untouched}
 use Rattle.workspace.specs.Loaded.{entryRowIn, firstRefusedPair, layoutOfSheet}
-use Rattle.workspace.specs.Load.{headingOf, doublesOf, hasRoom, afterGate, loadSheet, loadParsed, loadOf, Loads}
+use Rattle.workspace.specs.Load.{headingOf, doublesOf, hasRoom, afterGate, loadSheet, loadOf}
 use Rattle.layout_gate.specs.gate_search.Search.{answerOf}
 use Rattle.layout_gate.proofs.gate_search.Pairs.{none-denied, some-denied}
 use Rattle.heading_format.specs.Parts.{headingLength}
@@ -101,28 +101,18 @@ module _ (sheet : Sheet) (y : Layout) (q : y ≡ layoutOfSheet sheet) (d : Refus
   open-out h w o n e = e ∙ sym (sheet-out h w ∙ ap (λ (o : Option Refusal). afterGate o sheet y h w) (gate-open n))
 
 -- ---- the reader's answer: a sheet that goes on, or a refusal
-goes-on : (s : List ℕ) (z : Starts) → Answers (sheetOf s) (Read z) → (sheet : Sheet) × (sheetOf s ≡ accepted sheet z) × (faultNumber sheet ≡ 0)
-goes-on s z a = go (sheetOf s) refl a
-  where
-    go : (p : Sheets.Outcome) → sheetOf s ≡ p → Answers p (Read z) → (sheet : Sheet) × (sheetOf s ≡ accepted sheet z) × (faultNumber sheet ≡ 0)
-    go (accepted sheet starts) e a = (sheet, e ∙ ap (accepted sheet) (sym a.1), a.0)
-    go (refused number line) e a = absurd (let x : _≡_ {A = ℕ} 0 1 = cc in omega arith)
-
 -- what the functions that read the sheet again ask
-pub to-read : (s : List ℕ) (z : Starts) → Answers (sheetOf s) (Read z) → (sheet : Sheet) × (readSheet s ≡ accepted sheet z) × (faultNumber sheet ≡ 0)
-to-read s z a = let g = goes-on s z a in (g.0, alone-read s g.0 z g.1 .0, g.2)
+pub to-read : (s : List ℕ) (z : Starts) → judged (sheetOf s) ≡ Read z → (sheet : Sheet) × (readSheet s ≡ accepted sheet z) × (faultNumber sheet ≡ 0)
+to-read s z a = let g = judged-read (sheetOf s) z a in (g.0, alone-read s g.0 z g.1 .0, g.2)
 
-module _ (s h : List ℕ) (w : List Float) (o : Outcome) where
-  pub read-out : (z : Starts) → Answers (sheetOf s) (Read z) → ((sheet : Sheet) → readSheet s ≡ accepted sheet z → o ≡ loadSheet sheet h w) → Loads s h w o
+module _ (s h : List ℕ) (w : List Float) where
+  pub read-out : (o : Outcome) (z : Starts) → judged (sheetOf s) ≡ Read z → ((sheet : Sheet) → readSheet s ≡ accepted sheet z → o ≡ loadSheet sheet h w) → o ≡ loadOf s h w
   unfolding loadOf
-  read-out z a f =
-      let g = goes-on s z a in
-      record {
-        reading = Read z;
-        read = a;
-        comes = f g.0 (alone-read s g.0 z g.1 .0) ∙ ap (λ (p : Sheets.Outcome). loadParsed p h w) (sym g.1);
-      }
+  read-out o z a f =
+      let g = judged-read (sheetOf s) z a in
+      f g.0 (alone-read s g.0 z g.1 .0)
+      ∙ sym (checked-fine (λ number line. untouched h w number line 0) (λ sheet starts. loadSheet sheet h w) (sheetOf s) g.0 z g.1 g.2)
 
-pub unread-out : (s h : List ℕ) (w : List Float) (number line : ℕ) → Answers (sheetOf s) (Unread number line) → Loads s h w (untouched h w number line 0)
-unfolding loadOf
-unread-out s h w number line a = record { reading = Unread number line; read = a; comes = refl }
+  pub unread-out : (number line : ℕ) → judged (sheetOf s) ≡ Unread number line → untouched h w number line 0 ≡ loadOf s h w
+  unfolding loadOf
+  unread-out number line a = sym (judged-refused (λ number line. untouched h w number line 0) (λ sheet starts. loadSheet sheet h w) (sheetOf s) number line a)

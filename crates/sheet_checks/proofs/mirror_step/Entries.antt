@@ -1,11 +1,12 @@
 -- The zz lines of the sheet that bytes hold, by index: where each stands, its number, its order, and what makes it faulty.
-use Prim.Native.Nat.{ℕ, zero, suc, _+_, _<_}
+use Prim.Native.Nat.{ℕ, zero, suc, _+_, _≤_, _<_, min}
 use mathlib.Core.Path.{_≡_, refl, sym, _∙_, ap, subst}
-use mathlib.Core.Logic.{_⊎_, inl, inr}
+use mathlib.Core.Logic.{_⊎_, inl, inr, by-cases}
 use mathlib.Core.Bool.{Bool, true, false, not, _&&_, _||_, false≢true}
 use mathlib.Core.List.{List, [], _∷_, List·Memᴰ, List·Memᴰ·head, List·Memᴰ·tail, List·Memᴰ·not-nil, List·Memᴰ·cases-cons}
 use native.Mathlib.Omega.{arith}
 use native.Mathlib.Numerals.{add-one}
+use native.Mathlib.Decide.{decLt}
 use borrow.Author.Tests.{eqb-true, eqb-false, eq-eqb, ne-eqb}
 use lib.Dec.{eqb}
 use lib.ListN.{length, getD}
@@ -17,12 +18,14 @@ use Rattle.sheet.specs.Field.{isZero}
 use Rattle.sheet.specs.Run.{Entry, entryIn, keptFrom, pastFrom}
 use Rattle.sheet.specs.Sheet.{Sheet}
 use Rattle.sheet.specs.Whole.{Each, Earlier, Rising, EntryInRange, Whole}
-use Rattle.sheet.specs.Fault.{Mirror, Fault, zero-word, inside-block, no-mirror, Faulty, blockOfRow, isInside, anyFaulty}
+use Rattle.sheet.specs.Fault.{Mirror, Fault, zero-word, inside-block, no-mirror, blockOfRow, isInside, isFault, faultyLine}
 use Rattle.sheet.proofs.Whole.{read-whole}
-use Rattle.sheet.proofs.Faults.{faulty-line}
-use Rattle.sheet_checks.specs.mirror_cursor.Held.{held, entryOf, placeOf, Given}
+use Rattle.sheet.proofs.Faults.{fault-true, true-fault, first-at, first-none}
+use Rattle.sheet_checks.specs.mirror_cursor.Held.{held, entryOf, placeOf, Given, FaultAt}
+use Rattle.sheet_checks.specs.mirror_cursor.Columns.{Mirrored}
 use Rattle.sheet_checks.specs.mirror_cursor.Turns.{isUnfit}
-use Rattle.sheet_checks.proofs.mirror_step.Columns.{Unmirrored, Mirrored, Rises}
+use Rattle.sheet_checks.proofs.mirror_step.Places.{pair-in-form, sheet-formed}
+use Rattle.sheet_checks.proofs.mirror_step.Columns.{last-or-before, Unmirrored, InOrder}
 
 -- ---- lists by index
 each-at : {A : Type 0} (P : A → Type 0) (l : List A) (d : A) (t : ℕ) → t < length l → Each P l → P (getD l t d)
@@ -88,9 +91,39 @@ module _ {s : List ℕ} {z : Starts} {n : ℕ} (g : Given s z n) where
       ∙ kept-at read entryIn d (length (held s .zz)) (held s .counts .k + 2) z.zz t (omega (arith, g.count))
       ∙ ap (λ (c : ℕ). entryIn c (read (placeOf s z t))) (omega arith)
 
-  pub rises : Rises (entryOf (held s)) (length (held s .zz))
+  -- entry i, by the line that was read
+  pub read-here : {i at : ℕ} {l : Line} → i < n → at ≡ placeOf s z i → l ≡ pairLine zzTag s at → entryOf (held s) i ≡ entryIn (z .counts .k + 2 + i) l
+  read-here {i} {at} {l} h e q = entry-line i h ∙ ap (entryIn (z.counts.k + 2 + i)) (sym (q ∙ ap (pairLine zzTag s) e))
+
+  pub next-here : (i : ℕ) {at : ℕ} {l : Line} → at ≡ placeOf s z i → l ≡ pairLine zzTag s at → l .next ≡ placeOf s z (i + 1)
+  next-here i {at} {l} e q = ap (λ (x : Line). x .next) (q ∙ ap (pairLine zzTag s) e) ∙ sym (place-next s z i)
+
+  -- a line ends past where it starts, and within the bytes
+  pub line-ends : (t : ℕ) → t < length (held s .zz) → (placeOf s z t < placeOf s z (t + 1)) × (placeOf s z (t + 1) ≤ length s)
+  line-ends t h =
+      let f = pair-in-form zzTag s (placeOf s z t) (omega (arith, whole.short)) (sheet-formed s (held s) z g.read t h) in
+      (omega (arith, f.0, place-next s z t), omega (arith, f.1, place-next s z t))
+
+  pub places-rise : (a b : ℕ) → a < b → b ≤ length (held s .zz) → placeOf s z a < placeOf s z b
+  places-rise a zero h k = absurd (omega arith)
+  places-rise a (suc b) h k =
+      let more = places-rise a b in
+      go more (last-or-before a b (omega arith)) (line-ends b (omega arith) .0) (ap (placeOf s z) (add-one b))
+    where
+      go : (a < b → b ≤ length (held s .zz) → placeOf s z a < placeOf s z b) → (a < b) ⊎ (a ≡ b) → placeOf s z b < placeOf s z (b + 1) → placeOf s z (b + 1) ≡ placeOf s z (suc b)
+          → placeOf s z a < placeOf s z (suc b)
+      go more (inl l) n e = omega (arith, more l (omega arith))
+      go more (inr l) n e = let q : placeOf s z a ≡ placeOf s z b = ap (placeOf s z) l in omega arith
+
+  pub in-order : InOrder (entryOf (held s)) (placeOf s z) (length (held s .zz))
   unfolding entryOf
-  rises a b h k = rising-at (held s .zz) _ a b h k whole.shape.zz-rising
+  in-order = record { rises = λ a b h k. rising-at (held s .zz) _ a b h k whole.shape.zz-rising; later = places-rise }
+
+  -- one place has one index
+  pub same-place : (a b : ℕ) → a ≤ length (held s .zz) → b ≤ length (held s .zz) → placeOf s z a ≡ placeOf s z b → a ≡ b
+  same-place a b h k e =
+      by-cases (decLt a b) (λ l. absurd (omega (arith, places-rise a b l k)))
+      (λ l. by-cases (decLt b a) (λ m. absurd (omega (arith, places-rise b a m h))) (λ m. omega arith))
 
   pub in-range : (t : ℕ) → t < n → EntryInRange (held s .counts .q) (entryOf (held s) t)
   unfolding entryOf
@@ -98,10 +131,6 @@ module _ {s : List ℕ} {z : Starts} {n : ℕ} (g : Given s z n) where
 
 -- ---- faults
 module _ (sheet : Sheet) where
-  pub faulty-at : (t : ℕ) → t < length (sheet .zz) → Fault sheet (entryOf sheet t) → Faulty sheet (entryOf sheet t .line)
-  unfolding entryOf
-  faulty-at t h f = (entryOf sheet t, member-at sheet.zz _ t h, refl, f)
-
   pub unmirrored-fault : (t : ℕ) → Unmirrored (entryOf sheet) (length (sheet .zz)) t → Fault sheet (entryOf sheet t)
   unfolding entryOf
   unmirrored-fault t none =
@@ -134,13 +163,35 @@ module _ (sheet : Sheet) where
           inside false x = false≢true (sym (simp (eq-eqb _ _ b, ne-eqb _ _ d) at x))
       go (no-mirror none) k = none (entryOf sheet m.0) (member-at sheet.zz _ m.0 m.1) m.2
 
-  pub none-faulty : ((t : ℕ) → t < length (sheet .zz) → Fault sheet (entryOf sheet t) → ⊥) → anyFaulty sheet ≡ false
-  unfolding entryOf
-  none-faulty none = go (anyFaulty sheet) refl
+  -- the line that 9 names, by the index of the first entry with a fault
+  unfaulty : (t : ℕ) → (Fault sheet (entryOf sheet t) → ⊥) → isFault sheet (entryOf sheet t) ≡ false
+  unfaulty t none = go (isFault sheet (entryOf sheet t)) refl
     where
-      go : (b : Bool) → anyFaulty sheet ≡ b → b ≡ false
+      go : (b : Bool) → isFault sheet (entryOf sheet t) ≡ b → b ≡ false
       go false q = refl
-      go true q =
-          let f = faulty-line sheet q .1 in
-          let a = at-member sheet.zz (record { line = 0; col = 0; row = 0; word = 0 }) f.0 f.1 in
-          absurd (none a.0 a.1 (subst (λ (x : Entry). Fault sheet x) (sym a.2) f.3))
+      go true q = absurd (none (fault-true sheet (entryOf sheet t) q))
+
+  pub names-entry : (t : ℕ) → t < length (sheet .zz) → Fault sheet (entryOf sheet t) → ((u : ℕ) → u < t → Fault sheet (entryOf sheet u) → ⊥) → entryOf sheet t .line ≡ faultyLine sheet
+  unfolding entryOf faultyLine
+  names-entry t h f none = sym (first-at (isFault sheet) sheet.zz _ t h (true-fault sheet (entryOf sheet t) f) (λ u k. unfaulty u (none u k)))
+
+  pub names-none : ((u : ℕ) → u < length (sheet .zz) → Fault sheet (entryOf sheet u) → ⊥) → 0 ≡ faultyLine sheet
+  unfolding entryOf faultyLine
+  names-none none = sym (first-none (isFault sheet) sheet.zz _ (λ u k. unfaulty u (none u k)))
+
+-- ---- a faulty line by where it starts
+module _ {s : List ℕ} {z : Starts} where
+  pub fault-here : (t : ℕ) → t < length (held s .zz) → Fault (held s) (entryOf (held s) t) → FaultAt s z (placeOf s z t)
+  fault-here t h f = record { t = t; near = omega arith; here = refl; fault = λ k. f }
+
+  pub fault-none : {n : ℕ} → Given s z n → FaultAt s z (z .zx)
+  fault-none g = record { t = length (held s .zz); near = omega arith; here = whole g .placed .zz-end; fault = λ k. absurd (omega arith) }
+
+  pub fault-min : {a b : ℕ} → FaultAt s z a → FaultAt s z b → FaultAt s z (min a b)
+  fault-min {a} {b} x y =
+      by-cases (decLt a b) (λ l. subst (FaultAt s z) (let e : a ≡ min a b = omega arith in e) x) (λ l. subst (FaultAt s z) (let e : b ≡ min a b = omega arith in e) y)
+
+  -- an entry without a mirror is faulty, and the first faulty line that is known may be it
+  pub with-unmirrored : (t : ℕ) {first at : ℕ} → t < length (held s .zz) → at ≡ placeOf s z t → FaultAt s z first
+      → Unmirrored (entryOf (held s)) (length (held s .zz)) t → FaultAt s z (min first at)
+  with-unmirrored t {first} {at} h e f u = fault-min f (subst (FaultAt s z) (sym e) (fault-here t h (unmirrored-fault (held s) t u)))

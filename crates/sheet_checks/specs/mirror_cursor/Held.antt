@@ -1,5 +1,5 @@
 -- The sheet that bytes hold, and its zz lines by index (document 01, Record 1).
-use Prim.Native.Nat.{ℕ, _<_}
+use Prim.Native.Nat.{ℕ, _<_, _≤_}
 use mathlib.Core.Path.{_≡_}
 use mathlib.Core.Bool.{true}
 use mathlib.Core.List.{List, []}
@@ -8,7 +8,7 @@ use Rattle.sheet.specs.declared.Starts.{Starts}
 use Rattle.sheet.specs.Line.{zzTag, pairLine}
 use Rattle.sheet.specs.Run.{Entry, pastFrom}
 use Rattle.sheet.specs.Sheet.{Sheet, Outcome, accepted, refused, sheetWith, readSheet}
-use Rattle.sheet.specs.Fault.{coversRows}
+use Rattle.sheet.specs.Fault.{Fault, coversRows}
 use Rattle.layout.specs.Blocks.{padded}
 use Rattle.sheet_checks.specs.levels.Held.{levelList}
 
@@ -39,3 +39,10 @@ pub record Given (s : List ℕ) (z : Starts) (n : ℕ) : Type 0 where
 pub record Levelled (s m : List ℕ) : Type 0 where
   pub levels : m ≡ padded 8 (levelList (held s .blocks))
   pub covers : coversRows (held s) ≡ true
+
+-- a faulty line, by where it starts; the end of the zz lines stands for none
+pub record FaultAt (s : List ℕ) (z : Starts) (at : ℕ) : Type 0 where
+  pub t : ℕ
+  pub near : t ≤ length (held s .zz)
+  pub here : at ≡ placeOf s z t
+  pub fault : t < length (held s .zz) → Fault (held s) (entryOf (held s) t)

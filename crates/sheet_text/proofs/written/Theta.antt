@@ -1,31 +1,30 @@
 -- The program `factor` reads every input in form, and of inputs whose sheet it reads no others.
 use Prim.Native.Nat.{ℕ, _^_, _≤_, _<_}
 use mathlib.Core.Path.{_≡_, refl, sym, ap, ap₂, subst, _∙_}
-use mathlib.Core.Bool.{true}
+use mathlib.Core.Bool.{Bool, cond}
 use mathlib.Core.List.{List, [], _∷_, map}
 use native.Mathlib.Omega.{arith}
 use lib.ListN.{length, drop, drop-of-length-le, replicate}
 use lib.Dec.{eqb}
-use borrow.Author.Tests.{ltb-true, eqb-true, eq-eqb}
+use borrow.Author.Tests.{le-ltb, eqb-true, eq-eqb}
 use Rattle.sheet.specs.declared.Cursor.{Cursor}
 use Rattle.sheet.specs.declared.Line.{Line}
 use Rattle.sheet.specs.declared.Starts.{Starts}
 use Rattle.sheet.specs.Line.{inForm, singleLine}
 use Rattle.sheet.specs.Run.{Run, passOf, linesOf, rowsFrom, wordIn}
-use Rattle.sheet.specs.Sheet.{Sheet, Outcome, accepted, readSheet}
+use Rattle.sheet.specs.Sheet.{Sheet, accepted, readSheet}
 use Rattle.sheet.specs.Whole.{Each}
 use Rattle.sheet.proofs.Lines.{both, in-order, lines-length, grid-length}
 use Rattle.refusal.specs.declared.Answer.{Answer}
 use Rattle.refusal.specs.declared.Answer.the-variants.{Accepted}
 use Rattle.rules.specs.Arithmetic.{ieee}
-use Rattle.sheet.specs.declared.Reading.{Reading}
-use Rattle.sheet.specs.declared.Reading.the-variants.{Sheet as Read, Refused as Unread}
 use Rattle.sheet.specs.Fault.{faultNumber}
-use Rattle.sheet.specs.Answer.{Answers}
+use Rattle.sheet.proofs.Answers.{checked-fine}
 use Rattle.workspace.specs.Memory.{Workspace}
 use Rattle.workspace.specs.Loaded.{double}
 use Rattle.workspace.specs.Load.{loadSheet}
-use Rattle.factor_output.specs.Program.{bytesHeld, doublesHeld, numbersHeld, thetaTag, thetaTests, thetaVerdict, thetaLines, afterTheta, afterLoad, afterSheet, factorWith, printOf, Prints, too-long, read}
+use Rattle.factor_output.specs.Program.{bytesHeld, doublesHeld, numbersHeld, thetaTag, thetaTests, thetaVerdict, thetaLines, afterTheta, afterLoad, afterSheet, afterRead, factorWith, printOf}
+use Rattle.factor_output.specs.Print.{refusedLine}
 use Rattle.sheet_text.specs.written.Written.{singleText, linesText, sheetText}
 use Rattle.sheet_text.specs.written.Input.{thetaText, Input}
 use Rattle.sheet_text.proofs.written.Lines.{From, from-drop, from-length, in-form, Fits, kind-from, lines-back}
@@ -121,22 +120,15 @@ load-printed s sheet ws i starts f a v e = rw e (theta-printed s sheet ws i star
 -- An input in form whose sheet is without a fault, and fits: begin with its theta, the steps and the pivots are what is printed.
 pub input-printed : (s : List ℕ) (sheet : Sheet) (ws : List ℕ) → Input s sheet ws → faultNumber sheet ≡ 0
     → let o = loadSheet sheet (replicate numbersHeld 0) (replicate doublesHeld (ieee .zero)) in
-    o .answer ≡ Accepted → (out : List ℕ) → Prints s out → out ≡ factorWith (o .left) (sheet .counts .k) (map double ws)
+    o .answer ≡ Accepted → printOf s ≡ factorWith (o .left) (sheet .counts .k) (map double ws)
 unfolding printOf
-input-printed s sheet ws i none ok out p =
+input-printed s sheet ws i fine ok =
     let t = i.text in
     let short : length (sheetText sheet (thetaText ws)) ≤ 16777216 = omega (arith, i.held, ap length t) in
     let r = written-before sheet (thetaText ws) i.form short in
     let e : readSheet s ≡ accepted sheet r.0 = ap readSheet t ∙ r.1 in
     let f : From s r.0.end (thetaText ws) = subst (λ (x : List ℕ). From x r.0.end (thetaText ws)) (sym t) r.2 in
-    go r.0 e f out p
-  where
-    printed : (starts : Starts) → readSheet s ≡ accepted sheet starts → From s (starts .end) (thetaText ws) → (reading : Reading) → Answers (accepted sheet starts) reading
-        → printOf s reading ≡ factorWith (loadSheet sheet (replicate numbersHeld 0) (replicate doublesHeld (ieee .zero)) .left) (sheet .counts .k) (map double ws)
-    printed starts e f (Read found) a = ap (λ (x : Outcome). afterSheet x s) e ∙ load-printed s sheet ws i starts f _ _ ok
-    printed starts e f (Unread number line) a = absurd (omega (arith, a.applies, a.first))
-
-    go : (starts : Starts) → readSheet s ≡ accepted sheet starts → From s (starts .end) (thetaText ws) → (text : List ℕ) → Prints s text
-        → text ≡ factorWith (loadSheet sheet (replicate numbersHeld 0) (replicate doublesHeld (ieee .zero)) .left) (sheet .counts .k) (map double ws)
-    go starts e f _ (too-long u) = let l = ltb-true bytesHeld (length s) u in absurd (omega (arith, i.held))
-    go starts e f _ (read u reading a) = printed starts e f reading (subst (λ (x : Outcome). Answers x reading) e a)
+    let o = loadSheet sheet (replicate numbersHeld 0) (replicate doublesHeld (ieee.zero)) in
+    ap (λ (b : Bool). cond b (refusedLine 12 0 0) (afterRead (readSheet s) s)) (le-ltb bytesHeld (length s) i.held)
+    ∙ checked-fine (λ number line. refusedLine number line 0) (λ sheet starts. afterSheet sheet s starts) (readSheet s) sheet r.0 e fine
+    ∙ load-printed s sheet ws i r.0 f o.answer o.left ok
