@@ -10,7 +10,7 @@ ghost use Prim.Native.Nat.{_≤_};
 ghost use lib.ListN.{length};
 ghost use Rattle.layout.specs.Shapes.{thetaLength};
 ghost use Rattle.heading_format.specs.Heading.{underWay, validHeading};
-ghost use Rattle.refusal.specs.Numbers.{refusal};
+ghost use Rattle.refusal.specs.Numbers.{refusal, meaning};
 ghost use Rattle.workspace.specs.Memory.{headingWith};
 ghost use Rattle.workspace.specs.Answers.{workspace};
 ghost use Rattle.update.specs.Calls.{beginOf};
@@ -64,7 +64,7 @@ fn begin_valid(heading: &mut [u32], doubles: &mut [f64], theta: &[f64]) -> Answe
 // Begin (document 01, Record 4). Any numbers, doubles and theta may be lent; where they are refused, with 20, 13 (list 0) or 14 (list 0 and the index),
 // all is left untouched.
 pub fn begin(heading: &mut [u32], doubles: &mut [f64], theta: &[f64]) -> Answer
-    ensures { λ r. ⌜ record { answer = r; left = workspace (now (heading .exit)) (now (doubles .exit)) } ≡ beginOf (now (heading .entry)) (now (doubles .entry)) (now (theta .entry)) ⌝ }
+    ensures { λ r. ⌜ (meaning r ≡ meaning (beginOf (now (heading .entry)) (now (doubles .entry)) (now (theta .entry)) .answer)) × (workspace (now (heading .exit)) (now (doubles .exit)) ≡ beginOf (now (heading .entry)) (now (doubles .entry)) (now (theta .entry)) .left) ⌝ }
 {
     if heading_check::is_valid_heading(heading, doubles.len()) {
         return begin_valid(heading, doubles, theta);

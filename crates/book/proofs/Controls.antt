@@ -16,6 +16,7 @@ use Rattle.workspace.specs.Load.{loadSheet}
 use Rattle.workspace.specs.Response.{response, replaceOf}
 use Rattle.update.specs.Calls.{beginOf, stepOf, runOf}
 use Rattle.profile.specs.declared.Deviance.the-variants.{Value}
+use Rattle.profile.specs.declared.DevianceAnswer.the-variants.{Given}
 use Rattle.profile.specs.Deviance.{profileOf}
 use Rattle.workspace.specs.Compute.{word, words}
 use Rattle.update.specs.Compute.{steps}
@@ -177,7 +178,7 @@ unfolding booked-after words
 booked-theta = refl
 
 -- a deviance in the mode that is asked for: by ML 3 ln(2π/3) + 2 ln 2 + 3, by REML 2 ln(2π/2) + 2 ln 2 + 2 + 2 ln 2, in Python's doubles
-modes-called : (Calls.called (profileDeviance (one ∷ []) false) loaded .reply ≡ deviance (Value (word 0x401a6a963a085b3b)))
-    × (Calls.called (profileDeviance (one ∷ []) true) loaded .reply ≡ deviance (Value (word 0x401c3f89a3f0edd6)))
+modes-called : (Calls.called (profileDeviance (one ∷ []) false) loaded .reply ≡ deviance (Given (Value (word 0x401a6a963a085b3b))))
+    × (Calls.called (profileDeviance (one ∷ []) true) loaded .reply ≡ deviance (Given (Value (word 0x401c3f89a3f0edd6))))
 unfolding called
 modes-called = (refl, refl)

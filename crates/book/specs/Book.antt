@@ -23,8 +23,8 @@ use Rattle.workspace.specs.Load.{headingOf}
 use Rattle.workspace.specs.Response.{Response, listsOf, responseLengths, responded}
 use Rattle.update.specs.Calls.{beginOf, runOf}
 use Rattle.profile.specs.Deviance.{profileOf}
-use Rattle.profile.specs.declared.Deviance.{Deviance}
-use Rattle.profile.specs.declared.Deviance.the-variants.{Refused as Denied}
+use Rattle.profile.specs.declared.DevianceAnswer.{DevianceAnswer}
+use Rattle.profile.specs.declared.DevianceAnswer.the-variants.{Refused as Denied}
 use Rattle.book.specs.Calls.{Call, begin, step, replaceResponse, profileDeviance, Reply, plain, deviance}
 
 -- the loaded numbers, theta, and none or the set of done steps
@@ -133,7 +133,7 @@ module _ (sheet : Sheet) where
       onList 0 (thetaLength layout) theta (λ a. entry (deviance (refusedWith a)) b)
       (entry (deviance (profileOf (v .heading) (v .doubles) theta reml .answer)) (withDone (afterAll (rust (b .loaded) theta .answer)) (withTheta theta b)))
     where
-      refusedWith : Answer → Deviance
+      refusedWith : Answer → DevianceAnswer
       refusedWith Accepted = Denied noRefusal
       refusedWith (Refused r) = Denied r
 

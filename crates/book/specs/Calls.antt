@@ -10,7 +10,7 @@ use Rattle.refusal.specs.Numbers as Numbers
 use Rattle.workspace.specs.Answers.{Outcome}
 use Rattle.workspace.specs.Response.{Response, replaceOf}
 use Rattle.update.specs.Calls.{beginOf, stepOf}
-use Rattle.profile.specs.declared.Deviance.{Deviance}
+use Rattle.profile.specs.declared.DevianceAnswer.{DevianceAnswer}
 use Rattle.profile.specs.Deviance as Deviances
 use Rattle.profile.specs.Deviance.{Profiled, profileOf}
 
@@ -25,7 +25,7 @@ pub data Call : Type 0 where
 -- what a call answers
 pub data Reply : Type 0 where
   plain : Answer → Reply
-  deviance : Deviance → Reply
+  deviance : DevianceAnswer → Reply
 
 -- its number and places
 abbrev pub refusalOf : Reply → Refusal

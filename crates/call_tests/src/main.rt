@@ -35,7 +35,7 @@ fn responded(m: &[u64; 65536], heading: &mut [u32], doubles: &mut [f64], l: &[f6
 // profile_deviance on the list of the call.
 fn profiled(m: &[u64; 65536], heading: &mut [u32], doubles: &mut [f64], l: &[f64]) -> Reported {
     let n = size(m[4], l.len());
-    report::of_deviance(profile_deviance::profile_deviance(heading, doubles, &l[..n], m[1] == 1))
+    report::of_answered(profile_deviance::profile_deviance(heading, doubles, &l[..n], m[1] == 1))
 }
 
 // The step that a call names.
@@ -55,7 +55,7 @@ fn called(m: &[u64; 65536], heading: &mut [u32], doubles: &mut [f64]) -> Reporte
         1 => begun(m, heading, doubles, &l),
         5 => responded(m, heading, doubles, &l),
         6 => profiled(m, heading, doubles, &l),
-        7 => report::of_deviance(deviance::deviance_from_factor(heading, doubles, m[1] == 1)),
+        7 => report::of_answered(deviance::deviance_from_factor(heading, doubles, m[1] == 1)),
         _ => report::of_answer(step::step(heading, doubles, name(m))),
     }
 }

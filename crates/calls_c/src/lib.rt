@@ -9,9 +9,11 @@ ghost use Rattle.workspace.specs.Load.{loadOf};
 ghost use Rattle.update.specs.Calls.{beginOf, stepOf};
 ghost use Rattle.update.specs.Names.{stepOfName};
 ghost use Rattle.profile.specs.Deviance.{devianceFromFactor, profileOf};
-ghost use Rattle.profile.specs.Finish.{solveOf, refusalOf as solveRefusal};
+ghost use Rattle.profile.specs.declared.DevianceAnswer.the-variants.{Given};
+ghost use Rattle.profile.specs.Finish.{solveMeaning, solveOf};
 ghost use Rattle.calls_c.specs.Answers.{stepNamed, numberOf, valued, scaled};
 use profile::Deviance;
+use profile::DevianceAnswer;
 use profile::Solve;
 use refusal::Answer;
 use update::StepName;
@@ -26,10 +28,10 @@ fn number(a: Answer) -> u64
     }
 }
 
-// The number of a deviance's answer, 26 for a refused pivot, and in value[0] the Rust's value, where it has one.
-fn report(d: Deviance, value: &mut [f64]) -> u64
+// The number of Record 6's cases, 26 for a refused pivot, and in value[0] the Rust's value.
+fn report_given(d: Deviance, value: &mut [f64]) -> u64
     requires { ⌜ 1 ≤ length (now value) ⌝ }
-    ensures { λ r. ⌜ (r ≡ numberOf d) × (now (value .exit) ≡ valued d (now (value .entry))) ⌝ }
+    ensures { λ r. ⌜ (r ≡ numberOf (Given d)) × (now (value .exit) ≡ valued (Given d) (now (value .entry))) ⌝ }
 {
     match d {
         Deviance::Value(x) => {
@@ -44,14 +46,24 @@ fn report(d: Deviance, value: &mut [f64]) -> u64
             value[0] = f64::from_bits(0x7fefffffffffffff);
             0
         }
-        Deviance::Refused(r) => r.number,
+    }
+}
+
+// The number of a deviance's answer, and in value[0] the Rust's value, where it has one.
+fn report(a: DevianceAnswer, value: &mut [f64]) -> u64
+    requires { ⌜ 1 ≤ length (now value) ⌝ }
+    ensures { λ r. ⌜ (r ≡ numberOf a) × (now (value .exit) ≡ valued a (now (value .entry))) ⌝ }
+{
+    match a {
+        DevianceAnswer::Given(d) => report_given(d, value),
+        DevianceAnswer::Refused(r) => r.number,
     }
 }
 
 // The number of a solve's answer, and in the first places of a list the two scalars of a solution.
 fn report_solve(s: Solve, scalars: &mut [f64]) -> u64
     requires { ⌜ 2 ≤ length (now scalars) ⌝ }
-    ensures { λ r. ⌜ (r ≡ solveRefusal s .number) × (now (scalars .exit) ≡ scaled s (now (scalars .entry))) ⌝ }
+    ensures { λ r. ⌜ (r ≡ solveMeaning s .refusal .number) × (now (scalars .exit) ≡ scaled s (now (scalars .entry))) ⌝ }
 {
     match s {
         Solve::Solved(x) => {
@@ -152,7 +164,7 @@ pub extern "C" fn husk_solve_profile_blocked(
     scalars: &mut [f64],
 ) -> u64
     requires { ⌜ 2 ≤ length (now scalars) ⌝ }
-    ensures { λ r. ⌜ (r ≡ solveRefusal (solveOf (now (heading .entry)) (now (doubles .entry)) (eqb reml 1) (now (out .entry)) .answer) .number) × (now (out .exit) ≡ solveOf (now (heading .entry)) (now (doubles .entry)) (eqb reml 1) (now (out .entry)) .result) × (now (scalars .exit) ≡ scaled (solveOf (now (heading .entry)) (now (doubles .entry)) (eqb reml 1) (now (out .entry)) .answer) (now (scalars .entry))) ⌝ }
+    ensures { λ r. ⌜ (r ≡ solveMeaning (solveOf (now (heading .entry)) (now (doubles .entry)) (eqb reml 1) (now (out .entry)) .answer) .refusal .number) × (now (out .exit) ≡ solveOf (now (heading .entry)) (now (doubles .entry)) (eqb reml 1) (now (out .entry)) .result) × (now (scalars .exit) ≡ scaled (solveOf (now (heading .entry)) (now (doubles .entry)) (eqb reml 1) (now (out .entry)) .answer) (now (scalars .entry))) ⌝ }
 {
     report_solve(
         solve_profile::solve_profile_blocked(heading, doubles, reml == 1, out),

@@ -14,7 +14,7 @@ use Rattle.demand3.proofs.invariant.Open.{open-site, open-invariant}
 use Rattle.demand3.proofs.Calls.{all-left, all-replies}
 use Rattle.demand3.proofs.Never.{call-other}
 use Rattle.demand3.proofs.Agrees.{agrees}
-use Rattle.demand3.proofs.Ready.{under-way}
+use Rattle.demand3.proofs.Ready.{under-way, rust-answers}
 use Rattle.demand3.proofs.Finished.{divisors, finished}
 
 -- a list of calls from a workspace that stands by the opened book
@@ -25,8 +25,10 @@ holds sheet h w v here s calls =
     let t : Invariant sheet h w b u = all-left sheet h w here calls (opened sheet) v s in
     record {
       replies-same = all-replies sheet h w here calls (opened sheet) v s;
+      valid = valid-heading-of sheet h w here b u t;
       never-20 = λ c. call-other u.heading u.doubles (valid-heading-of sheet h w here b u t) c;
       agrees = agrees sheet h w here b u t;
+      rust-answers = λ d e. rust-answers sheet h w here b u t d e;
       under-way = λ d e. under-way sheet h w here b u t d e;
       divisors = divisors sheet h w here b u t;
       finished = finished sheet h w here b u t;

@@ -18,17 +18,18 @@ use Rattle.rules.specs.Arithmetic.{ieee}
 use Rattle.sheet.specs.Sheet.{Sheet}
 use Rattle.layout.specs.declared.Layout.{Layout}
 use Rattle.heading_format.specs.declared.State.the-variants.{UnderWay, Finished}
-use Rattle.layout.specs.Shapes.{pick, shape, lastShape}
+use Rattle.layout.specs.Shapes.{pick, shape, lastShape, responseRow}
+use Rattle.layout.proofs.Rows.{shape-factor}
 use Rattle.heading_format.specs.Heading.{layoutOf, entryRow, stageOf}
 use Rattle.workspace.specs.Memory.{Workspace, workingBlock, cellOf}
 use Rattle.workspace.specs.Load.{headingOf}
 use Rattle.update.specs.Working.{pivotCount}
 use Rattle.book.specs.Book.{Book, book, layout, last, bookState, bookSet}
 use Rattle.book.specs.Values.{rulesHere, startHere, finalValue}
-use Rattle.demand3.specs.Demand.{factorOf, residualPivot, FinishedClaim}
+use Rattle.profile.specs.Deviance.{lastBlockPivot}
+use Rattle.demand3.specs.Demand.{factorOf, FinishedClaim}
 use Rattle.rules.proofs.Doubles.{never-null, root-of-accepted, square-above}
 use Rattle.demand3.proofs.pivot_laws.Final.{RootOf, factorShape, final-pivot}
-use Rattle.demand3.proofs.same_rules.Rows.{shape-factor}
 use Rattle.demand3.proofs.invariant.Invariant.{Site, Invariant}
 use Rattle.demand3.proofs.invariant.Site.{layout-of, alike, loaded-many}
 use Rattle.demand3.proofs.step_laws.Finished.{finished-factor, finished-sum, finished-none}
@@ -47,7 +48,7 @@ module _ (sheet : Sheet) (h : List ℕ) (w : List Float) (here : Site sheet h w)
   same-shape : (j : ℕ) → factorOf v j ≡ factorShape sheet loaded theta (here .layout-valid) fresh-is j
   same-shape j =
       ap (λ (y : Layout). shape y (entryRow v.heading) j j) same
-      ∙ shape-factor (layout sheet) (entryRow v.heading) (entryRow (headingOf sheet (layout sheet))) (alike sheet h w here (book loaded theta (some d)) v s .same-rows) j
+      ∙ shape-factor (layout sheet) (entryRow v.heading) (entryRow (headingOf sheet (layout sheet))) j
 
   -- where C(j) is done, each pivot of its factor is the root of a double that is not refused
   pivot-root : (j : ℕ) → j ≤ last sheet → d (C j) ≡ true → (r : ℕ) → r < pivotCount (factorOf v j) → RootOf (cellOf (factorOf v j) (workingBlock (v .heading) (v .doubles) j j) r r)
@@ -68,16 +69,16 @@ module _ (sheet : Sheet) (h : List ℕ) (w : List Float) (here : Site sheet h w)
     unfolding shape
     last-shape = let q : last sheet ≡ layoutOf v.heading .k = ap (λ (y : Layout). y .k) (sym same) in rw (eq-eqb (last sheet) (layoutOf v.heading .k) q) refl
 
-    last-pivot : RootOf (residualPivot sheet v)
-    last-pivot =
+    -- its pivots are such roots, those of the fixed effects and the response's behind them
+    pub last-pivot : (r : ℕ) → r ≤ responseRow (layout sheet) → RootOf (lastBlockPivot (v .heading) (v .doubles) false r)
+    last-pivot r l =
         let q : layoutOf v.heading .k ≡ last sheet = ap (λ (y : Layout). y .k) same in
-        let small : layout sheet .p < pivotCount (factorOf v (last sheet)) =
-        subst (λ (x : Shape). layout sheet .p < pivotCount x) (sym last-shape) (omega (arith, ap (λ (y : Layout). y .p) same)) in
-        subst RootOf
-        (ap₂ (λ (x : Shape) (k : ℕ). cellOf x (workingBlock v.heading v.doubles k k) (layout sheet .p) (layout sheet .p)) last-shape (sym q))
-        (pivot-root (last sheet) (omega arith) (none-left (last sheet) d .0 left (C (last sheet)) (omega arith)) (layout sheet .p) small)
+        let small : r < pivotCount (factorOf v (last sheet)) =
+        subst (λ (x : Shape). r < pivotCount x) (sym last-shape) (omega (arith, ap (λ (y : Layout). y .p) same)) in
+        subst RootOf (ap₂ (λ (x : Shape) (k : ℕ). cellOf x (workingBlock v.heading v.doubles k k) r r) last-shape (sym q))
+        (pivot-root (last sheet) (omega arith) (none-left (last sheet) d .0 left (C (last sheet)) (omega arith)) r small)
 
-    claim : FinishedClaim sheet (book loaded theta (some d)) v
+    pub claim : FinishedClaim sheet (book loaded theta (some d)) v
     claim =
         let g = s.updating.1 in
         let many = loaded-many sheet h w here (book loaded theta (some d)) v s in
@@ -91,9 +92,17 @@ module _ (sheet : Sheet) (h : List ℕ) (w : List Float) (here : Site sheet h w)
               ap (ieee.times ieee.two)
               (finished-sum sheet h w loaded theta d v s left ∙ sym (rust-sum sheet h w here loaded theta many g.theta-many g.theta-finite not-refused));
           scale =
-              let p = last-pivot in
+              let p = last-pivot (responseRow (layout sheet)) (omega arith) in
               ap (λ (x : Float). ieee .refused (ieee.times x x)) p.is ∙ square-above p.x p.double p.accepted;
         }
+
+-- a set whose state is finished has no step left
+pub no-step-left : (sheet : Sheet) (d : Step → Bool) → bookState sheet (some d) ≡ Finished → stepsLeft (last sheet) d ≡ 0
+no-step-left sheet d = decide (eqb (stepsLeft (last sheet) d) 0) refl
+  where
+    decide : (t : Bool) → eqb (stepsLeft (last sheet) d) 0 ≡ t → pick t Finished UnderWay ≡ Finished → stepsLeft (last sheet) d ≡ 0
+    decide true q f = eqb-true (stepsLeft (last sheet) d) 0 q
+    decide false q f = absurd (let z : _≡_ {A = ℕ} 0 1 = cc in omega arith)
 
 module _ (sheet : Sheet) (h : List ℕ) (w : List Float) (here : Site sheet h w) (b : Book) (v : Workspace) where
   -- ---- no divisor is 0
@@ -111,11 +120,7 @@ module _ (sheet : Sheet) (h : List ℕ) (w : List Float) (here : Site sheet h w)
   -- ---- a finished update
   finished-at : (o : Option (Step → Bool)) → Invariant sheet h w (book (b .loaded) (b .theta) o) v → bookState sheet o ≡ Finished → FinishedClaim sheet (book (b .loaded) (b .theta) o) v
   finished-at none s f = absurd (let z : _≡_ {A = ℕ} 0 1 = cc in omega arith)
-  finished-at (some d) s f = claim sheet h w here b.loaded b.theta d v s (decide (eqb (stepsLeft (last sheet) d) 0) refl f)
-    where
-      decide : (t : Bool) → eqb (stepsLeft (last sheet) d) 0 ≡ t → pick t Finished UnderWay ≡ Finished → stepsLeft (last sheet) d ≡ 0
-      decide true q f = eqb-true (stepsLeft (last sheet) d) 0 q
-      decide false q f = absurd (let z : _≡_ {A = ℕ} 0 1 = cc in omega arith)
+  finished-at (some d) s f = claim sheet h w here b.loaded b.theta d v s (no-step-left sheet d f)
 
   pub finished : Invariant sheet h w b v → bookState sheet (b .done) ≡ Finished → FinishedClaim sheet b v
   finished = finished-at b.done

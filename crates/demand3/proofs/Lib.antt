@@ -4,3 +4,4 @@ pub mod Agrees
 pub mod Ready
 pub mod Finished
 pub mod Demand
+pub mod Results

@@ -23,6 +23,7 @@ use Rattle.workspace.specs.Answers.{Outcome, untouched, firstInfinite, unlessAt
 use Rattle.workspace.specs.Response.{Response, listsOf, responseLengths, replaceOf, responded}
 use Rattle.update.specs.Calls.{begun, beginOf, stepOf, onPivot, refusedBy, isUnderWay, runOf}
 use Rattle.profile.specs.declared.Deviance.the-variants.{Value, NoScale}
+use Rattle.profile.specs.declared.DevianceAnswer.the-variants.{Given}
 use Rattle.profile.specs.Deviance as Deviances
 use Rattle.profile.specs.Deviance.{freedom, logDeterminant, lastBlockPivot, devianceValue, afterSteps, afterBegin, profileOf}
 use Rattle.book.specs.Calls.{Call, begin, step, replaceResponse, profileDeviance, called, refusalOf}
@@ -61,7 +62,7 @@ word-other i (l ∷ lists) = go (firstInfinite 0 l) (word-other (suc i) lists)
     go (some a) rest = λ e. omega arith
 
 -- no scale, or a value
-either-other : (b : Bool) (x : Float) → Deviances.refusalOf (pick b NoScale (Value x)) .number ≡ 20 → ⊥
+either-other : (b : Bool) (x : Float) → Deviances.refusalOf (Given (pick b NoScale (Value x))) .number ≡ 20 → ⊥
 either-other true x e = omega arith
 either-other false x e = omega arith
 
@@ -98,7 +99,7 @@ module _ (h : List ℕ) (w : List Float) (ok : validHeading h (length w) ≡ tru
       (first-other (eqb f.number 0) g f (word-other 0 (listsOf r)) (length-other 0 (responseLengths (layoutOf h)) (lengths (listsOf r)))))
 
   -- a deviance has no number of its own but 26
-  value-other : (h : List ℕ) (w : List Float) (reml : Bool) → Deviances.refusalOf (devianceValue h w reml) .number ≡ 20 → ⊥
+  value-other : (h : List ℕ) (w : List Float) (reml : Bool) → Deviances.refusalOf (Given (devianceValue h w reml)) .number ≡ 20 → ⊥
   unfolding devianceValue
   value-other h w reml =
       let y = layoutOf h in

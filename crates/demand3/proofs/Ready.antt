@@ -1,6 +1,6 @@
 -- "any undone step whose forerunners are done is accepted unless it meets a refused pivot, and writes by its rule its own block, the progress and, where it
 -- takes logarithms, their sum, nothing else; until the last step or a refused pivot some step is ready".
-use Prim.Native.Nat.{ℕ, zero, _+_, _≤_, _<_}
+use Prim.Native.Nat.{ℕ, zero, suc, _+_, _≤_, _<_}
 use mathlib.Core.Path.{_≡_, refl, sym, ap, subst, _∙_}
 use mathlib.Core.Bool.{Bool, true}
 use mathlib.Core.List.{List, _++_}
@@ -18,6 +18,7 @@ use Rattle.storage.proofs.Parts.{take-store, drop-store, length-part}
 use Rattle.step_order.specs.Steps.{Step, S, C, T, IsStep, row, col}
 use Rattle.step_order.specs.Progress.{done, stepsLeft, refusedIn}
 use Rattle.step_order.proofs.Next.{some-next}
+use Rattle.step_order.proofs.Refusal.{refused-below}
 use Rattle.rules.specs.Arithmetic.{ieee}
 use Rattle.sheet.specs.Sheet.{Sheet}
 use Rattle.refusal.specs.declared.Answer.{Answer}
@@ -28,22 +29,24 @@ use Rattle.heading_format.specs.declared.Progress.{Progress}
 use Rattle.heading_format.specs.declared.State.the-variants.{UnderWay}
 use Rattle.layout.specs.Shapes.{shape, sizes, workingAt, sumAt, doublesNeeded}
 use Rattle.heading_format.specs.Heading.{layoutOf, progressOf, entryRow, written, progressNumbers}
-use Rattle.heading_format.proofs.Heading.{length-written, layout-back, progress-stored}
+use Rattle.heading_format.proofs.Valid.{is-valid}
+use Rattle.heading_format.proofs.Heading.{length-written, layout-back, progress-back, progress-stored}
 use Rattle.layout.proofs.Places.{size-working, working-inside}
 use Rattle.workspace.specs.Memory.{Workspace, workingBlock, logSum, headingWith}
 use Rattle.workspace.specs.Answers.{Outcome}
 use Rattle.update.specs.Working.{logged}
 use Rattle.update.specs.Calls.{advanced, stepOf, stepped, madeBy, sumBy, refusedBy, onPivot}
 use Rattle.book.specs.Book.{Book, book, layout, last, rust, inStep, bookState, withDone}
-use Rattle.book.specs.Values.{rulesHere, startHere}
-use Rattle.demand3.specs.Demand.{ReadyBy, TakesLogs, in-block, in-sum, Writes, UnderWayClaim}
+use Rattle.book.specs.Values.{rulesHere, startHere, refusedPivot}
+use Rattle.demand3.specs.Demand.{ReadyBy, TakesLogs, in-block, in-sum, Writes, AcceptedOr26, accepts, refuses, UnderWayClaim}
 use Rattle.update.proofs.progress_laws.Kept.{numbers-many}
+use Rattle.update.proofs.progress_laws.Moves.{length-advanced}
 use Rattle.demand3.proofs.frame.Step.{withBlock, with-length, with-own, with-sum, with-elsewhere}
 use Rattle.demand3.proofs.same_rules.Same.{made-length}
 use Rattle.demand3.proofs.invariant.Invariant.{behind, Site, Invariant}
-use Rattle.demand3.proofs.invariant.Site.{layout-of, alike, loaded-many}
+use Rattle.demand3.proofs.invariant.Site.{layout-of, progress-of, alike, loaded-many}
 use Rattle.demand3.proofs.invariant.Step.{Comes, step-ready, step-comes}
-use Rattle.demand3.proofs.step_laws.Rust.{answerIn, in-step}
+use Rattle.demand3.proofs.step_laws.Rust.{answerFor, answerIn, rust-answer, in-step}
 use Rattle.heading_format.specs.Parts.{progressAt, progressEnd}
 
 -- a row that is refused is no acceptance
@@ -136,6 +139,11 @@ module _ (sheet : Sheet) (h : List ℕ) (w : List Float) (here : Site sheet h w)
             (λ e. with-elsewhere y v.doubles room (row s) (col s) inside.0 inside.1 made size sum i (λ l m. other (in-block l m)) e);
         before-progress = take-store progressAt (progressNumbers g) v.heading (long g);
         behind-progress = drop-store progressAt (progressNumbers g) v.heading (long g) progressEnd (omega (arith, numbers-many g));
+        progress =
+            let e = progress-of sheet h w here b v stands in
+            ap progressOf (moved-heading g)
+            ∙ progress-back (layout sheet) g (behind sheet h)
+            (length-advanced (last sheet) (is-valid (layout sheet) here.layout-valid .blocks .1) (progressOf v.heading) (ap (λ (x : Progress). length x.stages) e ∙ stands.stages) s n);
       }
 
 -- ---- while an update is under way
@@ -161,6 +169,17 @@ module _ (sheet : Sheet) (h : List ℕ) (w : List Float) (here : Site sheet h w)
       let q : refusedBy v.heading v.doubles s ≡ none = pivot-none v.heading v.doubles s (refusedBy v.heading v.doubles s) (ap (λ (o : Outcome). o .answer) (sym t) ∙ a) in
       let z : stepOf v.heading v.doubles s ≡ onPivot v.heading v.doubles none s = t ∙ ap (λ (x : Option ℕ). onPivot v.heading v.doubles x s) q in
       subst (λ (o : Outcome). Writes v s o.left) (sym z) (stepped-writes sheet h w here b v stands s r.exists)
+
+  -- the Rust's order answers accepted, or 26
+  pub rust-answers : AcceptedOr26 (last sheet) (rust sheet (b .loaded) (b .theta) .answer)
+  rust-answers =
+      let g = with-set.updating.1 in
+      subst (AcceptedOr26 (last sheet)) (sym (rust-answer sheet h w here b.loaded b.theta (loaded-many sheet h w here b v stands) g.theta-many g.theta-finite))
+      (for (refusedPivot sheet b.loaded b.theta) refl)
+    where
+      for : (q : Option (ℕ × ℕ)) → refusedPivot sheet (b .loaded) (b .theta) ≡ q → AcceptedOr26 (last sheet) (answerFor q)
+      for none e = accepts refl
+      for (some p) e = refuses p.0 p.1 (let l = refused-below (rulesHere sheet b.loaded b.theta) (startHere sheet b.loaded b.theta) (suc (last sheet)) p e in omega arith) refl
 
   -- some step is left
   some-left : bookState sheet (some d) ≡ UnderWay → 0 < stepsLeft (last sheet) d

@@ -12,12 +12,14 @@ use Rattle.rules.specs.Arithmetic.{ieee}
 use Rattle.sheet.specs.Sheet.{Sheet, accepted, sheetOf}
 use Rattle.sheet.specs.declared.Starts.{Starts}
 use Rattle.heading_format.specs.declared.State.the-variants.{UnderWay, Finished}
+use Rattle.refusal.specs.declared.Answer.{Answer}
 use Rattle.refusal.specs.declared.Answer.the-variants.{Accepted}
+use Rattle.refusal.specs.Numbers.{refuse}
 use Rattle.layout.specs.Shapes.{sizes, loadedLength, workingAt, sumAt, doublesNeeded, shape, thetaAt, responseRow, thetaLength}
-use Rattle.heading_format.specs.Heading.{layoutOf, progressOf, stageOf, entryRow}
+use Rattle.heading_format.specs.Heading.{layoutOf, progressOf, stageOf, entryRow, validHeading}
 use Rattle.workspace.specs.Memory.{Workspace, workingBlock, cellOf}
 use Rattle.workspace.specs.Load.{loadOf, headingOf}
-use Rattle.update.specs.Calls.{stepOf, madeBy, sumBy}
+use Rattle.update.specs.Calls.{advanced, stepOf, madeBy, sumBy}
 use Rattle.profile.specs.Deviance.{logDeterminant, lastBlockPivot}
 use Rattle.book.specs.Calls.{Call, called, refusalOf, replies, leftBy}
 use Rattle.book.specs.Book.{Book, layout, last, opened, rust, inStep, bookReplies, bookAfter, bookLeft, bookState, bookSet}
@@ -54,6 +56,13 @@ pub record Writes (v : Workspace) (s : Step) (u : Workspace) : Type 0 where
   -- of the heading the progress alone
   pub before-progress : take progressAt (u .heading) ≡ take progressAt (v .heading)
   pub behind-progress : drop progressEnd (u .heading) ≡ drop progressEnd (v .heading)
+  -- which becomes: its target one step further, one step fewer left, and with the last one finished
+  pub progress : progressOf (u .heading) ≡ advanced (progressOf (v .heading)) s
+
+-- accepted, or 26 with the row of a refused pivot in one of the blocks up to k
+pub data AcceptedOr26 (k : ℕ) (a : Answer) : Type 0 where
+  accepts : a ≡ Accepted → AcceptedOr26 k a
+  refuses : (block row : ℕ) → block ≤ k → a ≡ refuse 26 block row → AcceptedOr26 k a
 
 -- the shape of factor j
 abbrev pub factorOf : Workspace → ℕ → Shape
@@ -110,9 +119,16 @@ module _ (sheet : Sheet) where
   pub record Holds (h : List ℕ) (w : List Float) (v : Workspace) (calls : List Call) : Type 0 where
     -- every answer, number and places, is the book's
     pub replies-same : replies calls v ≡ bookReplies sheet calls (opened sheet)
-    -- "20 never comes"
+    -- "20 never comes": to these calls, nor to any other that is made of the workspace. Deviance, solution and looks begin with this test (the steps left with
+    -- as many doubles as the heading asks for)
+    pub valid : validHeading (leftBy calls v .heading) (length (leftBy calls v .doubles)) ≡ true
     pub never-20 : (c : Call) → refusalOf (called c (leftBy calls v) .reply) .number ≡ 20 → ⊥
     pub agrees : Agrees h w (bookAfter sheet calls (opened sheet)) (leftBy calls v)
+    -- "If the Rust's order refuses a pivot in it on these numbers and theta": of an update that was begun that order answers nothing else, so `inStep` hides no
+    -- other refusal
+    pub rust-answers :
+        (d : Step → Bool) → bookAfter sheet calls (opened sheet) .done ≡ some d
+        → AcceptedOr26 (last sheet) (rust sheet (bookAfter sheet calls (opened sheet) .loaded) (bookAfter sheet calls (opened sheet) .theta) .answer)
     pub under-way :
         (d : Step → Bool) → bookAfter sheet calls (opened sheet) .done ≡ some d → bookState sheet (some d) ≡ UnderWay
         → UnderWayClaim (bookAfter sheet calls (opened sheet)) (leftBy calls v) d

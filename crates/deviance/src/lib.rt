@@ -9,9 +9,9 @@ ghost use mathlib.Core.Bool.{true};
 ghost use lib.ListN.{length};
 ghost use Rattle.heading_format.specs.Heading.{validHeading};
 ghost use Rattle.refusal.specs.Numbers.{refusal};
-ghost use Rattle.profile.specs.Deviance.{isFinished, devianceFromFactor};
+ghost use Rattle.profile.specs.Deviance.{isFinished, devianceMeaning, devianceFromFactor};
 use heading_format::State;
-use profile::Deviance;
+use profile::DevianceAnswer;
 use refusal::Refusal;
 
 // A number with no place.
@@ -37,7 +37,7 @@ pub fn is_finished(s: State) -> bool
 }
 
 // The deviance of a workspace; 25 where its factor is not finished.
-fn of_workspace(heading: &[u32], doubles: &[f64], reml: bool) -> Deviance
+fn of_workspace(heading: &[u32], doubles: &[f64], reml: bool) -> DevianceAnswer
     requires { ⌜ validHeading (now heading) (length (now doubles)) ≡ true ⌝ }
     ensures { λ r. ⌜ r ≡ devianceFromFactor (now (heading .entry)) (now (doubles .entry)) reml ⌝ }
 {
@@ -45,22 +45,22 @@ fn of_workspace(heading: &[u32], doubles: &[f64], reml: bool) -> Deviance
     let progress = heading::progress(heading);
     let state = progress.state;
     if is_finished(state) {
-        return deviance_tail::tail(
+        return DevianceAnswer::Given(deviance_tail::tail(
             layout,
             doubles,
             deviance_tail::log_determinant(layout, doubles),
             reml,
-        );
+        ));
     }
-    Deviance::Refused(refused(25))
+    DevianceAnswer::Refused(refused(25))
 }
 
 // The deviance of the factor as it stands. Any numbers and doubles may be lent: 20 where they are no workspace, 25 where the factor is not finished.
-pub fn deviance_from_factor(heading: &[u32], doubles: &[f64], reml: bool) -> Deviance
-    ensures { λ r. ⌜ r ≡ devianceFromFactor (now (heading .entry)) (now (doubles .entry)) reml ⌝ }
+pub fn deviance_from_factor(heading: &[u32], doubles: &[f64], reml: bool) -> DevianceAnswer
+    ensures { λ r. ⌜ devianceMeaning r ≡ devianceMeaning (devianceFromFactor (now (heading .entry)) (now (doubles .entry)) reml) ⌝ }
 {
     if heading_check::is_valid_heading(heading, doubles.len()) {
         return of_workspace(heading, doubles, reml);
     }
-    Deviance::Refused(refused(20))
+    DevianceAnswer::Refused(refused(20))
 }

@@ -94,7 +94,8 @@ sparseRows h y = every (λ c. ltb (entryRow h c) (levels y 1)) (levels y 0)
 abbrev asked : List ℕ → ℕ → Layout → Progress → Bool
 asked h doubles y g = front h doubles y g && (not y.sparse || sparseRows h y)
 
-valid-heading-of : (h : List ℕ) (doubles : ℕ) (y : Layout) (g : Progress) → layoutOf h ≡ y → progressOf h ≡ g → headingLength ≤ length h → getD h sparseAt 0 ≤ 1
+-- a list that reads as y and g is a workspace's heading where each of the facts holds
+pub valid-heading-of : (h : List ℕ) (doubles : ℕ) (y : Layout) (g : Progress) → layoutOf h ≡ y → progressOf h ≡ g → headingLength ≤ length h → getD h sparseAt 0 ≤ 1
     → getD h diagonalAt 0 ≤ 1 → getD h progressAt 0 ≤ 2 → validLayout y ≡ true → validProgress (y .k) g ≡ true → numbersNeeded y ≤ length h → doublesNeeded y ≤ doubles
     → (y .sparse ≡ true → (c : ℕ) → c < levels y 0 → entryRow h c < levels y 1) → validHeading h doubles ≡ true
 unfolding validHeading

@@ -55,7 +55,8 @@ pub unless-at : (a b : Bool) → (not a || b) ≡ true → a ≡ true → b ≡ 
 unless-at true b e h = e
 unless-at false b e h = let z : _≡_ {A = ℕ} 0 1 = cc in absurd (omega arith)
 
-nine : (a b c d e f g h i : Bool) → (a && b && c && d && e && f && g && h && i) ≡ true
+-- nine tests that all pass
+pub nine : (a b c d e f g h i : Bool) → (a && b && c && d && e && f && g && h && i) ≡ true
     → (a ≡ true) × (b ≡ true) × (c ≡ true) × (d ≡ true) × (e ≡ true) × (f ≡ true) × (g ≡ true) × (h ≡ true) × (i ≡ true)
 nine a b c d e f g h i t =
     let t₈ = and-eq-true-iff (a && b && c && d && e && f && g && h) i .0 t in

@@ -6,6 +6,7 @@ mod write_loaded;
 ghost use mathlib.Core.Path.{_≡_};
 ghost use Rattle.sheet.specs.Sheet.{Sheet, accepted, readSheet};
 ghost use Rattle.sheet.specs.Fault.{faultNumber};
+ghost use Rattle.refusal.specs.Numbers.{meaning};
 ghost use Rattle.workspace.specs.Answers.{workspace};
 ghost use Rattle.workspace.specs.Load.{loadSheet, loadOf};
 use layout_gate::gate_search;
@@ -29,7 +30,7 @@ pub fn load_sheet(bytes: &[u8], starts: Starts, heading: &mut [u32], doubles: &m
 
 // Any bytes on any memory: 1 to 9 as the reader answers them, or the sheet goes on.
 pub fn load(bytes: &[u8], heading: &mut [u32], doubles: &mut [f64]) -> Answer
-    ensures { λ r. ⌜ record { answer = r; left = workspace (now (heading .exit)) (now (doubles .exit)) } ≡ loadOf (now (bytes .entry)) (now (heading .entry)) (now (doubles .entry)) ⌝ }
+    ensures { λ r. ⌜ (meaning r ≡ meaning (loadOf (now (bytes .entry)) (now (heading .entry)) (now (doubles .entry)) .answer)) × (workspace (now (heading .exit)) (now (doubles .exit)) ≡ loadOf (now (bytes .entry)) (now (heading .entry)) (now (doubles .entry)) .left) ⌝ }
 {
     let r = sheet_checks::read_and_check(bytes);
     match r {

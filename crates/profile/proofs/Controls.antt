@@ -13,8 +13,9 @@ use Rattle.heading_format.specs.declared.State.the-variants.{UnderWay, Finished
 use Rattle.heading_format.specs.Heading.{written, layoutOf, undone}
 use Rattle.workspace.specs.Compute.{word, words}
 use Rattle.update.specs.Compute.{steps}
-use Rattle.profile.specs.declared.Deviance.{Deviance}
-use Rattle.profile.specs.declared.Deviance.the-variants.{Value, Pivot, NoScale, Refused}
+use Rattle.profile.specs.declared.Deviance.the-variants.{Value, Pivot, NoScale}
+use Rattle.profile.specs.declared.DevianceAnswer.{DevianceAnswer}
+use Rattle.profile.specs.declared.DevianceAnswer.the-variants.{Given, Refused}
 use Rattle.profile.specs.declared.Solve.{Solve}
 use Rattle.profile.specs.declared.Solve.the-variants.{Solved, Refused as Denied}
 use Rattle.profile.specs.Deviance.{devianceFromFactor}
@@ -52,14 +53,14 @@ doubles =
     ∷ word 0x3fe62e42fefa39ef
     ∷ []
 
-unfoldable bitsOf : Deviance → ℕ
+unfoldable bitsOf : DevianceAnswer → ℕ
 unfolding Ieee.toBits
-bitsOf (Value v) = Ieee.toBits binary64 v
-bitsOf (Pivot j r) = 1
-bitsOf NoScale = 2
+bitsOf (Given (Value v)) = Ieee.toBits binary64 v
+bitsOf (Given (Pivot j r)) = 1
+bitsOf (Given NoScale) = 2
 bitsOf (Refused r) = 3
 
-unfoldable deviance : ℕ → Progress → List Float → Bool → Deviance
+unfoldable deviance : ℕ → Progress → List Float → Bool → DevianceAnswer
 unfolding steps devianceFromFactor
 deviance n g w reml = devianceFromFactor (written (layout n) g) w reml
 
@@ -74,11 +75,11 @@ unfolding deviance bitsOf
 reml = refl
 
 -- no scale: d is 0, or r2 is 0; a NaN r2 is a value
-no-freedom : deviance 1 finished doubles true ≡ NoScale
+no-freedom : deviance 1 finished doubles true ≡ Given NoScale
 unfolding deviance
 no-freedom = refl
 
-no-residual : deviance 3 finished (set doubles 12 (word 0)) false ≡ NoScale
+no-residual : deviance 3 finished (set doubles 12 (word 0)) false ≡ Given NoScale
 unfolding deviance
 no-residual = refl
 

@@ -1,1 +1,3 @@
+pub mod Same
 pub mod Controls
+pub mod Meaning

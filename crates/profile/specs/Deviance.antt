@@ -21,24 +21,34 @@ use Rattle.refusal.specs.Numbers.{refusal, noRefusal}
 use Rattle.workspace.specs.Answers.{Outcome}
 use Rattle.update.specs.Calls.{beginOf, runOf}
 use Rattle.profile.specs.declared.Deviance.{Deviance}
-use Rattle.profile.specs.declared.Deviance.the-variants.{Value, Pivot, NoScale, Refused}
+use Rattle.profile.specs.declared.Deviance.the-variants.{Value, Pivot, NoScale}
+use Rattle.profile.specs.declared.DevianceAnswer.{DevianceAnswer}
+use Rattle.profile.specs.declared.DevianceAnswer.the-variants.{Given, Refused}
 use mathlib.Core.Option.{Option, none, some}
 
--- document 01's number and places of an answer: 0 where it is a value or "no scale", and 26 for a pivot
-abbrev pub refusalOf : Deviance → Refusal
-refusalOf (Value v) = noRefusal
-refusalOf (Pivot j r) = refusal 26 j r
-refusalOf NoScale = noRefusal
-refusalOf (Refused r) = r
+-- WHAT AN ANSWER MEANS (document 01: "That definition gives this paper's number and values for each of the enum's cases"): number and places, 26 for a
+-- refused pivot and 0 where it is a value or "no scale"; the value; whether it is "no scale"; and the Rust's value, `f64::MAX` for a refused pivot and for
+-- "no scale", and none where the Rust has no such answer.
+pub record DevianceMeaning : Type 0 where
+  pub refusal : Refusal
+  pub value : Option Float
+  pub noScale : Bool
+  pub rust : Option Float
 
--- the Rust's value of an answer: `f64::MAX` for a refused pivot and for "no scale"; none where the Rust has no such answer
-abbrev pub rustValue : Deviance → Option Float
-rustValue (Value v) = some v
-rustValue (Pivot j r) = some (Ieee.ofBits binary64 0x7fefffffffffffff)
-rustValue NoScale = some (Ieee.ofBits binary64 0x7fefffffffffffff)
-rustValue (Refused r) = none
+-- `f64::MAX`
+abbrev pub largest : Float
+largest = Ieee.ofBits binary64 0x7fefffffffffffff
 
-abbrev pub refusing : ℕ → Deviance
+abbrev pub devianceMeaning : DevianceAnswer → DevianceMeaning
+devianceMeaning (Given (Value v)) = record { refusal = noRefusal; value = some v; noScale = false; rust = some v }
+devianceMeaning (Given (Pivot j r)) = record { refusal = refusal 26 j r; value = none; noScale = false; rust = some largest }
+devianceMeaning (Given NoScale) = record { refusal = noRefusal; value = none; noScale = true; rust = some largest }
+devianceMeaning (Refused r) = record { refusal = r; value = none; noScale = false; rust = none }
+
+abbrev pub refusalOf : DevianceAnswer → Refusal
+refusalOf a = devianceMeaning a .refusal
+
+abbrev pub refusing : ℕ → DevianceAnswer
 refusing n = Refused (refusal n 0 0)
 
 abbrev pub isFinished : State → Bool
@@ -69,22 +79,22 @@ module _ (h : List ℕ) (w : List Float) (reml : Bool) where
       (Value (devianceOf ieee reml d (ieee .over r2 d) (logDeterminant h w) lastBlockPivot (y .p)))
 
   -- 20, 25
-  unfoldable pub devianceFromFactor : Deviance
+  unfoldable pub devianceFromFactor : DevianceAnswer
   unfolding validHeading devianceValue
   devianceFromFactor =
-      pick (validHeading h (length w)) (pick (isFinished (progressOf h .state)) devianceValue (refusing 25)) (refusing 20)
+      pick (validHeading h (length w)) (pick (isFinished (progressOf h .state)) (Given devianceValue) (refusing 25)) (refusing 20)
 
 -- ---- `profile_deviance`
 pub record Profiled : Type 0 where
-  pub answer : Deviance
+  pub answer : DevianceAnswer
   pub left : Workspace
 
-abbrev pub asPivot : Refusal → Deviance
-asPivot r = Pivot (r .first) (r .second)
+abbrev pub asPivot : Refusal → DevianceAnswer
+asPivot r = Given (Pivot (r .first) (r .second))
 
 -- after the steps: a refused pivot is the second answer, with what 26 leaves
 abbrev pub afterSteps : Answer → Outcome → Bool → Profiled
-afterSteps Accepted o reml = record { answer = devianceValue (o .left .heading) (o .left .doubles) reml; left = o .left }
+afterSteps Accepted o reml = record { answer = Given (devianceValue (o .left .heading) (o .left .doubles) reml); left = o .left }
 afterSteps (Denied r) o reml = record { answer = asPivot r; left = o .left }
 
 -- after begin: its refusals, 20, 13 and 14, are the call's

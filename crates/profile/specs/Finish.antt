@@ -24,10 +24,15 @@ use Rattle.profile.specs.declared.Solve.the-variants.{Solved, Refused}
 use Rattle.profile.specs.Deviance.{isFinished, freedom, logDeterminant}
 use Rattle.profile.specs.Solves.{blockIn, solvedFor, scaledRow}
 
--- document 01's number and places of an answer, 0 where it is a solution
-abbrev pub refusalOf : Solve → Refusal
-refusalOf (Solved s) = noRefusal
-refusalOf (Refused r) = r
+-- WHAT AN ANSWER MEANS (document 01: "That definition gives this paper's number and values for each of the enum's cases"): number and places, 0 where it is a
+-- solution, and the two scalars of one.
+pub record SolveMeaning : Type 0 where
+  pub refusal : Refusal
+  pub solution : Option Solution
+
+abbrev pub solveMeaning : Solve → SolveMeaning
+solveMeaning (Solved s) = record { refusal = noRefusal; solution = some s }
+solveMeaning (Refused r) = record { refusal = r; solution = none }
 
 -- the sorted block that has sheet index i, among the first n
 unfoldable pub sortedIndex : Layout → ℕ → ℕ → ℕ

@@ -2,11 +2,16 @@
 // they answer.
 use refusal::Refusal;
 
-// Record 6: the deviance, or the refused pivot's block and row, or no scale; or a refusal.
+// Record 6: the deviance, or the refused pivot's block and row, or no scale.
 pub enum Deviance {
     Value(f64),
     Pivot(u64, u64),
     NoScale,
+}
+
+// What a call that gives a deviance answers.
+pub enum DevianceAnswer {
+    Given(Deviance),
     Refused(Refusal),
 }
 

@@ -7,20 +7,23 @@ pub mod rust_order;
 
 ghost use mathlib.Core.Path.{_≡_};
 ghost use Rattle.workspace.specs.Answers.{workspace};
-ghost use Rattle.profile.specs.Deviance.{profileOf};
-ghost use Rattle.profile_deviance.specs.full_update.Updating.{withoutValue};
+ghost use mathlib.Core.Bool.{false};
+ghost use Rattle.profile.specs.Deviance.{devianceMeaning, profileOf};
+ghost use Rattle.profile_deviance.specs.full_update.Updating.{isValue, Without};
 use deviance::deviance_tail;
 use full_update::Updated;
 use profile::Deviance;
+use profile::DevianceAnswer;
 
-// The answer of an update that has no log determinant.
-fn without_value(u: Updated) -> Deviance
-    ensures { λ r. ⌜ r ≡ withoutValue u ⌝ }
+// The answer of an update that has no log determinant. The first arm is never reached.
+fn without_value(u: Updated) -> DevianceAnswer
+    requires { ⌜ isValue u ≡ false ⌝ }
+    ensures { λ r. ⌜ Without u r ⌝ }
 {
     match u {
-        Updated::Value(_) => Deviance::NoScale,
-        Updated::Pivot(j, r) => Deviance::Pivot(j, r),
-        Updated::Refused(r) => Deviance::Refused(r),
+        Updated::Value(x) => DevianceAnswer::Given(Deviance::Value(x)),
+        Updated::Pivot(j, r) => DevianceAnswer::Given(Deviance::Pivot(j, r)),
+        Updated::Refused(r) => DevianceAnswer::Refused(r),
     }
 }
 
@@ -31,12 +34,12 @@ pub fn profile_deviance(
     doubles: &mut [f64],
     theta: &[f64],
     reml: bool,
-) -> Deviance
-    ensures { λ r. ⌜ record { answer = r; left = workspace (now (heading .exit)) (now (doubles .exit)) } ≡ profileOf (now (heading .entry)) (now (doubles .entry)) (now (theta .entry)) reml ⌝ }
+) -> DevianceAnswer
+    ensures { λ r. ⌜ (devianceMeaning r ≡ devianceMeaning (profileOf (now (heading .entry)) (now (doubles .entry)) (now (theta .entry)) reml .answer)) × (workspace (now (heading .exit)) (now (doubles .exit)) ≡ profileOf (now (heading .entry)) (now (doubles .entry)) (now (theta .entry)) reml .left) ⌝ }
 {
     let u = full_update::update(heading, doubles, theta);
     let Updated::Value(logdet) = u else {
         return without_value(u);
     };
-    deviance_tail::tail(heading::layout(heading), doubles, logdet, reml)
+    DevianceAnswer::Given(deviance_tail::tail(heading::layout(heading), doubles, logdet, reml))
 }

@@ -13,12 +13,12 @@ use Rattle.layout.specs.declared.Layout.{Layout}
 use Rattle.layout.specs.Shapes.{loadedLength, sumAt, doublesNeeded}
 use Rattle.heading_format.specs.Heading.{layoutOf, validLayout, idle, validHeading}
 use Rattle.workspace.specs.Memory.{headingWith}
-use Rattle.workspace.specs.Answers.{accept, unchanged, lengths, lengthFault, wordFault, firstOf, unlessRefused}
+use Rattle.workspace.specs.Answers.{accept, unchanged, lengths, lengthFault, wordFault, firstOf, listFault, unlessRefused}
 use Rattle.workspace.specs.Response.{Response, listsOf, responseLengths, Prescribed, responded, replaceOf}
+use Rattle.workspace.proofs.ListFaults.{no-fault}
 use Rattle.heading_format.proofs.Fits.{fits}
 use Rattle.replace_response.specs.write_rows.Strided.{responseRows}
 use Rattle.replace_response.proofs.write_rows.Stored.{rows-stored}
-use Rattle.replace_response.proofs.list_faults.Faults.{first-none, all-right}
 use Rattle.heading_format.specs.Parts.{headingLength}
 
 -- the loaded numbers lie within the doubles
@@ -49,12 +49,12 @@ module _ (h : List ℕ) (w : List Float) (r : Response) where
       -- what is written to
       pub ready : (headingLength ≤ length h) × (validLayout y ≡ true) × (loadedLength y ≤ length w) × Prescribed y r
       ready =
-          let none : a .number ≡ 0 = first-none a b (ap (λ (g : Refusal). g .number) (sym found) ∙ fine) in
+          let none : listFault (responseLengths y) (listsOf r) .number ≡ 0 = ap (λ (g : Refusal). g .number) (sym (found ∙ ap₂ firstOf by-length by-word)) ∙ fine in
           let k = fits h (length w) ok in (
             k .long,
             rw is k.valid,
             rw is (loaded-below (layoutOf h) (length w) k.room),
-            all-right 0 (responseLengths y) (lengths (listsOf r)) refl (ap (λ (g : Refusal). g .number) (sym by-length) ∙ none),
+            no-fault y r none .0,
           )
 
       -- the response

@@ -10,6 +10,7 @@ ghost use Prim.Native.Nat.{_≤_};
 ghost use lib.ListN.{length};
 ghost use Rattle.layout.specs.Shapes.{loadedLength};
 ghost use Rattle.heading_format.specs.Heading.{validLayout, idle, validHeading};
+ghost use Rattle.refusal.specs.Numbers.{meaning};
 ghost use Rattle.workspace.specs.Memory.{headingWith};
 ghost use Rattle.workspace.specs.Answers.{workspace};
 ghost use Rattle.workspace.specs.Response.{response, Prescribed, replaceOf};
@@ -67,7 +68,7 @@ pub fn replace_response(
     xty: &[f64],
     yty: &[f64],
 ) -> Answer
-    ensures { λ r. ⌜ record { answer = r; left = workspace (now (heading .exit)) (now (doubles .exit)) } ≡ replaceOf (now (heading .entry)) (now (doubles .entry)) (response (now (zty .entry)) (now (xty .entry)) (now (yty .entry))) ⌝ }
+    ensures { λ r. ⌜ (meaning r ≡ meaning (replaceOf (now (heading .entry)) (now (doubles .entry)) (response (now (zty .entry)) (now (xty .entry)) (now (yty .entry))) .answer)) × (workspace (now (heading .exit)) (now (doubles .exit)) ≡ replaceOf (now (heading .entry)) (now (doubles .entry)) (response (now (zty .entry)) (now (xty .entry)) (now (yty .entry))) .left) ⌝ }
 {
     if heading_check::is_valid_heading(heading, doubles.len()) {
         return replace_valid(heading, doubles, zty, xty, yty);

@@ -99,7 +99,7 @@ above-not-refused x e = go (sign x)
 abbrev pub AboveOrNaN : Float → Type 0
 AboveOrNaN x = (ieee.above x ≡ true) ⊎ (x ≡ nan)
 
--- What is above 0 or NaN is not 0.
+-- What is above 0 or NaN is not 0,
 pub never-null : (x : Float) → AboveOrNaN x → ieee .null x ≡ false
 unfolding Ieee.eq
 never-null x (inr q) = rw q refl
@@ -109,6 +109,12 @@ never-null x (inl e) = go (sign x)
     go (is-nan q a r) = clash e a
     go (is-above s a r n) = n
     go (at-most s a r) = clash e a
+
+-- nor is it refused
+pub never-refused : (x : Float) → AboveOrNaN x → ieee .refused x ≡ false
+unfolding Ieee.le
+never-refused x (inr q) = rw q refl
+never-refused x (inl e) = above-not-refused x e
 
 -- ---- the root of a double that is not refused
 positive-above : (x : Float) → T (positive x) → T (above x)

@@ -1,7 +1,7 @@
 -- What a sum, a row and the factor depend on, what its pivots are, and that none is refused where none is found.
 use Prim.Native.Nat.{ℕ, zero, suc, _≤_, _<_}
 use mathlib.Core.Path.{_≡_, refl, ap, ap₂, _∙_}
-use mathlib.Core.Bool.{Bool, true, false}
+use mathlib.Core.Bool.{Bool, true, false, cond}
 use mathlib.Core.List.{List, []}
 use mathlib.Core.Option.{Option, none, some, Option·some-ne-none}
 use mathlib.Core.Logic.{by-cases}
@@ -22,6 +22,13 @@ module _ (A : Arithmetic) where
   chain-ext s s′ a a′ b b′ (suc n) e h k =
       ap₂ A.minus (chain-ext s s′ a a′ b b′ n e (λ y l. h y (omega arith)) (λ y l. k y (omega arith)))
       (ap₂ A.times (h n (omega arith)) (k n (omega arith)))
+
+  -- a difference of n products asks only which of those n count
+  pub less-counts : (s : A .Num) (f g : ℕ → Bool) (a b : ℕ → A .Num) (n : ℕ) → ((x : ℕ) → x < n → f x ≡ g x) → subtractFrom A s f a b n ≡ subtractFrom A s g a b n
+  unfolding subtractFrom
+  less-counts s f g a b zero h = refl
+  less-counts s f g a b (suc n) h =
+      ap₂ (λ (c : Bool) (v : A .Num). cond c (A.minus v (A.times (a n) (b n))) v) (h n (omega arith)) (less-counts s f g a b n (λ x l. h x (omega arith)))
 
   pub length-forward : (b : ℕ → A .Num) (L : ℕ → ℕ → A .Num) (n : ℕ) → length (forward A b L n) ≡ n
   unfolding forward

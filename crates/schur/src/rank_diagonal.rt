@@ -22,7 +22,7 @@ pub fn plus_square(cell: f64, v: f64, y: f64) -> f64
 }
 
 // Each of the m doubles at `at` less the sum of its row. The target is lent as the part that starts there.
-pub fn subtract_sums(doubles: &mut [f64], at: usize, m: usize, sums: &[f64])
+fn subtract_sums(doubles: &mut [f64], at: usize, m: usize, sums: &[f64])
     requires { ⌜ (at + m ≤ length (now doubles)) × (m ≤ length (now sums)) ⌝ }
     ensures { λ _. ⌜ now (doubles .exit) ≡ subtractEach at m (now (sums .entry)) (now (doubles .entry)) ⌝ }
 {

@@ -7,6 +7,7 @@ ghost use Rattle.block_runs.specs.blocks.Blocks.{rowFrom};
 ghost use Rattle.schur.specs.rank_diagonal.Diagonal.{subtractedDiagonal};
 ghost use Rattle.schur.specs.rank_diagonal.Rows.{Zeros, Summed, AddedEntry, subtractRows};
 use crate::rank_diagonal;
+use block_runs::run_differences;
 use storage::Block;
 
 // A row's number as an index.
@@ -57,7 +58,8 @@ fn sum_entries(
     }
 }
 
-// The m pivots of the diagonal t from row `from` on, at most 8,192, less their sums over the sparse block a.
+// The m pivots of the diagonal t from row `from` on, at most 8,192, less their sums over the sparse block a. The target is lent as the part that starts
+// at its own offset.
 fn subtract_rows(
     doubles: &mut [f64],
     t: Block,
@@ -73,7 +75,7 @@ fn subtract_rows(
 {
     let mut sums = [0.0; 8192];
     sum_entries(&mut sums, from, m, doubles, a, src, heading, first);
-    rank_diagonal::subtract_sums(doubles, t.at + from, m, &sums);
+    run_differences::subtract(doubles, t.at, t.at + from + m, from, m, &sums);
 }
 
 // How many rows are summed at a time, of those that are left.

@@ -94,7 +94,7 @@ abbrev pub LinesRise : List Entry → Type 0
 LinesRise [] = Unit {0}
 LinesRise (e ∷ rest) = Each (λ (x : Entry). e .line < x .line) rest × LinesRise rest
 
-member-each : {A : Type 0} (P : A → Type 0) (x : A) (l : List A) → List·Memᴰ x l → Each P l → P x
+pub member-each : {A : Type 0} (P : A → Type 0) (x : A) (l : List A) → List·Memᴰ x l → Each P l → P x
 member-each P x [] m e = absurd (List·Memᴰ·not-nil m)
 member-each P x (y ∷ l) m e = go (λ n. member-each P x l n e.1) (List·Memᴰ·cases-cons m)
   where

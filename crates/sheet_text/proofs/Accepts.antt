@@ -103,6 +103,16 @@ module _ (sheet : Sheet) (y : Layout) where
       let o : _≡_ {A = ℕ} 0 1 = cc in
       omega arith
 
+  -- and back, of one pair
+  pub allowed-alone : (i j : ℕ) → Allowed i j → firstRefusedPair sheet y (target i j ∷ []) ≡ none
+  unfolding firstRefusedPair
+  allowed-alone i j h = go (pairIn sheet y i j) refl
+    where
+      go : (p : Pair) → pairIn sheet y i j ≡ p → orRefused p (target i j) none ≡ none
+      go Dense e = refl
+      go Sparse e = refl
+      go (Denied n) e = absurd (h n e)
+
   pairs-allowed : (k : ℕ) → firstRefusedPair sheet y (pairs k) ≡ none → (i j : ℕ) → i < k → j < i → Allowed i j
   pairs-allowed k e i j h g = alone-allowed i j (allowed-pairs sheet y k e i j h g)
 

@@ -82,13 +82,16 @@ module _ (s h : List ℕ) (w : List Float) where
             record {
               short = short;
               text = t.0;
-              form = t.1;
-              flag = omega (arith, t.1.counts.flag);
-              some = omega arith;
-              intercepts = slope-in sheet.blocks (λ q. free 7 (slopes sheet starts e q));
-              covers = are-equal _ _ (λ q. free 8 (dim-mismatch sheet starts e q));
-              sound = λ x m f. free 9 (faulty sheet starts e x.line (x, m, refl, f));
-              gate = λ i j n a b q. denied sheet starts e i j n a b q (ten-or-eleven sheet (layoutOfSheet sheet) i j n q);
+              passes =
+                  record {
+                    form = t.1;
+                    flag = omega (arith, t.1.counts.flag);
+                    some = omega arith;
+                    intercepts = slope-in sheet.blocks (λ q. free 7 (slopes sheet starts e q));
+                    covers = are-equal _ _ (λ q. free 8 (dim-mismatch sheet starts e q));
+                    sound = λ x m f. free 9 (faulty sheet starts e x.line (x, m, refl, f));
+                    gate = λ i j n a b q. denied sheet starts e i j n a b q (ten-or-eleven sheet (layoutOfSheet sheet) i j n q);
+                  };
               room = is-true _ (λ q. free 12 (too-short sheet starts e q));
             },
           )
@@ -100,16 +103,16 @@ module _ (s h : List ℕ) (w : List Float) where
     this {other} {more} e = let q : accepted sheet starts ≡ accepted other more = sym read ∙ e in cc
 
     refused-pair : (other : Sheet) → sheet ≡ other → (i j n : ℕ) → i < other .counts .k → j < i → pairIn other (layoutOfSheet other) i j ≡ Denied n → ⊥
-    refused-pair other q = subst (λ (x : Sheet). (i j n : ℕ) → i < x .counts .k → j < i → pairIn x (layoutOfSheet x) i j ≡ Denied n → ⊥) q a.gate
+    refused-pair other q = subst (λ (x : Sheet). (i j n : ℕ) → i < x .counts .k → j < i → pairIn x (layoutOfSheet x) i j ≡ Denied n → ⊥) q a.passes.gate
 
     unlisted : (n : ℕ) → Listed s h w n → ⊥
     unlisted n (too-long g) = omega (arith, a.short)
     unlisted n (at-line number line e g) = not-accepted number line sheet starts (sym e ∙ read)
-    unlisted n (not-intercept-only other more e g) = omega (arith, subst (λ (x : Sheet). x .counts .flag ≡ 1) (this e) a.flag)
-    unlisted n (empty-re other more e g) = omega (arith, subst (λ (x : Sheet). 0 < x .counts .k) (this e) a.some)
-    unlisted n (slopes other more e g) = true≢false (sym g ∙ subst (λ (x : Sheet). hasSlope x ≡ false) (this e) (no-slope sheet.blocks a.intercepts))
-    unlisted n (dim-mismatch other more e g) = g (subst (λ (x : Sheet). x .counts .q ≡ coveredRows x.blocks) (this e) a.covers)
-    unlisted n (faulty other more e line g) = let f = subst (λ (x : Sheet). Faulty x line) (sym (this e)) g in a.sound f.0 f.1 f.3
+    unlisted n (not-intercept-only other more e g) = omega (arith, subst (λ (x : Sheet). x .counts .flag ≡ 1) (this e) a.passes.flag)
+    unlisted n (empty-re other more e g) = omega (arith, subst (λ (x : Sheet). 0 < x .counts .k) (this e) a.passes.some)
+    unlisted n (slopes other more e g) = true≢false (sym g ∙ subst (λ (x : Sheet). hasSlope x ≡ false) (this e) (no-slope sheet.blocks a.passes.intercepts))
+    unlisted n (dim-mismatch other more e g) = g (subst (λ (x : Sheet). x .counts .q ≡ coveredRows x.blocks) (this e) a.passes.covers)
+    unlisted n (faulty other more e line g) = let f = subst (λ (x : Sheet). Faulty x line) (sym (this e)) g in a.passes.sound f.0 f.1 f.3
     unlisted n (multiblock-fill other more e i j x y g) = refused-pair other (this e) i j 10 x y g
     unlisted n (cross-gate other more e i j x y g) = refused-pair other (this e) i j 11 x y g
     unlisted n (too-short other more e g) = true≢false (sym a.room ∙ subst (λ (x : Sheet). hasRoom (layoutOfSheet x) h w ≡ false) (sym (this e)) g)
@@ -121,7 +124,7 @@ module _ (s h : List ℕ) (w : List Float) where
       let i = accepted-iff s h w in (
         λ e. acceptable (i.0 e),
         λ sheet a.
-            let r = written-read sheet a.form (subst (λ (x : List ℕ). length x ≤ 16777216) a.text a.short) in
+            let r = written-read sheet a.passes.form (subst (λ (x : List ℕ). length x ≤ 16777216) a.text a.short) in
             let e : sheetOf s ≡ accepted sheet r.0 = subst (λ (x : List ℕ). sheetOf x ≡ accepted sheet r.0) (sym a.text) r.1 in
             i .1 (unlisted sheet a r.0 e),
       )

@@ -7,3 +7,4 @@ pub mod Only
 pub mod OnlyLines
 pub mod OnlySheet
 pub mod Theta
+pub mod Length

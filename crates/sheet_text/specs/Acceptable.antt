@@ -15,11 +15,9 @@ use Rattle.layout.specs.declared.Pair.the-variants.{Refused}
 use Rattle.workspace.specs.Loaded.{pairIn, layoutOfSheet}
 use Rattle.workspace.specs.Load.{hasRoom}
 
-pub record Acceptable (s h : List ℕ) (w : List Float) (sheet : Sheet) : Type 0 where
-  -- 1, "sheet too long"
-  pub short : length s ≤ 16777216
+-- a sheet in form that 5 to 11 do not refuse
+pub record Passes (sheet : Sheet) : Type 0 where
   -- 2, 3 and 4: each line in form and in sequence, each word finite, each count and index within its range
-  pub text : s ≡ textOf sheet
   pub form : InForm sheet
   -- 5, "flag 0 (not_intercept_only)"
   pub flag : sheet .counts .flag ≡ 1
@@ -33,5 +31,12 @@ pub record Acceptable (s h : List ℕ) (w : List Float) (sheet : Sheet) : Type 0
   pub sound : (e : Entry) → List·Memᴰ e (sheet .zz) → Fault sheet e → ⊥
   -- 10 and 11, a pair that the gate refuses
   pub gate : (i j n : ℕ) → i < sheet .counts .k → j < i → pairIn sheet (layoutOfSheet sheet) i j ≡ Refused n → ⊥
+
+pub record Acceptable (s h : List ℕ) (w : List Float) (sheet : Sheet) : Type 0 where
+  -- 1, "sheet too long"
+  pub short : length s ≤ 16777216
+  -- 2 to 11
+  pub text : s ≡ textOf sheet
+  pub passes : Passes sheet
   -- 12, "workspace too short"
   pub room : hasRoom (layoutOfSheet sheet) h w ≡ true

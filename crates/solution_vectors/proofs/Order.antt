@@ -19,9 +19,9 @@ use Rattle.layout.specs.Shapes.{levels, sheetIndex}
 use Rattle.layout.proofs.Sums.{sum-same, sum-more, sum-le, sum-over, sum-small, over-sorted}
 use Rattle.heading_format.specs.Heading.{sheetLevels, validLayout}
 use Rattle.heading_format.proofs.Valid.{is-valid}
-use Rattle.heading_format.proofs.Sorted.{length-sorted, same-lists, order-apart, levels-at}
+use Rattle.heading_format.proofs.Sorted.{length-sorted, same-lists, order-below, levels-at}
 use Rattle.workspace.specs.Loaded.{rowStart}
-use Rattle.block_places.proofs.sheet_rows.Rows.{is-in-block, order-below, block-one}
+use Rattle.block_places.proofs.sheet_rows.Rows.{index-one}
 use Rattle.block_places.proofs.sheet_rows.AllRows.{all-rows}
 use Rattle.profile.specs.Solves.{blockIn}
 use Rattle.profile.specs.Finish.{sortedIndex, inSheetOrder}
@@ -47,28 +47,6 @@ module _ (y : Layout) where
   module _ (ok : validLayout y ≡ true) where
     abbrev sheetM : ℕ → ℕ
     sheetM = sheetLevels y y.k
-
-    -- ---- the blocks' rows
-
-    -- two blocks have no row in common
-    pub rows-apart : (i j : ℕ) → i < y .k → j < y .k → (i ≡ j → ⊥) → (rowStart y i + levels y i ≤ rowStart y j) ⊎ (rowStart y j + levels y j ≤ rowStart y i)
-    rows-apart i j h g other =
-        let some-i = is-valid y ok .level i h .0 in
-        let some-j = is-valid y ok .level j g .0 in
-        by-cases (decLt (rowStart y j) (rowStart y i + levels y i))
-        (λ a. by-cases (decLt (rowStart y i) (rowStart y j + levels y j))
-        (λ b. absurd (other (overlap some-i some-j a b)))
-        (λ b. inr (omega arith)))
-        (λ a. inl (omega arith))
-      where
-        both : (x : ℕ) → rowStart y i ≤ x → x < rowStart y i + levels y i → rowStart y j ≤ x → x < rowStart y j + levels y j → i ≡ j
-        both x a b c d = block-one y ok i j x h g (is-in-block y i x a b) (is-in-block y j x c d)
-
-        overlap : 1 ≤ levels y i → 1 ≤ levels y j → rowStart y j < rowStart y i + levels y i → rowStart y i < rowStart y j + levels y j → i ≡ j
-        overlap p q a b =
-            by-cases (decLt (rowStart y i) (rowStart y j))
-            (λ l. both (rowStart y j) (omega arith) a (omega arith) (omega arith))
-            (λ l. both (rowStart y i) (omega arith) (omega arith) (omega arith) b)
 
     -- ---- every sheet index is a sorted block's
 
@@ -100,13 +78,7 @@ module _ (y : Layout) where
 
     -- and of one alone
     index-order : (j : ℕ) → j < y .k → sortedIndex y (y .k) (sheetIndex y j) ≡ j
-    index-order j h = one (sortedIndex y y.k (sheetIndex y j)) (index-at (sheetIndex y j) (order-below y ok j h))
-      where
-        one : (s : ℕ) → (s < y .k) × (sheetIndex y s ≡ sheetIndex y j) → s ≡ j
-        one s a =
-            let l = a.0 in
-            by-cases (decLt s j) (λ u. absurd (order-apart y ok s j u h a.1))
-            (λ u. by-cases (decLt j s) (λ v. absurd (order-apart y ok j s v l (sym a.1))) (λ v. omega arith))
+    index-order j h = let a = index-at (sheetIndex y j) (order-below y ok j h) in index-one y ok (sortedIndex y y.k (sheetIndex y j)) j a.0 h a.1
 
     -- the levels of the block that has sheet index i
     pub levels-index : (i : ℕ) → i < y .k → levels y (sortedIndex y (y .k) i) ≡ sheetM i

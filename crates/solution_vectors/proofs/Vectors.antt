@@ -20,11 +20,12 @@ use Rattle.layout.specs.Blocks.{sum}
 use Rattle.layout.specs.Shapes.{levels}
 use Rattle.heading_format.specs.Heading.{sheetLevels, validLayout}
 use Rattle.workspace.specs.Loaded.{rowStart}
+use Rattle.block_places.proofs.sheet_rows.Rows.{rows-apart}
 use Rattle.block_places.proofs.sheet_rows.AllRows.{all-rows, rows-within}
 use Rattle.profile.specs.Solves.{blockIn}
 use Rattle.profile.specs.Finish.{sortedIndex, inSheetOrder}
 use Rattle.solution_vectors.specs.Vectors.{blockAt, blocksAt, withVector, withBlockAt, Sized}
-use Rattle.solution_vectors.proofs.Order.{rows-apart, index-at, levels-index, order-length, order-block}
+use Rattle.solution_vectors.proofs.Order.{index-at, levels-index, order-length, order-block}
 
 module _ (y : Layout) (ok : validLayout y ≡ true) where
   abbrev sheetM : ℕ → ℕ

@@ -5,7 +5,7 @@ ghost use mathlib.Core.Bool.{true};
 ghost use lib.ListN.{length};
 ghost use Rattle.heading_format.specs.Heading.{validHeading};
 ghost use Rattle.heading_format.specs.Fits.{Fits};
-ghost use Rattle.profile.specs.Finish.{solveOf};
+ghost use Rattle.profile.specs.Finish.{solveMeaning, solveOf};
 ghost use Rattle.solution_vectors.specs.result_places.Places.{resultLengthOf};
 ghost use Rattle.solution_finish.specs.Outcome.{finishOf};
 use deviance::is_finished;
@@ -43,7 +43,7 @@ fn of_workspace(heading: &[u32], doubles: &[f64], reml: bool, out: &mut [f64]) -
 // The solution in the list that is lent, and its two scalars. Any numbers and doubles may be lent: 20 where they are no workspace, 25 where the factor is
 // not finished, 13 where the list has another length, 27 where a pivot of the fixed effects is not above 0. The workspace is not touched.
 pub fn solve_profile_blocked(heading: &[u32], doubles: &[f64], reml: bool, out: &mut [f64]) -> Solve
-    ensures { λ s. ⌜ (s ≡ solveOf (now (heading .entry)) (now (doubles .entry)) reml (now (out .entry)) .answer) × (now (out .exit) ≡ solveOf (now (heading .entry)) (now (doubles .entry)) reml (now (out .entry)) .result) ⌝ }
+    ensures { λ s. ⌜ (solveMeaning s ≡ solveMeaning (solveOf (now (heading .entry)) (now (doubles .entry)) reml (now (out .entry)) .answer)) × (now (out .exit) ≡ solveOf (now (heading .entry)) (now (doubles .entry)) reml (now (out .entry)) .result) ⌝ }
 {
     if heading_check::is_valid_heading(heading, doubles.len()) {
         return of_workspace(heading, doubles, reml, out);

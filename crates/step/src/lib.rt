@@ -11,6 +11,7 @@ ghost use Prim.Native.Nat.{_≤_};
 ghost use lib.ListN.{length};
 ghost use Rattle.step_order.specs.Steps.{IsStep};
 ghost use Rattle.heading_format.specs.Heading.{layoutOf, progressOf, validHeading};
+ghost use Rattle.refusal.specs.Numbers.{meaning};
 ghost use Rattle.workspace.specs.Answers.{workspace};
 ghost use Rattle.update.specs.Names.{stepOfName};
 ghost use Rattle.update.specs.Calls.{refusedBy, onPivot, stepOf};
@@ -53,7 +54,7 @@ fn step_valid(heading: &mut [u32], doubles: &mut [f64], name: StepName) -> Answe
 // A step (Record 4). Any numbers, doubles and name may be given; refused with 20, 22, 21, 23 or 24 all is left untouched, with 26 the working doubles are
 // +0.0 and there is no update.
 pub fn step(heading: &mut [u32], doubles: &mut [f64], name: StepName) -> Answer
-    ensures { λ r. ⌜ record { answer = r; left = workspace (now (heading .exit)) (now (doubles .exit)) } ≡ stepOf (now (heading .entry)) (now (doubles .entry)) (stepOfName name) ⌝ }
+    ensures { λ r. ⌜ (meaning r ≡ meaning (stepOf (now (heading .entry)) (now (doubles .entry)) (stepOfName name) .answer)) × (workspace (now (heading .exit)) (now (doubles .exit)) ≡ stepOf (now (heading .entry)) (now (doubles .entry)) (stepOfName name) .left) ⌝ }
 {
     if heading_check::is_valid_heading(heading, doubles.len()) {
         return step_valid(heading, doubles, name);

@@ -25,6 +25,25 @@ pub outside-none : (l : List Step) → outside (λ s. false) l ≡ length l
 outside-none [] = refl
 outside-none (s ∷ l) = ap suc (outside-none l)
 
+-- at most the whole list
+outside-most : (d : Step → Bool) (l : List Step) → outside d l ≤ length l
+outside-most d [] = omega arith
+outside-most d (s ∷ l) = go (d s) (outside-most d l)
+  where
+    go : (b : Bool) → outside d l ≤ length l → cond b (outside d l) (suc (outside d l)) ≤ suc (length l)
+    go true h = omega arith
+    go false h = omega arith
+
+-- and that only with none of its steps in the set
+outside-all : (d : Step → Bool) (l : List Step) → outside d l ≡ length l → (s : Step) → List·Memᴰ s l → d s ≡ false
+outside-all d [] e s m = absurd (List·Memᴰ·not-nil m)
+outside-all d (t ∷ l) e s m = go (d t) refl e (outside-all d l)
+  where
+    go : (b : Bool) → d t ≡ b → cond b (outside d l) (suc (outside d l)) ≡ suc (length l)
+        → (outside d l ≡ length l → (s : Step) → List·Memᴰ s l → d s ≡ false) → d s ≡ false
+    go true q e h = absurd (omega (arith, outside-most d l))
+    go false q e h = ⊎-elim (λ x. ap d x ∙ q) (h (omega arith) s) (List·Memᴰ·cases-cons m)
+
 -- a step of the list that joins the set
 outside-join : (d : Step → Bool) (s : Step) → d s ≡ false → (l : List Step) → Distinct l → List·Memᴰ s l → outside d l ≡ suc (outside (join d s) l)
 outside-join d s e [] u m = absurd (List·Memᴰ·not-nil m)
@@ -64,6 +83,10 @@ module _ (k : ℕ) where
     λ e s n. outside-zero d (rustOrder k) .0 e s (rust-has k s n),
     λ h. outside-zero d (rustOrder k) .1 (λ s m. h s (rust-named k s m)),
   )
+
+  -- All left only when no step is in the set.
+  pub all-left : (d : Step → Bool) → stepsLeft k d ≡ length (rustOrder k) → (s : Step) → IsStep k s → d s ≡ false
+  all-left d e s n = outside-all d (rustOrder k) e s (rust-has k s n)
 
   -- Stages leave as many as the set that they stand for,
   pub left-represents : (g : ℕ → ℕ → ℕ) (d : Step → Bool) → Represents k g d → stepsLeft k d ≡ stepsLeft k (done g)

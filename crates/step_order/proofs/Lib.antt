@@ -8,3 +8,4 @@ pub mod Left
 pub mod Next
 pub mod Refusal
 pub mod Theorems
+pub mod Closed

@@ -42,6 +42,17 @@ module _ (R : Rules) (start : ℕ → ℕ → R .Block) where
       go none (some r) x y e h = let z : (n, r) ≡ p = cc in subst (λ (q : ℕ × ℕ). verdict q.0 ≡ some q.1) z y
       go (some q) b x y e h = h (x ∙ e)
 
+  -- It is among those that were looked at.
+  pub refused-below : (n : ℕ) (p : ℕ × ℕ) → refusedBefore R start n ≡ some p → p .0 < n
+  unfolding refusedBefore
+  refused-below zero p e = absurd (let z : _≡_ {A = ℕ} 0 1 = cc in omega arith)
+  refused-below (suc n) p e = go (refusedBefore R start n) (verdict n) refl e (refused-below n p)
+    where
+      go : (a : Option (ℕ × ℕ)) (b : Option ℕ) → refusedBefore R start n ≡ a → orElse a (inBlock n b) ≡ some p → (refusedBefore R start n ≡ some p → p .0 < n) → p .0 < suc n
+      go none none x e h = absurd (let z : _≡_ {A = ℕ} 0 1 = cc in omega arith)
+      go none (some r) x e h = let z : n ≡ p .0 = cc in omega arith
+      go (some q) b x e h = let l = h (x ∙ e) in omega arith
+
 module _ (R : Rules) (k : ℕ) (start : ℕ → ℕ → R .Block) where
   -- what the Rust's order refuses in a step is what it refuses
   pub refused-at : (s : Step) (r : ℕ) → refusedIn R k start s ≡ some r → refusedAt R k start ≡ some (col s, r)

@@ -30,6 +30,12 @@ module _ {A : Type 0} where
   length-tab zero f = refl
   length-tab (suc n) f = length-append (tab n f) (f n ∷ []) ∙ omega (arith, length-tab n f)
 
+  -- the first of them, and the others
+  pub tab-front : (n : ℕ) (f : ℕ → A) → tab (suc n) f ≡ f 0 ∷ tab n (λ i. f (suc i))
+  unfolding tab
+  tab-front zero f = refl
+  tab-front (suc n) f = ap (λ (l : List A). l ++ (f (suc n) ∷ [])) (tab-front n f)
+
   -- cell i of it is f i
   pub getD-tab : (n : ℕ) (f : ℕ → A) (i : ℕ) (d : A) → i < n → getD (tab n f) i d ≡ f i
   unfolding tab

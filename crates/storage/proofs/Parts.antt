@@ -1,11 +1,11 @@
 -- Reading a part and storing a list: what was stored is read again, and all else is as it was.
 use Prim.Native.Nat.{ℕ, suc, _+_, _-_, _≤_, _<_}
 use mathlib.Core.Path.{_≡_, refl, sym, ap, ap₂, _∙_}
-use mathlib.Core.List.{List, [], _∷_, _++_, append-assoc}
+use mathlib.Core.List.{List, [], _∷_, _++_, append-assoc, append-nil}
 use mathlib.Core.Logic.{_⊎_, ⊎-elim}
 use native.Mathlib.Nat.{add-zero, add-assoc}
 use native.Mathlib.Omega.{arith}
-use lib.ListN.{length, getD, take, drop, set, length-append, length-take, length-drop, take-append-drop}
+use lib.ListN.{length, getD, take, drop, set, length-append, length-take, length-drop, drop-of-length-le, take-append-drop}
 use lib.Seq.{
   getD-take,
   getD-drop,
@@ -169,6 +169,11 @@ module _ {A : Type 0} where
   pub store-nil : (off : ℕ) (w : List A) → store off [] w ≡ w
   unfolding store
   store-nil off w = sym (paste-zero w off [])
+
+  -- nothing is left of a list that is stored over whole
+  pub store-all : (l w : List A) → length w ≡ length l → store 0 l w ≡ l
+  unfolding store
+  store-all l w e = let h : length w ≤ 0 + length l = omega arith in ap (λ (x : List A). l ++ x) (drop-of-length-le w h) ∙ append-nil l
 
   -- a copy of the first n cells of l, as a loop leaves it after n turns
   pub store-paste : (off : ℕ) (l w : List A) (n : ℕ) → n ≤ length l → paste w off l n ≡ store off (take n l) w

@@ -159,6 +159,37 @@ underflow-divided :
 unfolding after words
 underflow-divided = refl
 
+-- An infinite pivot: 2^1000, 1 and 5 on the diagonals, cross cells 1, theta 2^20 and 1. (t·t)·a + 1 overflows to +infinity, and the division by its root
+-- makes the first cell 0; the second is 1 - 2^-41. Block 1 is 6, and 6 - (1 - 2^-40) after S(1,1,0). The word, 5 + 2^-40, is from Python's floats.
+infinite-pivot :
+    words
+    (workingBlock (written (diagonal 1) (idle 2))
+    (after 1
+    (word 0x7e70000000000000 ∷ one ∷ word 0x4014000000000000 ∷ one ∷ one ∷ replicate 9 one)
+    (word 0x4130000000000000 ∷ one ∷ [])
+    (C 0 ∷ T 1 0 ∷ S 1 1 0 ∷ [])
+    .left
+    .doubles)
+    1 1)
+    ≡ 0x4014000000000400 ∷ []
+unfolding after words
+infinite-pivot = refl
+
+-- Pair 2^1000, 1, theta 2^100 and 0: the first cell overflows and is NaN after the second product, the second is 0. Block 1 is 1, and 1 - NaN after S(1,1,0).
+zero-theta :
+    words
+    (workingBlock (written (diagonal 1) (idle 2))
+    (after 1
+    (one ∷ one ∷ word 0x4014000000000000 ∷ word 0x7e70000000000000 ∷ one ∷ replicate 9 one)
+    (word 0x4630000000000000 ∷ word 0 ∷ [])
+    (C 0 ∷ T 1 0 ∷ S 1 1 0 ∷ [])
+    .left
+    .doubles)
+    1 1)
+    ≡ 0x7ff8000000000000 ∷ []
+unfolding after words
+zero-theta = refl
+
 -- A NaN pivot fills column 0 of a pair with one entry in each row: the row that was loaded in that column becomes NaN, the other keeps 2.
 nan-column :
     words

@@ -3,6 +3,7 @@ use Prim.Native.Nat.{ℕ, _≤_, _<_}
 use mathlib.Core.Path.{_≡_, refl, sym, ap, _∙_}
 use mathlib.Core.Bool.{Bool, true, false, not, _&&_, _||_}
 use mathlib.Core.List.{List}
+use mathlib.Core.Option.{Option, none, some}
 use native.Mathlib.Omega.{arith}
 use lib.Dec.{ltb, leb}
 use lib.ListN.{length, getD}
@@ -20,12 +21,13 @@ use Rattle.workspace.specs.Memory.{cellOf, workingBlock}
 use Rattle.profile.specs.Deviance.{isFinished, logDeterminant}
 use Rattle.block_places.proofs.block_sizes.Sizes.{doubles-small}
 use Rattle.deviance.specs.deviance_tail.Tail.{logDeterminantOf}
+use Rattle.views.specs.declared.StepsLeft.{StepsLeft}
 use Rattle.views.specs.declared.StepsLeft.the-variants.{Steps, Refused as Denied}
 use Rattle.views.specs.declared.View.{View}
 use Rattle.views.specs.declared.View.the-variants.{Value, Absent, Refused}
 use Rattle.block_places.specs.block_kinds.Rows.{rowsOf}
 use Rattle.views.specs.pivot_places.Pivots.{isPivot, pivotAt}
-use Rattle.views.specs.Views.{refusalOfStepsLeft, refusalOfView, stepsLeftOf, finishedView, pivotView}
+use Rattle.views.specs.Views.{StepsMeaning, stepsMeaning, ViewMeaning, viewMeaning, stepsLeftOf, finishedView, pivotView}
 use Rattle.views.proofs.pivot_places.Places.{shape-is}
 use Rattle.heading_format.specs.Parts.{sparseAt, diagonalAt, progressAt, headingLength}
 
@@ -95,9 +97,34 @@ module _ (y : Layout) (w : List Float) (j r : ℕ) where
     a-pivot h v e = rw (le-leb j y.k there, lt-ltb r (rowsOf y j) (omega arith)) (ap Value e)
 
 -- ---- the number of an answer: that of a refusal, and 0 of any other
-numbers : (refusalOfStepsLeft (Denied (refusal 20 0 0)) .number ≡ 20)
-    × (refusalOfStepsLeft (Steps 4) .number ≡ 0)
-    × (refusalOfView (Refused (refusal 25 0 0)) .number ≡ 25)
-    × (refusalOfView Absent .number ≡ 0)
-    × (refusalOfView (Value nan) .number ≡ 0)
+numbers : (stepsMeaning (Denied (refusal 20 0 0)) .refusal .number ≡ 20)
+    × (stepsMeaning (Steps 4) .refusal .number ≡ 0)
+    × (viewMeaning (Refused (refusal 25 0 0)) .refusal .number ≡ 25)
+    × (viewMeaning Absent .refusal .number ≡ 0)
+    × (viewMeaning (Value nan) .refusal .number ≡ 0)
 numbers = (refl, refl, refl, refl, refl)
+
+-- ---- what an answer means says which answer it is
+abbrev stepsBy : Option ℕ → Refusal → StepsLeft
+stepsBy (some n) f = Steps n
+stepsBy none f = Denied f
+
+steps-back : (a : StepsLeft) → stepsBy (stepsMeaning a .steps) (stepsMeaning a .refusal) ≡ a
+steps-back (Steps n) = refl
+steps-back (Denied r) = refl
+
+pub steps-meaning-injective : (a b : StepsLeft) → stepsMeaning a ≡ stepsMeaning b → a ≡ b
+steps-meaning-injective a b e = sym (steps-back a) ∙ ap (λ (m : StepsMeaning). stepsBy m.steps m.refusal) e ∙ steps-back b
+
+abbrev viewBy : Option Float → Bool → Refusal → View
+viewBy (some v) accepted f = Value v
+viewBy none true f = Absent
+viewBy none false f = Refused f
+
+view-back : (a : View) → viewBy (viewMeaning a .value) (viewMeaning a .accepted) (viewMeaning a .refusal) ≡ a
+view-back (Value v) = refl
+view-back Absent = refl
+view-back (Refused r) = refl
+
+pub view-meaning-injective : (a b : View) → viewMeaning a ≡ viewMeaning b → a ≡ b
+view-meaning-injective a b e = sym (view-back a) ∙ ap (λ (m : ViewMeaning). viewBy m.value m.accepted m.refusal) e ∙ view-back b

@@ -1,7 +1,9 @@
 -- What a caller may look at (document 01, Record 5, "Refused because of the state"): the steps left, the log determinant, a pivot. 20 where the numbers
 -- and doubles are no workspace, 25 where the factor is not finished.
 use Prim.Native.Nat.{ℕ}
+use mathlib.Core.Bool.{Bool, true, false}
 use mathlib.Core.List.{List}
+use mathlib.Core.Option.{Option, none, some}
 use lib.ListN.{length}
 use lib.Ieee.{Float}
 use Rattle.refusal.specs.declared.Refusal.{Refusal}
@@ -17,15 +19,25 @@ use Rattle.views.specs.declared.View.{View}
 use Rattle.views.specs.declared.View.the-variants.{Value, Absent, Refused}
 use Rattle.views.specs.pivot_places.Pivots.{isPivot, pivotAt}
 
--- document 01's number and places of an answer, 0 where it is none of its refusals
-abbrev pub refusalOfStepsLeft : StepsLeft → Refusal
-refusalOfStepsLeft (Steps n) = noRefusal
-refusalOfStepsLeft (Denied r) = r
+-- WHAT AN ANSWER MEANS (document 01: "That definition gives this paper's number and values for each of the enum's cases"): number and places, 0 where it is none
+-- of its refusals, and the number of steps, or the double where there is one of that name.
+pub record StepsMeaning : Type 0 where
+  pub refusal : Refusal
+  pub steps : Option ℕ
 
-abbrev pub refusalOfView : View → Refusal
-refusalOfView (Value v) = noRefusal
-refusalOfView Absent = noRefusal
-refusalOfView (Refused r) = r
+abbrev pub stepsMeaning : StepsLeft → StepsMeaning
+stepsMeaning (Steps n) = record { refusal = noRefusal; steps = some n }
+stepsMeaning (Denied r) = record { refusal = r; steps = none }
+
+pub record ViewMeaning : Type 0 where
+  pub accepted : Bool
+  pub refusal : Refusal
+  pub value : Option Float
+
+abbrev pub viewMeaning : View → ViewMeaning
+viewMeaning (Value v) = record { accepted = true; refusal = noRefusal; value = some v }
+viewMeaning Absent = record { accepted = true; refusal = noRefusal; value = none }
+viewMeaning (Refused r) = record { accepted = false; refusal = r; value = none }
 
 -- the steps left (Record 5), with none all of them: 20 by the heading alone, with as many doubles as it says
 unfoldable pub stepsLeftOf : List ℕ → StepsLeft

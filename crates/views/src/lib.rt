@@ -7,7 +7,7 @@ ghost use Prim.Native.Nat.{_<_, _≤_};
 ghost use lib.ListN.{length};
 ghost use Rattle.heading_format.specs.Heading.{progressOf};
 ghost use Rattle.profile.specs.Deviance.{isFinished};
-ghost use Rattle.views.specs.Views.{stepsLeftOf, determinantOf, pivotOf, pivotView};
+ghost use Rattle.views.specs.Views.{stepsMeaning, viewMeaning, stepsLeftOf, determinantOf, pivotOf, pivotView};
 ghost use Rattle.heading_format.specs.Parts.{headingLength};
 ghost use Rattle.heading_format.specs.Fits.{Room};
 use block_places::block_kinds;
@@ -35,7 +35,7 @@ const LARGE: usize = 2199023255552;
 
 // How many steps are left; 20 by the heading alone.
 pub fn steps_left(heading: &[u32]) -> StepsLeft
-    ensures { λ r. ⌜ r ≡ stepsLeftOf (now (heading .entry)) ⌝ }
+    ensures { λ r. ⌜ stepsMeaning r ≡ stepsMeaning (stepsLeftOf (now (heading .entry))) ⌝ }
 {
     if heading_check::is_valid_heading(heading, LARGE) {
         let progress = heading::progress(heading);
@@ -56,7 +56,7 @@ fn has_factor(heading: &[u32]) -> bool
 
 // The log determinant of a finished factor: 20, 25.
 pub fn log_determinant(heading: &[u32], doubles: &[f64]) -> View
-    ensures { λ r. ⌜ r ≡ determinantOf (now (heading .entry)) (now (doubles .entry)) ⌝ }
+    ensures { λ r. ⌜ viewMeaning r ≡ viewMeaning (determinantOf (now (heading .entry)) (now (doubles .entry))) ⌝ }
 {
     if heading_check::is_valid_heading(heading, doubles.len()) {
         if has_factor(heading) {
@@ -82,7 +82,7 @@ fn pivot_or_absent(layout: Layout, doubles: &[f64], j: u64, r: u64) -> View
 
 // Pivot `row` of block `block` of a finished factor: 20, 25. Any numbers may be asked for.
 pub fn pivot(heading: &[u32], doubles: &[f64], block: u64, row: u64) -> View
-    ensures { λ r. ⌜ r ≡ pivotOf (now (heading .entry)) (now (doubles .entry)) block row ⌝ }
+    ensures { λ r. ⌜ viewMeaning r ≡ viewMeaning (pivotOf (now (heading .entry)) (now (doubles .entry)) block row) ⌝ }
 {
     if heading_check::is_valid_heading(heading, doubles.len()) {
         if has_factor(heading) {

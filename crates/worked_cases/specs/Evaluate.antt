@@ -18,7 +18,7 @@ use Rattle.workspace.specs.Load.{loadOf}
 use Rattle.workspace.specs.Compute.{words}
 use Rattle.update.specs.Compute.{steps}
 use Rattle.update.specs.Calls.{beginOf, runOf, begun, stepped}
-use Rattle.profile.specs.declared.Deviance.{Deviance}
+use Rattle.profile.specs.declared.DevianceAnswer.{DevianceAnswer}
 use Rattle.profile.specs.declared.Solve.{Solve}
 use Rattle.profile.specs.declared.Solve.the-variants.{Solved, Refused}
 use Rattle.profile.specs.Deviance.{profileOf, logDeterminant}
@@ -75,7 +75,7 @@ solving s theta reml =
     let w = finished s theta .left in
     solveOf (w .heading) (w .doubles) reml (replicate 6 (Ieee.ofBits binary64 0))
 
-unfoldable pub profiled : List ℕ → ℕ → Bool → Deviance
+unfoldable pub profiled : List ℕ → ℕ → Bool → DevianceAnswer
 unfolding loaded profileOf
 profiled s theta reml = let w = loaded s .left in profileOf (w .heading) (w .doubles) (Ieee.ofBits binary64 theta ∷ []) reml .answer
 

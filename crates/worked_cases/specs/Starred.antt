@@ -8,6 +8,7 @@ use Rattle.workspace.specs.Compute.{words}
 use Rattle.refusal.specs.declared.Answer.the-variants.{Accepted}
 use Rattle.heading_format.specs.Heading.{progressOf}
 use Rattle.profile.specs.declared.Deviance.the-variants.{NoScale}
+use Rattle.profile.specs.declared.DevianceAnswer.the-variants.{Given}
 use Rattle.factor_output.specs.Program.{printOf}
 use Rattle.worked_cases.specs.Table.{oneWord, twoWord, halfWord, thirdWord, zeroWord, twoLn2Word, solutionWords, countCases, gateCases, stepCases}
 use Rattle.worked_cases.specs.Evaluate.{sheetBytes, inputBytes, outputBytes, oneReadingBytes, loaded, logDeterminantBits, solving, profiled, sigma2Bits, stepCounts, gateVerdicts, stepRefusals, countsSaid, verdictsSaid, refusalsSaid}
@@ -33,4 +34,4 @@ pub record Starred : Type 0 where
   -- theta 0: logdet +0
   pub theta-zero : logDeterminantBits sheetBytes zeroWord ≡ zeroWord
   -- REML with n = p: no scale
-  pub no-scale : profiled oneReadingBytes oneWord true ≡ NoScale
+  pub no-scale : profiled oneReadingBytes oneWord true ≡ Given NoScale

@@ -1,5 +1,5 @@
 -- A sheet that load accepts has a valid layout (document 01, Records 1 to 3).
-use Prim.Native.Nat.{ℕ, zero, suc, _+_, _*_, _≤_, _<_}
+use Prim.Native.Nat.{ℕ, zero, suc, _+_, _-_, _*_, _≤_, _<_}
 use mathlib.Core.Path.{_≡_, refl, sym, ap, ap₂, subst, _∙_}
 use mathlib.Core.Bool.{Bool, true, false, not, _&&_, cond, and-eq-true-iff}
 use mathlib.Core.List.{List, [], _∷_, _++_}
@@ -13,7 +13,7 @@ use borrow.Author.Tests.{eqb-true, eqb-false, lt-ltb, le-ltb, le-leb, lt-leb, eq
 use Rattle.sheet.specs.Run.{Block, Entry}
 use Rattle.sheet.specs.Sheet.{Sheet, accepted, sheetOf}
 use Rattle.sheet.specs.declared.Starts.{Starts}
-use Rattle.sheet.specs.Fault.{coveredRows, faultNumber, hasSlope, coversRows, anyFaulty}
+use Rattle.sheet.specs.Fault.{coveredRows, blockOfRow, faultNumber, hasSlope, coversRows, anyFaulty}
 use Rattle.sheet.specs.Whole.{Each, BlockInRange}
 use Rattle.sheet.proofs.Whole.{read-whole, alone-read}
 use Rattle.layout.specs.declared.Layout.{Layout}
@@ -73,6 +73,10 @@ module _ (m : ℕ → ℕ) where
       by-cases (decLt i k) (λ l. in-insert i k (sorted m k) (inr (in-sorted k i l)))
       (λ l. let e : k ≡ i = omega arith in in-insert i k (sorted m k) (inl e))
 
+  -- each block has a place in it
+  pub sorted-has : (k i : ℕ) → i < k → (t : ℕ) × (t < k) × (getD (sorted m k) t 0 ≡ i)
+  sorted-has k i h = let r = in-at i (sorted m k) (in-sorted k i h) in let b = r.1 in (r.0, omega (arith, length-sorted m k), r.2)
+
 -- ---- lists with zeros behind them
 
 padded-take : (n : ℕ) (l : List ℕ) → length l ≤ n → take (length l) (padded n l) ≡ l
@@ -97,6 +101,17 @@ pub sum-levels : (l : List Block) → sum (levelsIn l) (length l) ≡ coveredRow
 unfolding coveredRows sum
 sum-levels [] = refl
 sum-levels (b ∷ l) = sum-front (levelsIn (b ∷ l)) (length l) ∙ ap (λ (a : ℕ). b .m + a) (sum-levels l)
+
+-- row c of block i is in block i
+pub row-block : (l : List Block) (i c : ℕ) → i < length l → c < levelsIn l i → blockOfRow l (sum (levelsIn l) i + c) ≡ i
+unfolding blockOfRow sum
+row-block [] i c h g = absurd (omega arith)
+row-block (b ∷ l) zero c h g = let e : 0 + c ≡ c = omega arith in rw (e, lt-ltb c b.m g) refl
+row-block (b ∷ l) (suc i) c h g =
+    let from : sum (levelsIn (b ∷ l)) (suc i) + c ≡ b .m + (sum (levelsIn l) i + c) = omega (arith, sum-front (levelsIn (b ∷ l)) i) in
+    let past : b .m + (sum (levelsIn l) i + c) - b .m ≡ sum (levelsIn l) i + c = omega arith in
+    ap (blockOfRow (b ∷ l)) from
+    ∙ rw (le-ltb (b.m + (sum (levelsIn l) i + c)) b.m (omega arith), past) (ap suc (row-block l i c (omega arith) g))
 
 levels-range : (l : List Block) → Each BlockInRange l → (i : ℕ) → i < length l → (1 ≤ levelsIn l i) × (levelsIn l i ≤ 65535)
 levels-range [] a i h = absurd (omega arith)
@@ -159,9 +174,8 @@ module _ (sheet : Sheet) (few : sheet .counts .k ≤ 8) where
   -- the layout gives back the sheet's levels
   pub sheet-levels : (i : ℕ) → i < sheet .counts .k → sheetLevels (layoutOfSheet sheet) (sheet .counts .k) i ≡ sheetM sheet i
   sheet-levels i h =
-      let r = in-at i list (in-sorted (sheetM sheet) sheet.counts.k i h) in
-      let b = r.1 in
-      sheet-found sheet.counts.k i r.0 (omega arith) (omega (arith, long)) r.2
+      let r = sorted-has (sheetM sheet) sheet.counts.k i h in
+      sheet-found sheet.counts.k i r.0 (omega arith) r.1 r.2
 
   pub order-test : same (take (sheet .counts .k) (layoutOfSheet sheet .order)) (sorted (sheetLevels (layoutOfSheet sheet) (sheet .counts .k)) (sheet .counts .k)) ≡ true
   unfolding layoutOfSheet sortedLayout
@@ -213,7 +227,7 @@ inside a n x = leb a x && ltb x (a + n)
 abbrev inPair : ℕ → ℕ → ℕ → ℕ → Entry → Bool
 inPair a n b m e = inside a n e.col && inside b m e.row
 
-abbrev inColumn : ℕ → ℕ → ℕ → ℕ → Entry → Bool
+abbrev pub inColumn : ℕ → ℕ → ℕ → ℕ → Entry → Bool
 inColumn a c b m e = eqb e.col (a + c) && inside b m e.row
 
 inside-none : (a x : ℕ) → inside a 0 x ≡ false
@@ -413,21 +427,25 @@ sparse-columns sheet s =
 
 -- ---- the layout of a sheet that load accepts is valid
 
-shaped-valid : (sheet : Sheet) → (1 ≤ sheet .counts .n) × (sheet .counts .n ≤ 1000000000) → (1 ≤ sheet .counts .p) × (sheet .counts .p ≤ 32)
-    → sheet .counts .k ≤ 8 → Each BlockInRange (sheet .blocks) → length (sheet .blocks) ≡ sheet .counts .k → faultNumber sheet ≡ 0
-    → firstRefusedPair sheet (layoutOfSheet sheet) (pairs (layoutOfSheet sheet .k)) ≡ none → validLayout (layoutOfSheet sheet) ≡ true
+-- Counts in range, sorted blocks that cover the rows, and pairs that the gate allows.
+pub shaped-valid : (sheet : Sheet) → (1 ≤ sheet .counts .n) × (sheet .counts .n ≤ 1000000000) → (1 ≤ sheet .counts .p) × (sheet .counts .p ≤ 32)
+    → (1 ≤ sheet .counts .k) × (sheet .counts .k ≤ 8) → Each BlockInRange (sheet .blocks) → length (sheet .blocks) ≡ sheet .counts .k
+    → sheet .counts .q ≡ coveredRows (sheet .blocks)
+    → ((i j : ℕ) → i < sheet .counts .k → j < i → firstRefusedPair sheet (layoutOfSheet sheet) (target i j ∷ []) ≡ none) → validLayout (layoutOfSheet sheet) ≡ true
 unfolding layoutOfSheet sortedLayout
-shaped-valid sheet n p k blocks count fine gate =
+shaped-valid sheet n p k blocks count covers gate =
     let y : Layout = layoutOfSheet sheet in
-    let r = no-refusal sheet fine in
-    valid-of (layoutOfSheet sheet) n p (r.0, k) (level-range sheet k blocks count) (order-test sheet k) (r.1 ∙ sym (total sheet k count))
+    valid-of (layoutOfSheet sheet) n p k (level-range sheet k.1 blocks count) (order-test sheet k.1) (covers ∙ sym (total sheet k.1 count))
     (λ d. eqb-true y.k 2 (and-eq-true-iff (eqb y.k 2) (oneEach sheet y 1 0) .0 (sym (diagonal-is sheet) ∙ d) .0))
     (λ s. let t = sparse-columns sheet s in (diagonal-is sheet ∙ both (eqb y.k 2) (oneEach sheet y 1 0) (eq-eqb y.k 2 t.0) t.1, t.0))
-    (λ i j h g. pair-valid sheet (layoutOfSheet sheet) (sparse-is sheet) (diagonal-is sheet) i j h g (allowed-pairs sheet (layoutOfSheet sheet) y.k gate i j h g))
+    (λ i j h g. pair-valid sheet (layoutOfSheet sheet) (sparse-is sheet) (diagonal-is sheet) i j h g (gate i j h g))
 
--- Counts in range, sorted blocks that cover the rows, and pairs that the gate allows.
+-- the same of bytes that are read
 pub sheet-valid : (s : List ℕ) (sheet : Sheet) (starts : Starts) → sheetOf s ≡ accepted sheet starts → faultNumber sheet ≡ 0
     → firstRefusedPair sheet (layoutOfSheet sheet) (pairs (layoutOfSheet sheet .k)) ≡ none → validLayout (layoutOfSheet sheet) ≡ true
+unfolding layoutOfSheet sortedLayout
 sheet-valid s sheet starts read fine gate =
     let shape = read-whole s sheet starts (alone-read s sheet starts read .0) .shape in
-    shaped-valid sheet shape.counts.n shape.counts.p shape.counts.k shape.blocks shape.blocks-length fine gate
+    let r = no-refusal sheet fine in
+    shaped-valid sheet shape.counts.n shape.counts.p (r.0, shape.counts.k) shape.blocks shape.blocks-length r.1
+    (allowed-pairs sheet (layoutOfSheet sheet) sheet.counts.k gate)

@@ -1,4 +1,5 @@
 -- `begin::begin`: 20, or a workspace.
+use Rattle.workspace.proofs.Meaning.{outcome-means}
 use mathlib.Core.Path.{sym, _∙_}
 use Rattle.begin.proofs.Outcome.{not-valid-heading}
 use borrow.Author.Needs.{needs}
@@ -10,8 +11,8 @@ begin-valid-requires c κs = sym c.before.before.before.is-valid-heading.ensures
 
 returns-2 : tie.Need-returns-2
 returns-2 c = let a = c.before.before.before.before.before.before.before.args in
-    not-valid-heading a.heading.now a.doubles.now a.theta.now (sym c.before.before.is-valid-heading.ensures ∙ c.before.if1.left) _ c.refused.ensures
+    outcome-means _ _ _ (not-valid-heading a.heading.now a.doubles.now a.theta.now (sym c.before.before.is-valid-heading.ensures ∙ c.before.if1.left) _ c.refused.ensures)
 
 pub begin-spec : {M : Type 1} → statement M
 begin-spec = tie.close (tie.spec (λ c κs. search needs) begin-valid-requires (λ c. search needs) (λ c. search needs)
-    (λ c. search needs) (λ c κs. search needs) (λ c. search needs) returns-2)
+    (λ c. outcome-means _ _ _ c.before.before.before.before.begin-valid.ensures) (λ c κs. search needs) (λ c. search needs) returns-2)

@@ -3,21 +3,21 @@ use Prim.Native.Nat.{ℕ, zero, suc, _+_, _*_, _/_, _%_, _≤_, _<_}
 use mathlib.Core.Path.{_≡_, refl, sym, ap, subst, _∙_}
 use mathlib.Core.Bool.{Bool, true, false, cond, and-eq-true-iff}
 use mathlib.Core.List.{List}
-use mathlib.Core.Logic.{by-cases}
+use mathlib.Core.Logic.{_⊎_, inl, inr, by-cases}
 use native.Mathlib.Decide.{decLt}
 use native.Mathlib.Numerals.{add-one}
 use native.Mathlib.Omega.{arith}
 use lib.Dec.{ltb, leb, eqb}
-use lib.ListN.{length, getD, take, set}
-use lib.Seq.{getD-take, getD-set-same, getD-set-other}
+use lib.ListN.{length, getD, set}
+use lib.Seq.{getD-set-same, getD-set-other}
 use borrow.Author.Tests.{ltb-true, leb-true, lt-ltb, le-leb}
 use Rattle.layout.specs.declared.Layout.{Layout}
-use Rattle.layout.specs.Blocks.{sorted, sum}
+use Rattle.layout.specs.Blocks.{sum}
 use Rattle.layout.specs.Shapes.{levels, sheetIndex}
 use Rattle.layout.proofs.Sums.{sum-more, sum-small, sum-le}
 use Rattle.heading_format.specs.Heading.{sheetLevels, validLayout}
 use Rattle.heading_format.proofs.Valid.{is-valid}
-use Rattle.heading_format.proofs.Sorted.{all-at, length-sorted, below-sorted, same-lists, order-apart, levels-at}
+use Rattle.heading_format.proofs.Sorted.{order-below, order-apart, levels-at}
 use Rattle.workspace.specs.Loaded.{rowStart, inBlock}
 use Rattle.block_places.specs.sheet_rows.Blocks.{blockOfRow}
 
@@ -62,15 +62,6 @@ module _ (y : Layout) where
     abbrev sheetM : ℕ → ℕ
     sheetM = sheetLevels y y.k
 
-    order-list : (s : ℕ) → s < y .k → getD (sorted sheetM (y .k)) s 0 ≡ sheetIndex y s
-    order-list s l =
-        ap (λ (z : List ℕ). getD z s 0) (sym (same-lists (take y.k y.order) (sorted sheetM y.k) (is-valid y ok .order)))
-        ∙ getD-take y.k y.order s 0 l
-
-    pub order-below : (j : ℕ) → j < y .k → sheetIndex y j < y .k
-    order-below j h =
-        subst (λ (x : ℕ). x < y .k) (order-list j h) (all-at (λ s. s < y .k) (sorted sheetM y.k) (below-sorted sheetM y.k) j (omega (arith, length-sorted sheetM y.k)))
-
     sheet-small : (n i : ℕ) → n ≤ y .k → sheetLevels y n i ≤ 65535
     unfolding sheetLevels
     sheet-small zero i h = omega arith
@@ -87,7 +78,7 @@ module _ (y : Layout) where
     rows-small n = sum-small sheetM 65535 n (λ i h. levels-small i)
 
     pub start-small : (j : ℕ) → j < y .k → rowStart y j ≤ 524280
-    start-small j h = omega (arith, rows-small (sheetIndex y j), order-below j h, is-valid y ok .blocks .1)
+    start-small j h = omega (arith, rows-small (sheetIndex y j), order-below y ok j h, is-valid y ok .blocks .1)
 
     -- a block ends before each that comes later in the sheet starts
     ends : (i j : ℕ) → i < y .k → sheetIndex y i < sheetIndex y j → rowStart y i + levels y i ≤ rowStart y j
@@ -95,7 +86,19 @@ module _ (y : Layout) where
 
     -- and all end with the sheet's rows
     pub rows-end : (j : ℕ) → j < y .k → rowStart y j + levels y j ≤ sum sheetM (y .k)
-    rows-end j h = omega (arith, levels-at y ok j h, sum-more sheetM (sheetIndex y j), sum-le sheetM (sheetIndex y j + 1) y.k (omega (arith, order-below j h)))
+    rows-end j h = omega (arith, levels-at y ok j h, sum-more sheetM (sheetIndex y j), sum-le sheetM (sheetIndex y j + 1) y.k (omega (arith, order-below y ok j h)))
+
+    -- one block has a sheet index
+    pub index-one : (i j : ℕ) → i < y .k → j < y .k → sheetIndex y i ≡ sheetIndex y j → i ≡ j
+    index-one i j h g e =
+        by-cases (decLt i j) (λ u. absurd (order-apart y ok i j u g e))
+        (λ u. by-cases (decLt j i) (λ v. absurd (order-apart y ok j i v h (sym e))) (λ v. omega arith))
+
+    -- two blocks have no row in common
+    pub rows-apart : (i j : ℕ) → i < y .k → j < y .k → (i ≡ j → ⊥) → (rowStart y i + levels y i ≤ rowStart y j) ⊎ (rowStart y j + levels y j ≤ rowStart y i)
+    rows-apart i j h g other =
+        by-cases (decLt (sheetIndex y i) (sheetIndex y j)) (λ l. inl (ends i j h l))
+        (λ l. by-cases (decLt (sheetIndex y j) (sheetIndex y i)) (λ m. inr (ends j i g m)) (λ m. absurd (other (index-one i j h g (omega arith)))))
 
     -- one block has a row
     pub block-one : (i j x : ℕ) → i < y .k → j < y .k → inBlock y i x ≡ true → inBlock y j x ≡ true → i ≡ j
@@ -107,10 +110,7 @@ module _ (y : Layout) where
         let q₀ = q.0 in
         let q₁ = q.1 in
         by-cases (decLt (sheetIndex y i) (sheetIndex y j)) (λ l. absurd (omega (arith, ends i j h l)))
-        (λ l. by-cases (decLt (sheetIndex y j) (sheetIndex y i)) (λ m. absurd (omega (arith, ends j i g m)))
-        (λ m. let e : sheetIndex y i ≡ sheetIndex y j = omega arith in
-        by-cases (decLt i j) (λ u. absurd (order-apart y ok i j u g e))
-        (λ u. by-cases (decLt j i) (λ v. absurd (order-apart y ok j i v h (sym e))) (λ v. omega arith))))
+        (λ l. by-cases (decLt (sheetIndex y j) (sheetIndex y i)) (λ m. absurd (omega (arith, ends j i g m))) (λ m. index-one i j h g (omega arith)))
 
     pub block-is : (n j x : ℕ) → j < n → n ≤ y .k → inBlock y j x ≡ true → blockOfRow y n x ≡ j
     unfolding blockOfRow

@@ -2,6 +2,7 @@
 use float_bits::words;
 use libc::STDOUT_FILENO;
 use profile::Deviance;
+use profile::DevianceAnswer;
 use profile::Solve;
 use refusal::Answer;
 use refusal::Refusal;
@@ -39,7 +40,19 @@ pub fn of_answer(a: Answer) -> Reported {
 }
 
 // What a call answers that gives a deviance.
-pub fn of_deviance(d: Deviance) -> Reported {
+pub fn of_answered(a: DevianceAnswer) -> Reported {
+    match a {
+        DevianceAnswer::Given(d) => of_deviance(d),
+        DevianceAnswer::Refused(r) => Reported {
+            how: 1,
+            refusal: r,
+            value: 0.0,
+        },
+    }
+}
+
+// Record 6's three cases.
+fn of_deviance(d: Deviance) -> Reported {
     match d {
         Deviance::Value(x) => Reported {
             how: 2,
@@ -58,11 +71,6 @@ pub fn of_deviance(d: Deviance) -> Reported {
         Deviance::NoScale => Reported {
             how: 4,
             refusal: none(),
-            value: 0.0,
-        },
-        Deviance::Refused(r) => Reported {
-            how: 1,
-            refusal: r,
             value: 0.0,
         },
     }

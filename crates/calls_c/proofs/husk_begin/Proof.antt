@@ -1,11 +1,12 @@
 -- `calls_c::husk_begin` meets its contract.
-use Rattle.calls_c.proofs.Reported.{outcome-reported}
+use mathlib.Core.Path.{sym, ap, _∙_}
+use Rattle.refusal.specs.Numbers.{Meaning}
 use borrow.Author.Needs.{needs}
 use Rattle.calls_c.proofs.husk_begin.Statement.{statement}
 use Rattle.calls_c.proofs.husk_begin.Tie as tie
 
 returns : tie.Need-returns
-returns c = outcome-reported c.number.ensures c.before.before.before.before.before.begin.ensures
+returns c = let e = c.before.before.before.before.before.begin.ensures in (c.number.ensures ∙ ap (λ (m : Meaning). m .refusal .number) e.0, sym e.1)
 
 pub husk-begin-spec : {M : Type 1} → statement M
 husk-begin-spec = tie.close (tie.spec (λ c κs. search needs) (λ c κs. search needs) (λ c. search needs)

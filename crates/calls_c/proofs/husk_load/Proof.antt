@@ -1,11 +1,12 @@
 -- `calls_c::husk_load` meets its contract.
-use Rattle.calls_c.proofs.Reported.{outcome-reported}
+use mathlib.Core.Path.{sym, ap, _∙_}
+use Rattle.refusal.specs.Numbers.{Meaning}
 use borrow.Author.Needs.{needs}
 use Rattle.calls_c.proofs.husk_load.Statement.{statement}
 use Rattle.calls_c.proofs.husk_load.Tie as tie
 
 returns : tie.Need-returns
-returns c = outcome-reported c.number.ensures c.before.before.before.before.before.load.ensures
+returns c = let e = c.before.before.before.before.before.load.ensures in (c.number.ensures ∙ ap (λ (m : Meaning). m .refusal .number) e.0, sym e.1)
 
 pub husk-load-spec : {M : Type 1} → statement M
 husk-load-spec = tie.close (tie.spec (λ c κs. search needs) (λ c κs. search needs) (λ c. search needs)

@@ -1,11 +1,20 @@
 -- `calls_c::husk_profile_deviance` meets its contract.
-use Rattle.calls_c.proofs.Reported.{profile-reported}
+use mathlib.Core.Path.{sym, ap, _∙_}
+use Rattle.profile.specs.Deviance.{DevianceMeaning}
+use Rattle.calls_c.specs.Answers.{putFirst}
 use borrow.Author.Needs.{needs}
 use Rattle.calls_c.proofs.husk_profile_deviance.Statement.{statement}
 use Rattle.calls_c.proofs.husk_profile_deviance.Tie as tie
 
 returns : tie.Need-returns
-returns c = profile-reported c.before.before.before.before.before.before.before.before.before.before.before.before.before.before.before.args.value.now c.before.before.report.ensures c.before.before.before.before.before.before.before.before.profile-deviance.ensures
+returns c =
+    let v = c.before.before.before.before.before.before.before.before.before.before.before.before.before.before.before.args.value.now in
+    let t = c.before.before.report.ensures in
+    let e = c.before.before.before.before.before.before.before.before.profile-deviance.ensures in (
+      t.0 ∙ ap (λ (m : DevianceMeaning). m .refusal .number) e.0,
+      sym e.1,
+      t.1 ∙ ap (λ (m : DevianceMeaning). putFirst m.rust v) e.0,
+    )
 
 pub husk-profile-deviance-spec : {M : Type 1} → statement M
 husk-profile-deviance-spec = tie.close (tie.spec (λ c κs. search needs) (λ c κs. search needs) (λ c. search needs)

@@ -2,19 +2,18 @@
 use Prim.Native.Nat.{ℕ, _+_, _≤_, _<_}
 use mathlib.Core.Path.{_≡_, refl, sym, ap, subst, _∙_}
 use mathlib.Core.Bool.{Bool, true, false, cond, and-eq-true-iff}
-use mathlib.Core.List.{List, [], _++_, append-assoc, append-nil}
+use mathlib.Core.List.{List, [], _++_, append-assoc}
 use mathlib.Core.Option.{Option, none, some}
-use native.Mathlib.Nat.{zero-add}
 use native.Mathlib.Omega.{arith}
 use lib.Dec.{leb, eqb}
 use lib.ListN.{length, getD, take, drop, length-append, length-replicate}
-use lib.Seq.{take-at, drop-at, drop-length}
+use lib.Seq.{take-at, drop-at}
 use lib.Ieee.{Float}
 use borrow.Author.Tests.{leb-true, eqb-true}
 use Rattle.storage.specs.Runs.{tab}
 use Rattle.storage.specs.Part.{store}
 use Rattle.storage.proofs.Cells.{getD-tab}
-use Rattle.storage.proofs.Parts.{length-store, drop-store}
+use Rattle.storage.proofs.Parts.{length-store, drop-store, store-all}
 use Rattle.sheet.specs.declared.Starts.{Starts}
 use Rattle.sheet.specs.Sheet.{Sheet, accepted, sheetOf}
 use Rattle.sheet.specs.Sheet as Sheets
@@ -40,9 +39,9 @@ use Rattle.demand3.proofs.invariant.Invariant.{Site, Invariant, behind}
 use Rattle.heading_format.specs.Parts.{mostTargets, headingLength}
 
 -- ---- what an accepted load came to
-record Applied (sheet : Sheet) (h : List ℕ) (w : List Float) (o : Outcome) : Type 0 where
-  fine : faultNumber sheet ≡ 0
-  gate : firstRefusedPair sheet (layout sheet) (pairs (last sheet)) ≡ none
+pub record Applied (sheet : Sheet) (h : List ℕ) (w : List Float) (o : Outcome) : Type 0 where
+  pub fine : faultNumber sheet ≡ 0
+  pub gate : firstRefusedPair sheet (layout sheet) (pairs (last sheet)) ≡ none
   room : hasRoom (layout sheet) h w ≡ true
   left : o .left ≡ workspace (store 0 (headingOf sheet (layout sheet)) h) (store 0 (doublesOf sheet (layout sheet)) w)
 
@@ -71,7 +70,7 @@ module _ (sheet : Sheet) (h : List ℕ) (w : List Float) where
   found-fine true e a = sheet-opened (eqb-true (faultNumber sheet) 0 e) a
   found-fine false e a = absurd (let z : _≡_ {A = ℕ} 0 1 = cc in omega arith)
 
-  load-opened : (bytes : List ℕ) (starts : Starts) → sheetOf bytes ≡ accepted sheet starts → loadOf bytes h w .answer ≡ Accepted → Applied sheet h w (loadOf bytes h w)
+  pub load-opened : (bytes : List ℕ) (starts : Starts) → sheetOf bytes ≡ accepted sheet starts → loadOf bytes h w .answer ≡ Accepted → Applied sheet h w (loadOf bytes h w)
   unfolding loadOf
   load-opened bytes starts e a =
       subst (λ (p : Sheets.Outcome). come p .answer ≡ Accepted → Applied sheet h w (come p)) (sym e) (found-fine (eqb (faultNumber sheet) 0) refl) a
@@ -111,11 +110,6 @@ first-doubles sheet w =
     let rest : List Float = drop (0 + length (doublesOf sheet (layout sheet))) w in
     ap (take (loadedLength (layout sheet))) (append-assoc (loadedNumbers sheet (layout sheet)) (zeros (layout sheet)) rest)
     ∙ take-at (loadedNumbers sheet (layout sheet)) (zeros (layout sheet) ++ rest) (loadedLength (layout sheet)) (length-loaded sheet (layout sheet))
-
--- a list written over itself
-over-itself : (l : List ℕ) → store 0 l l ≡ l
-unfolding store
-over-itself l = ap (λ (x : List ℕ). l ++ x) (ap (λ (n : ℕ). drop n l) (zero-add (length l)) ∙ drop-length l) ∙ append-nil l
 
 -- what load writes stands by the opened book
 stored : (sheet : Sheet) (h : List ℕ) (w : List Float) → Site sheet h w
@@ -171,7 +165,7 @@ module _ (sheet : Sheet) (h : List ℕ) (w : List Float) (here : Site sheet h w)
   fresh-invariant =
       record {
         progress = idle (last sheet);
-        heading = sym (over-itself (headingOf sheet (layout sheet))) ∙ first-numbers sheet (headingOf sheet (layout sheet));
+        heading = sym (store-all (headingOf sheet (layout sheet)) (headingOf sheet (layout sheet)) refl) ∙ first-numbers sheet (headingOf sheet (layout sheet));
         stages = length-replicate {A = ℕ} mostTargets 0;
         valid-progress = idle-valid (last sheet) (is-valid (layout sheet) here.layout-valid .blocks .1);
         many = refl;

@@ -14,10 +14,10 @@ use Rattle.storage.specs.Shape.{sizeOf}
 use Rattle.storage.specs.Part.{part}
 use Rattle.storage.proofs.Parts.{length-part}
 use Rattle.step_order.specs.Steps.{Step, IsStep, row, col, isStep, forerunners}
-use Rattle.step_order.specs.Progress.{all, join, stepsLeft, done, advance, put, Ready, made, summed, moved, refusedNow, refusedIn}
+use Rattle.step_order.specs.Progress.{all, join, stepsLeft, done, put, Ready, made, summed, moved, refusedNow, refusedIn}
 use Rattle.step_order.proofs.Tables.{at, put-here, put-else, in-range}
 use Rattle.step_order.proofs.Invariant.{held-moved, held-same}
-use Rattle.step_order.proofs.Sets.{named-iff, represents-same, ready-after, represents-moved}
+use Rattle.step_order.proofs.Sets.{named-iff, ready-after}
 use Rattle.step_order.proofs.Refusal.{refused-same as seen-same}
 use Rattle.step_order.proofs.Left.{left-joins, left-represents}
 use Rattle.rules.specs.Arithmetic.{ieee}
@@ -37,7 +37,7 @@ use Rattle.workspace.specs.Answers.{Outcome}
 use Rattle.update.specs.Calls.{advanced, madeBy, sumBy, refusedBy, stepped, dropped, isUnderWay, stepOf, onPivot}
 use Rattle.book.specs.Book.{book, layout, last}
 use Rattle.book.specs.Values.{rulesHere, startHere}
-use Rattle.update.proofs.progress_laws.Moves.{stays-valid, length-advanced, stage-advanced, valid-advanced}
+use Rattle.update.proofs.progress_laws.Moves.{stays-valid, length-advanced, stage-advanced, represents-advanced, valid-advanced}
 use Rattle.demand3.proofs.frame.Step.{withBlock, with-length, with-own, with-other, with-sum, with-loaded, with-theta, with-behind}
 use Rattle.demand3.proofs.frame.Clear.{cleared-length, cleared-loaded, cleared-behind}
 use Rattle.demand3.proofs.same_rules.Same.{stateOf, Alike, made-same, sum-same, refused-same, made-length}
@@ -195,9 +195,7 @@ module _ (sheet : Sheet) (h : List ℕ) (w : List Float) (here : Site sheet h w)
               (moved (rulesHere sheet loaded theta) s (stateOf sheet loaded theta v u.progress)) (stateOf sheet loaded theta after-it (advanced u.progress s))
               (λ i j l m. (sym (stage-advanced (last sheet) few u.progress u.stages s n i j l m), same-block i j l m)) same-sum
               (held-moved (rulesHere sheet loaded theta) (last sheet) (startHere sheet loaded theta) (stateOf sheet loaded theta v u.progress) begun.held s n ready passes);
-          represents = represents-same (last sheet) (advance (stageOf u.progress) s) (stageOf (advanced u.progress s)) (join d s)
-              (λ i j l m. sym (stage-advanced (last sheet) few u.progress u.stages s n i j l m))
-              (represents-moved (last sheet) (stageOf u.progress) begun.held.most d begun.represents s n ready);
+          represents = represents-advanced (last sheet) few u.progress u.stages s n d begun.held.most begun.represents ready;
         }
 
     -- and the workspace stands as the page with the step in the set

@@ -1,5 +1,5 @@
 -- The rows of sparse entries count only in the columns of a sparse pair: two row functions that agree there make the same blocks, at one layout.
-use Prim.Native.Nat.{ℕ, zero, suc, _<_, _≤_}
+use Prim.Native.Nat.{ℕ, _<_, _≤_}
 use mathlib.Core.Path.{_≡_, refl, sym, ap, ap₂, _∙_, subst, fun-ext}
 use mathlib.Core.Bool.{Bool, true, false, not, _&&_, cond, and-eq-true-iff}
 use mathlib.Core.List.{List}
@@ -7,37 +7,22 @@ use native.Mathlib.Omega.{arith}
 use lib.Dec.{ltb, eqb}
 use lib.ListN.{getD}
 use lib.Ieee.{Float}
-use borrow.Author.Tests.{eqb-false, eq-eqb, ltb-true}
+use borrow.Author.Tests.{eqb-false, ltb-true}
 use Rattle.storage.specs.Shape.{Shape, packed, diagonal, columns, entries, hasCell, fill}
 use Rattle.storage.proofs.Cells.{tab-ext}
 use Rattle.storage.proofs.Blocks.{fill-entries}
-use Rattle.rules.specs.Arithmetic.{Arithmetic, ieee}
-use Rattle.rules.specs.Sums.{subtractFrom}
+use Rattle.rules.specs.Arithmetic.{ieee}
 use Rattle.rules.specs.Begin.{diagonalCell, crossCell, fixedCell}
 use Rattle.rules.specs.Steps.{subtractDense, subtractLast, subtractSparse, divide}
 use Rattle.rules.specs.Cholesky.{at, forward, logsOfFirst, logsOfLater}
+use Rattle.rules.proofs.Rows.{less-counts}
 use Rattle.layout.specs.declared.Layout.{Layout}
 use Rattle.layout.specs.Shapes.{pick, levels, factorKind, shape, loadedShape}
+use Rattle.layout.proofs.Rows.{pick-ext, shape-factor, cell-shape, cell-loaded}
 use Rattle.workspace.specs.Memory.{cellOf, sortedTheta}
 use Rattle.update.specs.Working.{pivotCount, solved, subtractOwn, subtracted, logged, scaled}
 
--- two choices by one test are equal where what is chosen is equal
-pick-ext : {A : Type 0} (b : Bool) (s s′ t t′ : A) → (b ≡ true → s ≡ s′) → (b ≡ false → t ≡ t′) → pick b s t ≡ pick b s′ t′
-pick-ext true s s′ t t′ p q = p refl
-pick-ext false s s′ t t′ p q = q refl
-
--- a difference of n products asks only which of those n count
-less-counts : (A : Arithmetic) (s : A .Num) (f g : ℕ → Bool) (a b : ℕ → A .Num) (n : ℕ) → ((x : ℕ) → x < n → f x ≡ g x) → subtractFrom A s f a b n ≡ subtractFrom A s g a b n
-unfolding subtractFrom
-less-counts A s f g a b zero h = refl
-less-counts A s f g a b (suc n) h =
-    ap₂ (λ (c : Bool) (v : A .Num). cond c (A.minus v (A.times (a n) (b n))) v) (h n (omega arith)) (less-counts A s f g a b n (λ x l. h x (omega arith)))
-
--- ---- two choices of a shape: they are read alike, filled alike and have the same cells where what is chosen does
-cell-pick : (b : Bool) (s s′ t t′ : Shape) (l : List Float) → cellOf s l ≡ cellOf s′ l → cellOf t l ≡ cellOf t′ l → cellOf (pick b s t) l ≡ cellOf (pick b s′ t′) l
-cell-pick true s s′ t t′ l p q = p
-cell-pick false s s′ t t′ l p q = q
-
+-- ---- two choices of a shape: they are filled alike and have the same cells where what is chosen does
 fill-pick : (b : Bool) (s s′ t t′ : Shape) (f : ℕ → ℕ → Float) → (b ≡ true → fill s f ≡ fill s′ f) → fill t f ≡ fill t′ f → fill (pick b s t) f ≡ fill (pick b s′ t′) f
 fill-pick true s s′ t t′ f p q = p refl
 fill-pick false s s′ t t′ f p q = q
@@ -81,20 +66,6 @@ abbrev pub someOf : Layout → (ℕ → ℕ) → List Float → ℕ → ℕ → 
 someOf y row b r x = hasCell (loadedShape y row 1 0) r x && not (ieee.null (cellOf (loadedShape y row 1 0) b r x))
 
 module _ (y : Layout) (row row′ : ℕ → ℕ) (agree : y .sparse ≡ true → (c : ℕ) → c < levels y 0 → row c ≡ row′ c) where
-  -- a factor's shape asks no rows
-  pub shape-factor : (j : ℕ) → shape y row j j ≡ shape y row′ j j
-  unfolding shape
-  shape-factor j = rw (eq-eqb j j refl) refl
-
-  -- where a cell of a working or a loaded block lies asks no rows either
-  pub cell-shape : (i j : ℕ) (l : List Float) → cellOf (shape y row i j) l ≡ cellOf (shape y row′ i j) l
-  unfolding shape
-  cell-shape i j l = cell-pick (eqb i y.k) _ _ _ _ l refl (cell-pick (eqb i j) _ _ _ _ l refl (cell-pick y.sparse _ _ _ _ l refl refl))
-
-  pub cell-loaded : (i j : ℕ) (l : List Float) → cellOf (loadedShape y row i j) l ≡ cellOf (loadedShape y row′ i j) l
-  unfolding loadedShape
-  cell-loaded i j l = cell-pick (eqb i j && ltb j y.k) _ _ _ _ l refl (cell-shape i j l)
-
   -- a sparse pair is filled alike
   fill-sparse : (f : ℕ → ℕ → Float) → y .sparse ≡ true → fill (entries (levels y 0) row) f ≡ fill (entries (levels y 0) row′) f
   fill-sparse f e =
@@ -124,14 +95,14 @@ module _ (y : Layout) (row row′ : ℕ → ℕ) (agree : y .sparse ≡ true →
   some-rows b =
       fun-ext
       (λ r. fun-ext
-      (λ x. ap₂ (λ (has : Bool) (X : ℕ → ℕ → Float). has && not (ieee.null (X r x))) (has-loaded 1 0 r x) (cell-loaded 1 0 b)))
+      (λ x. ap₂ (λ (has : Bool) (X : ℕ → ℕ → Float). has && not (ieee.null (X r x))) (has-loaded 1 0 r x) (cell-loaded y row row′ ieee.zero 1 0 b)))
 
   -- ---- T, the logarithms, S and begin
   -- T fills the target's shape and reads target and factor
   pub solved-rows : (i j : ℕ) (t f : List Float) → solved (shape y row i j) (shape y row j j) t f ≡ solved (shape y row′ i j) (shape y row′ j j) t f
   solved-rows i j t f =
-      ap (λ (d : Shape). solved (shape y row i j) d t f) (shape-factor j)
-      ∙ solved-shape (shape y row i j) (shape y row′ i j) (shape y row′ j j) t f (cell-shape i j t) (fill-shape i j)
+      ap (λ (d : Shape). solved (shape y row i j) d t f) (shape-factor y row row′ j)
+      ∙ solved-shape (shape y row i j) (shape y row′ i j) (shape y row′ j j) t f (cell-shape y row row′ ieee.zero i j t) (fill-shape i j)
 
   -- the logarithms are those of a factor
   pub logged-rows : (loaded loaded′ : ℕ → ℕ → Bool) (j : ℕ) (s : Float) (f : List Float) → logged y row loaded j s f ≡ logged y row′ loaded′ j s f
@@ -140,7 +111,7 @@ module _ (y : Layout) (row row′ : ℕ → ℕ) (agree : y .sparse ≡ true →
       ap
       (λ (d : Shape). pick (eqb j y.k) s
       (pick (eqb j 0) (logsOfFirst ieee s (λ r. cellOf d f r r) (pivotCount d)) (logsOfLater ieee s (λ r. cellOf d f r r) (pivotCount d))))
-      (shape-factor j)
+      (shape-factor y row row′ j)
 
   -- a sparse pair is multiplied only in S(2,1,0), over its columns
   formed-rows : (loaded : ℕ → ℕ → Bool) (i j h : ℕ) (T A B : ℕ → ℕ → Float) (v : ℕ → Float) → (y .sparse ≡ true → y .k ≡ 2) → h < j → j ≤ i → i ≤ y .k
@@ -172,9 +143,9 @@ module _ (y : Layout) (row row′ : ℕ → ℕ) (agree : y .sparse ≡ true →
       fill-shape i j (formed y row loaded i j h T A B v)
       ∙ ap (λ f. fill (shape y row′ i j) f)
       (formed-rows loaded i j h T A B v two l m n
-      ∙ ap (λ (X : ℕ → ℕ → Float). formed y row′ loaded i j h X A B v) (cell-shape i j t)
-      ∙ ap (λ (X : ℕ → ℕ → Float). formed y row′ loaded i j h T′ X B v) (cell-shape i h a)
-      ∙ ap (λ (X : ℕ → ℕ → Float). formed y row′ loaded i j h T′ A′ X v) (cell-shape j h b))
+      ∙ ap (λ (X : ℕ → ℕ → Float). formed y row′ loaded i j h X A B v) (cell-shape y row row′ ieee.zero i j t)
+      ∙ ap (λ (X : ℕ → ℕ → Float). formed y row′ loaded i j h T′ X B v) (cell-shape y row row′ ieee.zero i h a)
+      ∙ ap (λ (X : ℕ → ℕ → Float). formed y row′ loaded i j h T′ A′ X v) (cell-shape y row row′ ieee.zero j h b))
 
   -- begin asks nothing of what was loaded but the block itself
   pub scaled-rows : (loaded loaded′ : ℕ → ℕ → Bool) (theta : List Float) (i j : ℕ) (a : List Float) → scaled y row loaded theta i j a ≡ scaled y row′ loaded′ theta i j a
@@ -183,4 +154,4 @@ module _ (y : Layout) (row row′ : ℕ → ℕ) (agree : y .sparse ≡ true →
       let t = sortedTheta y theta in
       ap (pick (eqb j y.k) a)
       (fill-shape i j (begunCell y t i j (cellOf (loadedShape y row i j) a))
-      ∙ ap (λ (X : ℕ → ℕ → Float). fill (shape y row′ i j) (begunCell y t i j X)) (cell-loaded i j a))
+      ∙ ap (λ (X : ℕ → ℕ → Float). fill (shape y row′ i j) (begunCell y t i j X)) (cell-loaded y row row′ ieee.zero i j a))

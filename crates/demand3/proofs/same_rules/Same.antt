@@ -18,6 +18,7 @@ use Rattle.heading_format.specs.declared.Progress.{Progress}
 use Rattle.layout.specs.Shapes.{levels, shape, loadedShape, sizes, loadedSizes, loadedLength, loadedAt}
 use Rattle.heading_format.specs.Heading.{layoutOf, stageOf, entryRow}
 use Rattle.layout.proofs.Places.{size-working, size-loaded, loaded-inside}
+use Rattle.layout.proofs.Rows.{shape-factor}
 use Rattle.workspace.specs.Memory.{Workspace, loadedBlock, loadedSome, workingBlock, logSum, zeros}
 use Rattle.workspace.specs.Load.{headingOf}
 use Rattle.update.specs.Working.{factored, refusedRow, solved, subtracted, logged, scaled}
@@ -25,7 +26,7 @@ use Rattle.update.specs.Calls.{madeBy, sumBy, refusedBy}
 use Rattle.book.specs.Book.{layout, last}
 use Rattle.book.specs.Values.{rulesHere, startHere}
 use Rattle.update.proofs.Lengths.{length-solved}
-use Rattle.demand3.proofs.same_rules.Rows.{someOf, shape-factor, some-rows, solved-rows, logged-rows, subtracted-rows, scaled-rows}
+use Rattle.demand3.proofs.same_rules.Rows.{someOf, some-rows, solved-rows, logged-rows, subtracted-rows, scaled-rows}
 
 -- ---- what a rule makes is as long as its shape says, if the block was
 
@@ -90,7 +91,8 @@ module _ (sheet : Sheet) where
         ∙ part-left loaded rest off n fits ∙ sym (part-left loaded (zeros y) off n fits)
 
     -- so is a loaded block
-    loaded-same : (i j : ℕ) → j ≤ i → i ≤ last sheet → loadedBlock h w i j ≡ loadedBlock h′ w′ i j
+    pub loaded-same : (i j : ℕ) → j ≤ i → i ≤ last sheet
+        → loadedBlock (v .heading) (v .doubles) i j ≡ loadedBlock (headingOf sheet (layout sheet)) (loaded ++ zeros (layout sheet)) i j
     loaded-same i j l m =
         at-layout (λ x row. part (loadedAt x i j) (sizeOf (loadedShape x row i j)) w) (λ x row. part (loadedAt x i j) (sizeOf (loadedShape x row i j)) w′)
         (ap (λ (n : ℕ). part (loadedAt y i j) n w) (size-loaded y (entryRow h) i j) ∙ part-loaded (loadedAt y i j) (loadedSizes y i j) (loaded-inside y i j l m)
@@ -110,7 +112,7 @@ module _ (sheet : Sheet) where
     factored-same : (j : ℕ) (b : List Float) → factored (shape (layoutOf h) (entryRow h) j j) b ≡ factored (shape (layoutOf h′) (entryRow h′) j j) b
     factored-same j b =
         at-layout (λ x row. factored (shape x row j j) b) (λ x row. factored (shape x row j j) b)
-        (ap (λ (d : Shape). factored d b) (shape-factor y (entryRow h) (entryRow h′) a.same-rows j))
+        (ap (λ (d : Shape). factored d b) (shape-factor y (entryRow h) (entryRow h′) j))
 
     -- a step makes the same block by the rules of v as by those of a fresh workspace
     pub made-same : (s : Step) → IsStep (last sheet) s → madeBy (v .heading) (v .doubles) s ≡ made (rulesHere sheet loaded theta) s (stateOf loaded theta v g)
@@ -147,7 +149,7 @@ module _ (sheet : Sheet) where
     refused-same (C j) n =
         let b = workingBlock h w j j in
         at-layout (λ z row. refusedRow (shape z row j j) b) (λ z row. refusedRow (shape z row j j) b)
-        (ap (λ (d : Shape). refusedRow d b) (shape-factor y (entryRow h) (entryRow h′) a.same-rows j))
+        (ap (λ (d : Shape). refusedRow d b) (shape-factor y (entryRow h) (entryRow h′) j))
     refused-same (T i j) n = refl
 
     -- what a step makes is as long as its target, where the target's own block is

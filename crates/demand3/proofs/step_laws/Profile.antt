@@ -29,7 +29,9 @@ use Rattle.workspace.specs.Answers.{Outcome, firstInfinite, unlessAt}
 use Rattle.workspace.specs.Load.{headingOf}
 use Rattle.update.specs.Calls.{beginOf, runOf}
 use Rattle.profile.specs.declared.Deviance.{Deviance}
-use Rattle.profile.specs.declared.Deviance.the-variants.{Value, Pivot, NoScale, Refused}
+use Rattle.profile.specs.declared.Deviance.the-variants.{Value, Pivot, NoScale}
+use Rattle.profile.specs.declared.DevianceAnswer.{DevianceAnswer}
+use Rattle.profile.specs.declared.DevianceAnswer.the-variants.{Given, Refused}
 use Rattle.profile.specs.Deviance.{freedom, devianceValue, Profiled, afterSteps, afterBegin, profileOf}
 use Rattle.book.specs.Calls.{Reply, plain, deviance, profileDeviance}
 use Rattle.book.specs.Book.{Book, book, Entry, entry, nothing, layout, last, fresh, rust, afterAll, withDone, withTheta}
@@ -76,9 +78,9 @@ set-by sheet (some p) = refl
 
 module _ (sheet : Sheet) (loaded theta : List Float) (reml : Bool) where
   -- what the call answers, by that pivot
-  abbrev answerBy : Option (ℕ × ℕ) → Deviance
-  answerBy none = valueBy (layout sheet) (finalValue sheet loaded theta (last sheet) (last sheet)) (logsAfter sheet loaded theta (suc (last sheet))) reml
-  answerBy (some p) = Pivot p.0 p.1
+  abbrev answerBy : Option (ℕ × ℕ) → DevianceAnswer
+  answerBy none = Given (valueBy (layout sheet) (finalValue sheet loaded theta (last sheet) (last sheet)) (logsAfter sheet loaded theta (suc (last sheet))) reml)
+  answerBy (some p) = Given (Pivot p.0 p.1)
 
 -- once begin is accepted, the steps decide
 after-begin : (o : Outcome) (k : ℕ) (reml : Bool) → o .answer ≡ Accepted
@@ -105,11 +107,12 @@ module _ (sheet : Sheet) (h : List ℕ) (w : List Float) (here : Site sheet h w)
   through-ends t =
       let all : Step → Bool = joinAll nothing (rustOrder (last sheet)) in
       let zero-left = rust-complete (last sheet) .1 in (
-        value-of steps.left.heading steps.left.doubles reml (layout sheet) (finalValue sheet b.loaded theta (last sheet) (last sheet))
+        ap Given
+            (value-of steps.left.heading steps.left.doubles reml (layout sheet) (finalValue sheet b.loaded theta (last sheet) (last sheet))
             (logsAfter sheet b.loaded theta (suc (last sheet)))
             (layout-of sheet h w here (book b.loaded theta (some all)) steps.left t.stands)
             (finished-factor sheet h w b.loaded theta all steps.left t.stands zero-left (last sheet) (last sheet) (omega arith) (omega arith))
-            (finished-sum sheet h w b.loaded theta all steps.left t.stands zero-left),
+            (finished-sum sheet h w b.loaded theta all steps.left t.stands zero-left)),
         finished-named sheet h w b.loaded theta all steps.left t.stands zero-left,
       )
 

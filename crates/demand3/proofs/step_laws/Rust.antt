@@ -83,7 +83,8 @@ module _ (sheet : Sheet) (h : List ℕ) (w : List Float) (here : Site sheet h w)
   -- where it refuses none: the factor and the sum
   module _ (none-refused : refusedPivot sheet loaded theta ≡ none) where
     -- all steps were done
-    through : Invariant sheet h′ w′ (book loaded theta (some (joinAll nothing (rustOrder (last sheet))))) (rust sheet loaded theta .left)
+    pub through : Invariant sheet (headingOf sheet (layout sheet)) (loaded ++ zeros (layout sheet)) (book loaded theta (some (joinAll nothing (rustOrder (last sheet)))))
+        (rust sheet loaded theta .left)
     through = ⊎-elim (λ t. t .stands) (λ t. absurd (let z : _≡_ {A = ℕ} 0 1 = cc t.pivot in omega arith)) ends
 
     pub rust-factor : (i j : ℕ) → j ≤ i → i ≤ last sheet

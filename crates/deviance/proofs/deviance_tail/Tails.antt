@@ -28,7 +28,8 @@ use Rattle.refusal.specs.declared.Refusal.{Refusal}
 use Rattle.refusal.specs.Numbers.{refusal}
 use Rattle.workspace.specs.Memory.{cellOf, workingBlock}
 use Rattle.profile.specs.declared.Deviance.{Deviance}
-use Rattle.profile.specs.declared.Deviance.the-variants.{Value, NoScale, Refused}
+use Rattle.profile.specs.declared.Deviance.the-variants.{Value, NoScale}
+use Rattle.profile.specs.declared.DevianceAnswer.the-variants.{Given, Refused}
 use Rattle.profile.specs.Deviance.{isFinished, freedom, devianceValue, devianceFromFactor}
 use Rattle.deviance.specs.deviance_tail.Tail.{pivotOf, logDeterminantOf, devianceWith}
 use Rattle.storage.proofs.Cells.{any-default}
@@ -120,10 +121,11 @@ module _ (h : List ℕ) (w : List Float) (reml : Bool) where
     unfolding devianceFromFactor
     not-finished e f q = rw (ok, ← is-b, e, q) refl
 
-    pub finished : b ≡ true → (y : Layout) (logdet : Float) (r : Deviance) → y ≡ layoutOf h → logdet ≡ logDeterminantOf y w → r ≡ devianceWith y w logdet reml → r ≡ devianceFromFactor h w reml
+    pub finished : b ≡ true → (y : Layout) (logdet : Float) (r : Deviance) → y ≡ layoutOf h → logdet ≡ logDeterminantOf y w → r ≡ devianceWith y w logdet reml → Given r ≡ devianceFromFactor h w reml
     unfolding devianceFromFactor
     finished e y logdet r is-y is-l is-r =
-        is-r ∙ ap (λ (x : Float). devianceWith y w x reml) is-l ∙ ap (λ (z : Layout). devianceWith z w (logDeterminantOf z w) reml) is-y ∙ tail-value h w reml ∙ rw (ok, ← is-b, e) refl
+        ap Given (is-r ∙ ap (λ (x : Float). devianceWith y w x reml) is-l ∙ ap (λ (z : Layout). devianceWith z w (logDeterminantOf z w) reml) is-y ∙ tail-value h w reml)
+        ∙ rw (ok, ← is-b, e) refl
 
   -- what the calls on a workspace need
   pub workspace-fits : validHeading h (length w) ≡ true → (y : Layout) → y ≡ layoutOf h → Room y (length w)

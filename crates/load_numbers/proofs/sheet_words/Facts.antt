@@ -21,9 +21,9 @@ use Rattle.layout.specs.Blocks.{sum}
 use Rattle.layout.specs.Shapes.{levels, pairs}
 use Rattle.layout.proofs.Sums.{sum-same}
 use Rattle.heading_format.specs.Heading.{sheetLevels, validLayout}
-use Rattle.heading_format.proofs.Valid.{both, every-at}
-use Rattle.workspace.specs.Loaded.{rowStart, sheetRow, inBlock, countOf, rowOf, ofColumn, oneEach, firstRefusedPair, sheetM, sortedLayout, layoutOfSheet, entryRowIn}
-use Rattle.workspace.proofs.Valid.{no-refusal, sum-levels, allowed-pairs, sheet-levels, order-test, total, level-range, pair-valid, sparse-is, diagonal-is, valid-of, sparse-columns}
+use Rattle.heading_format.proofs.Valid.{every-at}
+use Rattle.workspace.specs.Loaded.{rowStart, sheetRow, inBlock, countOf, rowOf, ofColumn, firstRefusedPair, sheetM, sortedLayout, layoutOfSheet, entryRowIn}
+use Rattle.workspace.proofs.Valid.{no-refusal, sum-levels, allowed-pairs, sheet-levels, shaped-valid, sparse-columns}
 use Rattle.block_places.proofs.sheet_rows.Rows.{in-block}
 use Rattle.load_numbers.proofs.sheet_words.Lands.{Sole}
 use Rattle.load_numbers.proofs.sheet_words.Positions.{each-map, true-false, none-pass}
@@ -73,15 +73,9 @@ module _ (s : List ℕ) (sheet : Sheet) (z : Starts) (read : readSheet s ≡ acc
   valid-read : validLayout (layoutOfSheet sheet) ≡ true
   unfolding layoutOfSheet sortedLayout
   valid-read =
-      let y : Layout = layoutOfSheet sheet in
       let h = read-whole s sheet z read .shape in
-      let k = h.counts.k in
       let r = no-refusal sheet fine in
-      valid-of (layoutOfSheet sheet) h.counts.n h.counts.p (r.0, k) (level-range sheet k h.blocks h.blocks-length) (order-test sheet k)
-      (r.1 ∙ sym (total sheet k h.blocks-length))
-      (λ d. eqb-true y.k 2 (and-eq-true-iff (eqb y.k 2) (oneEach sheet y 1 0) .0 (sym (diagonal-is sheet) ∙ d) .0))
-      (λ t. let u = sparse-columns sheet t in (diagonal-is sheet ∙ both (eqb y.k 2) (oneEach sheet y 1 0) (eq-eqb y.k 2 u.0) u.1, u.0))
-      (λ i j a b. pair-valid sheet (layoutOfSheet sheet) (sparse-is sheet) (diagonal-is sheet) i j a b (allowed-pairs sheet (layoutOfSheet sheet) y.k gate i j a b))
+      shaped-valid sheet h.counts.n h.counts.p (r.0, h.counts.k) h.blocks h.blocks-length r.1 (allowed-pairs sheet (layoutOfSheet sheet) sheet.counts.k gate)
 
   rows-read : sum (sheetLevels (layoutOfSheet sheet) (sheet .counts .k)) (sheet .counts .k) ≡ sheet .counts .q
   rows-read =

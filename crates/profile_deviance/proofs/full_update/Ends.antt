@@ -20,14 +20,16 @@ use Rattle.workspace.specs.Memory.{Workspace}
 use Rattle.workspace.specs.Answers.{Outcome, workspace}
 use Rattle.update.specs.Calls.{beginOf, runOf}
 use Rattle.profile.specs.declared.Deviance.{Deviance}
-use Rattle.profile.specs.declared.Deviance.the-variants.{Pivot as Unfactored, Refused as Unbegun}
+use Rattle.profile.specs.declared.Deviance.the-variants.{Pivot as Unfactored}
+use Rattle.profile.specs.declared.DevianceAnswer.{DevianceAnswer}
+use Rattle.profile.specs.declared.DevianceAnswer.the-variants.{Given, Refused as Unbegun}
 use Rattle.profile.specs.Deviance.{Profiled, afterSteps, afterBegin, devianceValue, profileOf, logDeterminant}
 use Rattle.deviance.specs.deviance_tail.Tail.{logDeterminantOf, devianceWith}
 use Rattle.deviance.proofs.deviance_tail.Tails.{tail-value}
 use Rattle.profile_deviance.proofs.full_update.Updated as Declaration
 use Rattle.profile_deviance.specs.declared.full_update.Updated.{Updated}
 use Rattle.profile_deviance.specs.declared.full_update.Updated.the-variants.{Value, Pivot, Refused}
-use Rattle.profile_deviance.specs.full_update.Updating.{Updating, afterRun, factored, afterBegun, updateOf, withoutValue}
+use Rattle.profile_deviance.specs.full_update.Updating.{Updating, afterRun, factored, afterBegun, updateOf, isValue, Without}
 use Rattle.profile_deviance.specs.ready_step.ReadyInTurn.{ReadyInTurn, Ran}
 use Rattle.profile_deviance.proofs.ready_step.Turns.{just-begun}
 use Rattle.profile_deviance.proofs.ready_step.Runs.{outcome}
@@ -38,13 +40,22 @@ use Rattle.heading_format.specs.Fits.{Room}
 abbrev updating : Updated → Workspace → Updating
 updating u v = record { answer = u; left = v }
 
-abbrev profiled : Deviance → Workspace → Profiled
+abbrev profiled : DevianceAnswer → Workspace → Profiled
 profiled d v = record { answer = d; left = v }
 
-abbrev isValue : Updated → Bool
-isValue (Value x) = true
-isValue (Pivot j r) = false
-isValue (Refused r) = false
+-- the cases of an update that the `else` of its value is for
+pub not-value : (u : Updated) → (tagOf Declaration.the-type u ≡ 1) ⊎ (tagOf Declaration.the-type u ≡ 2) → isValue u ≡ false
+not-value (Value x) (inl t) = absurd (omega arith)
+not-value (Value x) (inr t) = absurd (omega arith)
+not-value (Pivot j r) t = refl
+not-value (Refused r) t = refl
+
+-- the two answers to them
+pub without-pivot : (u : Updated) (j r : ℕ) → u ≡ Pivot j r → Without u (Given (Unfactored j r))
+without-pivot u j r e = subst (λ (x : Updated). Without x (Given (Unfactored j r))) (sym e) refl
+
+pub without-begin : (u : Updated) (r : Refusal) → u ≡ Refused r → Without u (Unbegun r)
+without-begin u r e = subst (λ (x : Updated). Without x (Unbegun r)) (sym e) refl
 
 -- ---- the Rust's order
 
@@ -102,8 +113,8 @@ module _ (h : List ℕ) (w theta : List Float) (a : Answer) (h′ : List ℕ) (w
 
 -- the deviance by what the update came to
 abbrev onUpdate : Updated → Updating → Bool → Profiled
-onUpdate (Value x) o reml = profiled (devianceValue o.left.heading o.left.doubles reml) o.left
-onUpdate (Pivot j r) o reml = profiled (Unfactored j r) o.left
+onUpdate (Value x) o reml = profiled (Given (devianceValue o.left.heading o.left.doubles reml)) o.left
+onUpdate (Pivot j r) o reml = profiled (Given (Unfactored j r)) o.left
 onUpdate (Refused r) o reml = profiled (Unbegun r) o.left
 
 module _ (h : List ℕ) (w theta : List Float) where
@@ -148,14 +159,13 @@ module _ (h : List ℕ) (w theta : List Float) where
 
   module _ (reml : Bool) (u : Updated) (h′ : List ℕ) (w′ : List Float) (is : updating u (workspace h′ w′) ≡ updateOf h w theta) where
     -- a refused pivot, or a refusal of begin
-    pub no-value : (tagOf Declaration.the-type u ≡ 1) ⊎ (tagOf Declaration.the-type u ≡ 2) → (d : Deviance) → d ≡ withoutValue u → profiled d (workspace h′ w′) ≡ profileOf h w theta reml
-    no-value t d q = ap (λ (z : Deviance). profiled z (workspace h′ w′)) q ∙ by u t ∙ ap (λ (o : Updating). onUpdate o.answer o reml) is ∙ from-update reml
+    pub no-value : (d : DevianceAnswer) → Without u d → profiled d (workspace h′ w′) ≡ profileOf h w theta reml
+    no-value d q = by u q ∙ ap (λ (o : Updating). onUpdate o.answer o reml) is ∙ from-update reml
       where
-        by : (u : Updated) → (tagOf Declaration.the-type u ≡ 1) ⊎ (tagOf Declaration.the-type u ≡ 2) → profiled (withoutValue u) (workspace h′ w′) ≡ onUpdate u (updating u (workspace h′ w′)) reml
-        by (Value x) (inl t) = absurd (omega arith)
-        by (Value x) (inr t) = absurd (omega arith)
-        by (Pivot j r) t = refl
-        by (Refused r) t = refl
+        by : (u : Updated) → Without u d → profiled d (workspace h′ w′) ≡ onUpdate u (updating u (workspace h′ w′)) reml
+        by (Value x) q = absurd q
+        by (Pivot j r) q = ap (λ (z : DevianceAnswer). profiled z (workspace h′ w′)) q
+        by (Refused r) q = ap (λ (z : DevianceAnswer). profiled z (workspace h′ w′)) q
 
     module _ (x : Float) (e : u ≡ Value x) where
       facts : (validHeading h (length w) ≡ true) × (layoutOf h′ ≡ layoutOf h) × (x ≡ logDeterminant h′ w′)
@@ -168,8 +178,8 @@ module _ (h : List ℕ) (w theta : List Float) where
       value-ready p q y is-y = let k = fits h (length w) facts.0 in (rw p k.long, record { valid = rw (is-y, facts.1) k.valid; room = rw (is-y, facts.1, q) k.room })
 
       -- the value goes on to the tail
-      pub value-done : (y : Layout) → y ≡ layoutOf h′ → (d : Deviance) → d ≡ devianceWith y w′ x reml → profiled d (workspace h′ w′) ≡ profileOf h w theta reml
+      pub value-done : (y : Layout) → y ≡ layoutOf h′ → (d : Deviance) → d ≡ devianceWith y w′ x reml → profiled (Given d) (workspace h′ w′) ≡ profileOf h w theta reml
       value-done y is-y d q =
-          ap (λ (z : Deviance). profiled z (workspace h′ w′))
+          ap (λ (z : Deviance). profiled (Given z) (workspace h′ w′))
           (q ∙ ap (λ (z : Layout). devianceWith z w′ x reml) is-y ∙ ap (λ (z : Float). devianceWith (layoutOf h′) w′ z reml) facts.2 ∙ tail-value h′ w′ reml)
           ∙ ap (λ (b : Updated). onUpdate b (updating b (workspace h′ w′)) reml) (sym e) ∙ ap (λ (o : Updating). onUpdate o.answer o reml) is ∙ from-update reml

@@ -1,26 +1,24 @@
 -- A step whose turn it is: it is ready, and behind it the next one is.
-use Prim.Native.Nat.{ℕ, suc, _+_, _≤_}
+use Prim.Native.Nat.{ℕ, _+_, _≤_}
 use mathlib.Core.Path.{_≡_, refl, sym, ap, _∙_}
-use mathlib.Core.Bool.{Bool, true, false, _&&_, cond, and-eq-true-iff, true≢false}
+use mathlib.Core.Bool.{Bool, true, false, true≢false}
 use mathlib.Core.List.{List, [], _∷_, _++_}
 use mathlib.Core.Option.{Option, none, some}
 use native.Mathlib.Omega.{arith}
-use borrow.Author.Tests.{eqb-true}
-use lib.Dec.{leb, eqb}
+use lib.Dec.{eqb}
 use lib.ListN.{length}
 use lib.Ieee.{Float}
 use Rattle.storage.specs.Runs.{start, triangle}
 use Rattle.storage.proofs.Parts.{length-part}
 use Rattle.step_order.specs.Steps.{Step, IsStep, rustOrder}
-use Rattle.step_order.specs.Progress.{join, stepsLeft, Order, done, advance, Represents, Ready}
-use Rattle.step_order.proofs.Sets.{named-iff, ready-after, represents-begun, represents-moved, represents-same}
+use Rattle.step_order.specs.Progress.{join, Order, done, Represents, Ready}
+use Rattle.step_order.proofs.Sets.{named-iff, ready-after, represents-begun, represents-same}
 use Rattle.step_order.proofs.Left.{left-moved}
 use Rattle.step_order.proofs.Next.{rust-order}
 use Rattle.layout.specs.declared.Layout.{Layout}
 use Rattle.heading_format.specs.declared.Progress.{Progress}
-use Rattle.heading_format.specs.declared.State.{State}
-use Rattle.heading_format.specs.declared.State.the-variants.{Idle, UnderWay, Finished}
-use Rattle.heading_format.specs.Heading.{layoutOf, progressOf, stageOf, every, forerunnersDone, validState, validProgress, underWay, validHeading}
+use Rattle.heading_format.specs.declared.State.the-variants.{Idle, UnderWay}
+use Rattle.heading_format.specs.Heading.{layoutOf, progressOf, stageOf, underWay, validHeading}
 use Rattle.heading_format.proofs.Valid.{is-valid}
 use Rattle.heading_format.proofs.Heading.{under-way-valid}
 use Rattle.heading_format.specs.Fits.{Fits}
@@ -29,34 +27,10 @@ use Rattle.workspace.specs.Memory.{Workspace, headingWith}
 use Rattle.workspace.specs.Answers.{Outcome}
 use Rattle.update.specs.Calls.{advanced, refusedBy, stepped, onPivot, stepOf}
 use Rattle.update.proofs.progress_laws.Kept.{layout-kept, progress-read, valid-heading-with}
-use Rattle.update.proofs.progress_laws.Moves.{stays-valid, length-advanced, stage-advanced, valid-advanced}
+use Rattle.update.proofs.progress_laws.Moves.{stays-valid, state-law, under-way, isIdle, never-idle, length-advanced, represents-advanced, valid-advanced}
 use Rattle.profile_deviance.specs.ready_step.ReadyInTurn.{isRefused, ReadyInTurn}
 use Rattle.storage.proofs.Cells.{default-at}
 use Rattle.heading_format.specs.Parts.{stagesAt, mostTargets, headingLength}
-
--- the state of a valid progress goes with the steps left
-state-law : (k : ℕ) (g : Progress) → validProgress k g ≡ true → validState (g .state) (g .left) (length (rustOrder k)) ≡ true
-unfolding validProgress
-state-law k g e =
-    and-eq-true-iff
-    (every (λ i. every (λ j. leb (stageOf g i j) (suc j)) (suc i)) (suc k) && eqb g.left (stepsLeft k (done (stageOf g))) && forerunnersDone (stageOf g) (rustOrder k))
-    (validState g.state g.left (length (rustOrder k))) .0 e .1
-
--- with a step left and an update begun, it is under way
-under-way : (s : State) (left every-step : ℕ) → (s ≡ Idle → ⊥) → validState s left every-step ≡ true → 1 ≤ left → s ≡ UnderWay
-under-way Idle left every-step b e h = absurd (b refl)
-under-way UnderWay left every-step b e h = refl
-under-way Finished left every-step b e h = let z : left ≡ 0 = eqb-true left 0 e in absurd (omega arith)
-
--- after a step it is not none
-abbrev isIdle : State → Bool
-isIdle Idle = true
-isIdle UnderWay = false
-isIdle Finished = false
-
-never-idle : (b : Bool) → cond b Finished UnderWay ≡ Idle → ⊥
-never-idle true e = true≢false (ap isIdle (sym e))
-never-idle false e = true≢false (ap isIdle (sym e))
 
 stages-many : (h : List ℕ) → headingLength ≤ length h → length (progressOf h .stages) ≡ mostTargets
 unfolding progressOf
@@ -115,8 +89,7 @@ module _ (v : Workspace) (s : Step) (l : List Step) (u : ReadyInTurn v (s ∷ l)
       known v′ l (layoutOf h) (advanced g s) (ap layoutOf e ∙ layout-kept h fit.long (advanced g s)) (ap progressOf e ∙ progress-read h fit.long (advanced g s) more)
       (rw (e, q) (valid-heading-with h (length w) u.valid (advanced g s) more (valid-advanced k few g many s n fit.progress going ready)))
       (never-idle (eqb g.left 1)) (join u.set s)
-      (represents-same k (advance (stageOf g) s) (stageOf (advanced g s)) (join u.set s) (λ i j a b. sym (stage-advanced k few g many s n i j a b))
-      (represents-moved k (stageOf g) (stays-valid k g fit.progress .most) u.set u.stands s n ready))
+      (represents-advanced k few g many s n u.set (stays-valid k g fit.progress .most) u.stands ready)
       u.order.3
 
   pub step-next : (o : Outcome) → o ≡ onPivot h w (refusedBy h w s) s → length (o .left .doubles) ≡ length w → isRefused (o .answer) ≡ false → ReadyInTurn (o .left) l

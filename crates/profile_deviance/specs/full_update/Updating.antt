@@ -1,6 +1,8 @@
 -- What an update comes to (document 01, Record 5: begin, then the Rust's order to its end or its refused pivot): the log determinant, the refused pivot's
 -- block and row, or a refusal of begin; and the workspace that it leaves.
 use Prim.Native.Nat.{ℕ}
+use mathlib.Core.Path.{_≡_}
+use mathlib.Core.Bool.{Bool, true, false}
 use mathlib.Core.List.{List}
 use lib.Ieee.{Float}
 use Rattle.step_order.specs.Steps.{rustOrder}
@@ -10,8 +12,9 @@ use Rattle.heading_format.specs.Heading.{layoutOf}
 use Rattle.workspace.specs.Memory.{Workspace}
 use Rattle.workspace.specs.Answers.{Outcome}
 use Rattle.update.specs.Calls.{beginOf, runOf}
-use Rattle.profile.specs.declared.Deviance.{Deviance}
-use Rattle.profile.specs.declared.Deviance.the-variants.{NoScale, Pivot as Unfactored, Refused as Unbegun}
+use Rattle.profile.specs.declared.Deviance.the-variants.{Pivot as Unfactored}
+use Rattle.profile.specs.declared.DevianceAnswer.{DevianceAnswer}
+use Rattle.profile.specs.declared.DevianceAnswer.the-variants.{Given, Refused as Unbegun}
 use Rattle.profile.specs.Deviance.{logDeterminant}
 use Rattle.profile_deviance.specs.declared.full_update.Updated.{Updated}
 use Rattle.profile_deviance.specs.declared.full_update.Updated.the-variants.{Value, Pivot, Refused}
@@ -40,8 +43,14 @@ unfoldable pub updateOf : List ℕ → List Float → List Float → Updating
 unfolding beginOf factored
 updateOf h w theta = let o = beginOf h w theta in afterBegun (o .answer) o
 
--- the deviance of an update that has no log determinant
-abbrev pub withoutValue : Updated → Deviance
-withoutValue (Value v) = NoScale
-withoutValue (Pivot j r) = Unfactored j r
-withoutValue (Refused r) = Unbegun r
+-- it has a log determinant
+abbrev pub isValue : Updated → Bool
+isValue (Value v) = true
+isValue (Pivot j r) = false
+isValue (Refused r) = false
+
+-- the answer to an update that has none
+abbrev pub Without : Updated → DevianceAnswer → Type 0
+Without (Value v) a = ⊥
+Without (Pivot j r) a = a ≡ Given (Unfactored j r)
+Without (Refused r) a = a ≡ Unbegun r

@@ -1,7 +1,7 @@
 -- The turns of a block of a solve, forward over the blocks before it and backward over those behind it.
 use Prim.Native.Nat.{ℕ, zero, suc, _+_, _-_, _<_, _≤_}
 use mathlib.Core.Path.{_≡_, refl, sym, ap, ap₂, _∙_}
-use mathlib.Core.Bool.{Bool, true, false}
+use mathlib.Core.Bool.{true}
 use mathlib.Core.List.{List}
 use native.Mathlib.Numerals.{add-one}
 use native.Mathlib.Omega.{arith}
@@ -11,7 +11,7 @@ use lib.Ieee.{Float}
 use Rattle.rules.specs.Arithmetic.{ieee}
 use Rattle.rules.specs.Cholesky.{at}
 use Rattle.layout.specs.declared.Layout.{Layout}
-use Rattle.layout.specs.Shapes.{pick}
+use Rattle.layout.proofs.Rows.{pick-at}
 use Rattle.heading_format.specs.Heading.{validLayout, layoutOf}
 use Rattle.workspace.specs.Memory.{workingBlock}
 use Rattle.profile.specs.Solves.{blockIn, subtractForward, subtractFirst, subtractBackward, subtractLater}
@@ -20,17 +20,13 @@ use Rattle.solution_vectors.proofs.Vectors.{block-in}
 use Rattle.solution_vectors.proofs.solve_laws.Within.{factor-at, forward-inside, backward-inside}
 use Rattle.solution_vectors.proofs.solve_laws.Turns.{Turning, turning-none, turning-other, turning-more, turning-solve}
 
--- either of two rules that make a row of that row alone
-picked : (b : Bool) (f g f′ g′ : ℕ → Float) (r : ℕ) → f r ≡ f′ r → g r ≡ g′ r → pick b f g r ≡ pick b f′ g′ r
-picked true f g f′ g′ r p q = p
-picked false f g f′ g′ r p q = q
-
 module _ (h : List ℕ) (w : List Float) where
+  -- either rule makes a row of that row alone
   forward-local : (i j : ℕ) (z : List Float) (f f′ : ℕ → Float) (r : ℕ) → f r ≡ f′ r → subtractForward h w i j z f r ≡ subtractForward h w i j z f′ r
-  forward-local i j z f f′ r e = picked (layoutOf h .sparse) _ _ _ _ r (rw e) (rw e)
+  forward-local i j z f f′ r e = pick-at (layoutOf h .sparse) _ _ _ _ r (λ q. rw e) (λ q. rw e)
 
   backward-local : (j i : ℕ) (z : List Float) (f f′ : ℕ → Float) (r : ℕ) → f r ≡ f′ r → subtractBackward h w j i z f r ≡ subtractBackward h w j i z f′ r
-  backward-local j i z f f′ r e = picked (layoutOf h .sparse) _ _ _ _ r (rw e) (rw e)
+  backward-local j i z f f′ r e = pick-at (layoutOf h .sparse) _ _ _ _ r (λ q. rw e) (λ q. rw e)
 
   -- only the blocks before count
   pub first-ext : (i : ℕ) (z z′ : List (List Float)) (f : ℕ → Float) (n : ℕ) → ((j : ℕ) → j < n → blockIn z j ≡ blockIn z′ j)

@@ -1,4 +1,5 @@
 -- `step::step`: 20, or a workspace.
+use Rattle.workspace.proofs.Meaning.{outcome-means}
 use mathlib.Core.Path.{sym, _∙_}
 use Rattle.update.specs.Names.{stepOfName}
 use Rattle.step.proofs.Turns.{not-valid-heading}
@@ -11,8 +12,8 @@ step-valid-requires c κs = sym c.before.before.before.is-valid-heading.ensures 
 
 returns-2 : tie.Need-returns-2
 returns-2 c = let s = c.before.before.before.before.before in let a = s.args in
-    not-valid-heading a.heading.now a.doubles.now (stepOfName a.name) (sym c.before.is-valid-heading.ensures ∙ c.if1.left)
+    outcome-means _ _ _ (not-valid-heading a.heading.now a.doubles.now (stepOfName a.name) (sym c.before.is-valid-heading.ensures ∙ c.if1.left))
 
 pub step-spec : {M : Type 1} → statement M
 step-spec = tie.close (tie.spec (λ c κs. search needs) step-valid-requires (λ c. search needs) (λ c. search needs)
-    (λ c. search needs) (λ c. search needs) returns-2)
+    (λ c. outcome-means _ _ _ c.before.before.before.before.step-valid.ensures) (λ c. search needs) returns-2)

@@ -22,12 +22,12 @@ use Rattle.profile.specs.Solves.{sparseValue}
 use Rattle.block_places.specs.Working.{working}
 use Rattle.block_places.specs.block_kinds.Rows.{rowsOf}
 use Rattle.block_places.proofs.Placing.{is-columns, is-entries, lies}
+use Rattle.block_places.proofs.sheet_rows.Rows.{rows-apart}
 use Rattle.block_places.proofs.sheet_rows.AllRows.{rows-within}
 use Rattle.block_places.proofs.block_kinds.Shapes.{rows-level, dense-shape, sparse-shape}
 use Rattle.block_places.proofs.block_kinds.Workspace.{fits-two, fits-numbers, fits-rows}
 use Rattle.cross_matvec.specs.Products.{Sides, HasRows, rowIn, subtractedProduct, subtractedProductT, subtractedSparseProduct, subtractedSparseProductT}
 use Rattle.solution_vectors.specs.Vectors.{subtractedForward, subtractedBackward}
-use Rattle.solution_vectors.proofs.Order.{rows-apart}
 use Rattle.heading_format.specs.Parts.{headingLength}
 
 -- cross block (i, j) of a workspace, and the blocks i and j of the vector at `from`

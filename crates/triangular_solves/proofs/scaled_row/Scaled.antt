@@ -24,7 +24,7 @@ use Rattle.heading_format.specs.Heading.{layoutOf, entryRow}
 use Rattle.heading_format.specs.Fits.{Fits}
 use Rattle.workspace.specs.Memory.{cellOf, loadedBlock, thetaOf}
 use Rattle.workspace.specs.Loaded.{rowStart}
-use Rattle.block_places.proofs.sheet_rows.Rows.{order-below}
+use Rattle.heading_format.proofs.Sorted.{order-below}
 use Rattle.block_places.proofs.sheet_rows.AllRows.{rows-within}
 use Rattle.block_places.specs.block_kinds.Rows.{rowsOf}
 use Rattle.block_places.proofs.block_kinds.Shapes.{rows-level, dense-shape, loaded-pair, loaded-room}

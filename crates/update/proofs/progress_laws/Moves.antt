@@ -1,7 +1,7 @@
 -- What a ready step does to a progress: one stage, one step left fewer, and valid as before.
 use Prim.Native.Nat.{ℕ, suc, _+_, _-_, _<_, _≤_}
 use mathlib.Core.Path.{_≡_, refl, sym, ap, ap₂, _∙_}
-use mathlib.Core.Bool.{Bool, true, not, _&&_, _||_, cond, and-eq-true-iff}
+use mathlib.Core.Bool.{Bool, true, false, not, _&&_, _||_, cond, and-eq-true-iff, true≢false}
 use mathlib.Core.Logic.{⊎-elim, by-cases}
 use mathlib.Core.List.{List, [], _∷_, _++_, List·Memᴰ, List·Memᴰ·head, List·Memᴰ·tail, List·Memᴰ·cases-cons, List·Memᴰ·not-nil}
 use native.Mathlib.Decide.{decLt}
@@ -14,16 +14,16 @@ use borrow.Author.Tests.{lt-ltb, le-leb, ltb-true, leb-true, eq-eqb, ne-eqb, eqb
 use Rattle.storage.specs.Runs.{start, triangle}
 use Rattle.storage.proofs.Starts.{start-triangle, same-run, same-cell}
 use Rattle.step_order.specs.Steps.{Step, IsStep, row, col, index, forerunners, rustOrder}
-use Rattle.step_order.specs.Progress.{all, stepsLeft, done, advance, Bounded, Ready, Represents}
+use Rattle.step_order.specs.Progress.{all, join, stepsLeft, done, advance, Bounded, Ready, Represents}
 use Rattle.step_order.proofs.Tables.{at, put-here, put-else, in-range, step-unique}
 use Rattle.step_order.proofs.Invariant.{bounded-moved}
-use Rattle.step_order.proofs.Sets.{ready-after, represents-same}
+use Rattle.step_order.proofs.Sets.{ready-after, represents-same, represents-moved}
 use Rattle.step_order.proofs.Listing.{rust-named, rust-has}
 use Rattle.step_order.proofs.Left.{left-moved, left-represents}
 use Rattle.layout.specs.declared.Layout.{Layout}
 use Rattle.heading_format.specs.declared.Progress.{Progress}
 use Rattle.heading_format.specs.declared.State.{State}
-use Rattle.heading_format.specs.declared.State.the-variants.{UnderWay, Finished}
+use Rattle.heading_format.specs.declared.State.the-variants.{Idle, UnderWay, Finished}
 use Rattle.layout.specs.Shapes.{levels, doublesNeeded}
 use Rattle.heading_format.specs.Heading.{stageOf, written, every, forerunnersDone, validState, validLayout, validProgress, validHeading, numbersNeeded}
 use Rattle.heading_format.proofs.Valid.{both, unless, unless-at, every-of, every-at}
@@ -87,7 +87,7 @@ pub stays-valid-after : (k : ℕ) (g : Progress) → validProgress k g ≡ true 
 stays-valid-after k g e s n = forerun-at (stageOf g) (rustOrder k) (tests k g e .2) s (rust-has k s n)
 
 -- and facts put together
-valid-of : (k : ℕ) (g : Progress) → Bounded k (stageOf g) → g .left ≡ stepsLeft k (done (stageOf g))
+pub valid-of : (k : ℕ) (g : Progress) → Bounded k (stageOf g) → g .left ≡ stepsLeft k (done (stageOf g))
     → ((s : Step) → IsStep k s → done (stageOf g) s ≡ true → all (done (stageOf g)) (forerunners s) ≡ true) → validState (g .state) (g .left) (length (rustOrder k)) ≡ true → validProgress k g ≡ true
 unfolding validProgress
 valid-of k g most left fore state =
@@ -99,6 +99,30 @@ valid-of k g most left fore state =
     (eq-eqb g.left (stepsLeft k (done (stageOf g))) left))
     (forerun-of (stageOf g) (rustOrder k) (λ s m. fore s (rust-named k s m))))
     state
+
+-- ---- the state of a valid progress goes with the steps left
+pub state-law : (k : ℕ) (g : Progress) → validProgress k g ≡ true → validState (g .state) (g .left) (length (rustOrder k)) ≡ true
+state-law k g e = tests k g e .3
+
+-- an update that is begun is finished with no step left, and under way before
+pub begun-state : (s : State) (left every-step : ℕ) → (s ≡ Idle → ⊥) → validState s left every-step ≡ true → s ≡ cond (eqb left 0) Finished UnderWay
+begun-state Idle left every-step b e = absurd (b refl)
+begun-state UnderWay left every-step b e = rw (ne-eqb left 0 (λ q. omega (arith, ltb-true 0 left e)))
+begun-state Finished left every-step b e = rw e
+
+-- so with a step left it is under way
+pub under-way : (s : State) (left every-step : ℕ) → (s ≡ Idle → ⊥) → validState s left every-step ≡ true → 1 ≤ left → s ≡ UnderWay
+under-way s left every-step b e h = begun-state s left every-step b e ∙ rw (ne-eqb left 0 (λ q. omega arith))
+
+-- after a step it is not none
+abbrev pub isIdle : State → Bool
+isIdle Idle = true
+isIdle UnderWay = false
+isIdle Finished = false
+
+pub never-idle : (b : Bool) → cond b Finished UnderWay ≡ Idle → ⊥
+never-idle true e = true≢false (ap isIdle (sym e))
+never-idle false e = true≢false (ap isIdle (sym e))
 
 -- a state under way is valid after a step more: under way, or finished with the last
 state-advanced : (s : State) (left every-step : ℕ) → s ≡ UnderWay → validState s left every-step ≡ true
@@ -139,6 +163,11 @@ module _ (k : ℕ) (few : k ≤ 8) (g : Progress) (many : length (g .stages) ≡
           let a : j < triangle i = omega arith in
           let b : col s < triangle (row s) = omega (arith, in-range k s n) in
           f (same-run triangle i j (row s) (col s) a b e) (same-cell triangle i j (row s) (col s) a b e)
+
+  -- a ready step joins the set that the stages stand for
+  pub represents-advanced : (d : Step → Bool) → Bounded k (stageOf g) → Represents k (stageOf g) d → Ready (stageOf g) s → Represents k (stageOf (advanced g s)) (join d s)
+  represents-advanced d most is r =
+      represents-same k (advance (stageOf g) s) (stageOf (advanced g s)) (join d s) (λ i j l m. sym (stage-advanced i j l m)) (represents-moved k (stageOf g) most d is s n r)
 
   -- no stage falls
   stage-rises : stageOf g (row s) (col s) ≡ index s → (i j : ℕ) → stageOf g i j ≤ stageOf (advanced g s) i j

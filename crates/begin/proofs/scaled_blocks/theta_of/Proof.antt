@@ -3,7 +3,7 @@ use native.Mathlib.Omega.{arith}
 use lib.Ieee.{nan}
 use Rattle.rules.specs.Arithmetic.{ieee}
 use Rattle.block_places.proofs.block_sizes.Sizes.{few-blocks}
-use Rattle.block_places.proofs.sheet_rows.Rows.{order-below}
+use Rattle.heading_format.proofs.Sorted.{order-below}
 use borrow.Author.Needs.{needs}
 use Rattle.storage.proofs.Cells.{any-default}
 use Rattle.begin.proofs.scaled_blocks.theta_of.Statement.{statement}

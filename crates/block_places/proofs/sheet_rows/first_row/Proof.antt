@@ -7,7 +7,8 @@ use Rattle.layout.specs.Blocks as Blocks
 use Rattle.heading_format.specs.Heading.{sheetLevels}
 use Rattle.heading_format.proofs.Valid.{is-valid}
 use Rattle.layout.proofs.Sums.{sum-none, sum-more}
-use Rattle.block_places.proofs.sheet_rows.Rows.{order-below, levels-small, rows-small}
+use Rattle.heading_format.proofs.Sorted.{order-below}
+use Rattle.block_places.proofs.sheet_rows.Rows.{levels-small, rows-small}
 use Rattle.block_places.proofs.sheet_rows.first_row.Statement.{statement}
 use Rattle.block_places.proofs.sheet_rows.first_row.Tie as tie
 

@@ -16,9 +16,9 @@ sum-entries-requires c κs = (search needs, λ i h. getD-replicate 8192 i ieee.z
 
 returns : tie.Need-returns
 returns c = let a = c.before.before.before.before.before.before.before.before.before.before.before.before.args in
-    let sums = c.before.before.before.before.before.before.before.sum-entries in c.before.before.subtract-sums.ensures
+    let sums = c.before.before.before.before.before.before.before.sum-entries in c.before.before.subtract.ensures
     ∙ each-row a.t (asEntries (rowFrom a.heading.now a.first) a.a) a.src a.from a.m a.doubles.now sums.last.0 sums.ensures
 
 pub subtract-rows-spec : {M : Type 1} → statement M
 subtract-rows-spec = tie.close (tie.spec (λ c. search needs) sum-entries-requires (λ c. search needs) (λ c. search needs)
-    (λ c κs. search needs) (λ c. search needs) returns)
+    (λ c. search needs) (λ c κs. search needs) (λ c. search needs) returns)
