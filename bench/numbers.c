@@ -12,7 +12,7 @@
 #include <string.h>
 #include <time.h>
 
-#include "husk.h"
+#include "huskcanyon.h"
 
 #define COUNT 4096
 #define PASSES 8

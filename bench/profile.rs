@@ -16,49 +16,55 @@ mod sheet;
 use std::hint::black_box;
 use std::time::{Duration, Instant};
 
-/// The calls of the crate calls_c: a list is its first element and its length, and an answer its number, 0 where there is none.
+/// The calls of the crate capi (include/huskcanyon.h): a list is its first element and its length, and an answer its number, 0 where there is none.
 mod husk {
     #[rustfmt::skip]
-    #[link(name = "calls_c", kind = "static")]
+    #[link(name = "capi", kind = "static")]
     extern "C" {
-        fn husk_begin(h: *mut u32, n: usize, w: *mut f64, d: usize, theta: *const f64, k: usize) -> u64;
-        fn husk_step(h: *mut u32, n: usize, w: *mut f64, d: usize, kind: u64, i: u64, j: u64, x: u64) -> u64;
-        fn husk_profile_deviance(h: *mut u32, n: usize, w: *mut f64, d: usize, theta: *const f64, k: usize, reml: u64, value: *mut f64, one: usize) -> u64;
-        fn husk_deviance_from_factor(h: *const u32, n: usize, w: *const f64, d: usize, reml: u64, value: *mut f64, one: usize) -> u64;
-        fn husk_solve_profile_blocked(h: *const u32, n: usize, w: *const f64, d: usize, reml: u64, out: *mut f64, r: usize, scalars: *mut f64, two: usize) -> u64;
+        fn husk_begin(h: *mut u32, n: usize, w: *mut f64, d: usize, theta: *const f64, k: usize, answer: *mut u64, two: usize) -> u64;
+        fn husk_step(h: *mut u32, n: usize, w: *mut f64, d: usize, kind: u64, i: u64, j: u64, x: u64, answer: *mut u64, two: usize) -> u64;
+        fn husk_profile_deviance(h: *mut u32, n: usize, w: *mut f64, d: usize, theta: *const f64, k: usize, mode: u64, answer: *mut u64, five: usize) -> u64;
+        fn husk_deviance_from_factor(h: *const u32, n: usize, w: *const f64, d: usize, mode: u64, answer: *mut u64, five: usize) -> u64;
+        fn husk_solve_profile_blocked(h: *const u32, n: usize, w: *const f64, d: usize, mode: u64, out: *mut f64, r: usize, words: *mut u64, s: usize, answer: *mut u64, four: usize) -> u64;
     }
 
-    // SAFETY, of all: pointers and lengths are those of slices, the list for the value has one double, that for the scalars two, and no call requires more.
+    // SAFETY, of all: pointers and lengths are those of slices that do not overlap, and no call requires more.
 
     pub fn begin(h: &mut [u32], w: &mut [f64], theta: &[f64]) -> u64 {
-        unsafe { husk_begin(h.as_mut_ptr(), h.len(), w.as_mut_ptr(), w.len(), theta.as_ptr(), theta.len()) }
+        let mut answer = [0; 2];
+        unsafe { husk_begin(h.as_mut_ptr(), h.len(), w.as_mut_ptr(), w.len(), theta.as_ptr(), theta.len(), answer.as_mut_ptr(), 2) }
     }
 
     pub fn step(h: &mut [u32], w: &mut [f64], (kind, i, j, x): (u64, u64, u64, u64)) -> u64 {
-        unsafe { husk_step(h.as_mut_ptr(), h.len(), w.as_mut_ptr(), w.len(), kind, i, j, x) }
+        let mut answer = [0; 2];
+        unsafe { husk_step(h.as_mut_ptr(), h.len(), w.as_mut_ptr(), w.len(), kind, i, j, x, answer.as_mut_ptr(), 2) }
     }
 
+    /// Number and the Rust's value.
     pub fn profile_deviance(h: &mut [u32], w: &mut [f64], theta: &[f64], reml: bool) -> (u64, f64) {
-        let mut value = [0.0];
+        let mut answer = [0; 5];
         let number = unsafe {
-            husk_profile_deviance(h.as_mut_ptr(), h.len(), w.as_mut_ptr(), w.len(), theta.as_ptr(), theta.len(), reml as u64, value.as_mut_ptr(), 1)
+            husk_profile_deviance(h.as_mut_ptr(), h.len(), w.as_mut_ptr(), w.len(), theta.as_ptr(), theta.len(), reml as u64, answer.as_mut_ptr(), 5)
         };
-        (number, value[0])
+        (number, f64::from_bits(answer[4]))
     }
 
     pub fn deviance_from_factor(h: &[u32], w: &[f64], reml: bool) -> (u64, f64) {
-        let mut value = [0.0];
-        let number = unsafe { husk_deviance_from_factor(h.as_ptr(), h.len(), w.as_ptr(), w.len(), reml as u64, value.as_mut_ptr(), 1) };
-        (number, value[0])
+        let mut answer = [0; 5];
+        let number = unsafe { husk_deviance_from_factor(h.as_ptr(), h.len(), w.as_ptr(), w.len(), reml as u64, answer.as_mut_ptr(), 5) };
+        (number, f64::from_bits(answer[4]))
     }
 
     /// Number, deviance and sigma2.
-    pub fn solve_profile_blocked(h: &[u32], w: &[f64], reml: bool, out: &mut [f64]) -> (u64, [f64; 2]) {
-        let mut scalars = [0.0; 2];
+    pub fn solve_profile_blocked(h: &[u32], w: &[f64], reml: bool, out: &mut [f64], words: &mut [u64]) -> (u64, [f64; 2]) {
+        let mut answer = [0; 4];
+        #[rustfmt::skip]
         let number = unsafe {
-            husk_solve_profile_blocked(h.as_ptr(), h.len(), w.as_ptr(), w.len(), reml as u64, out.as_mut_ptr(), out.len(), scalars.as_mut_ptr(), 2)
+            husk_solve_profile_blocked(
+                h.as_ptr(), h.len(), w.as_ptr(), w.len(), reml as u64, out.as_mut_ptr(), out.len(), words.as_mut_ptr(), words.len(), answer.as_mut_ptr(), 4,
+            )
         };
-        (number, scalars)
+        (number, [f64::from_bits(answer[2]), f64::from_bits(answer[3])])
     }
 }
 
@@ -137,6 +143,7 @@ fn main() {
         let mut bits = true;
         let mut list_bits = true;
         let mut out = vec![0.0; rust_solution(&mut solver, &theta, false).0.len()];
+        let mut words = vec![0; out.len()];
         for reml in [false, true] {
             let rust = solver.profile_deviance(&theta, reml);
             let (number, value) = husk::profile_deviance(&mut h, &mut w, &theta, reml);
@@ -147,7 +154,8 @@ fn main() {
             same &= number == 0 && again.to_bits() == value.to_bits() && one_call.0 == h;
             same &= one_call.1.iter().zip(&w).all(|(x, y)| x.to_bits() == y.to_bits());
             let (list, scalars) = rust_solution(&mut solver, &theta, reml);
-            let (number, own) = husk::solve_profile_blocked(&h, &w, reml, &mut out);
+            let (number, own) = husk::solve_profile_blocked(&h, &w, reml, &mut out, &mut words);
+            same &= out.iter().zip(&words).all(|(x, &b)| x.to_bits() == b);
             same &= number == 0 && own.iter().zip(&scalars).chain(out.iter().zip(&list)).all(|(&x, &y)| close(x, y));
             bits &= own[0].to_bits() == scalars[0].to_bits();
             list_bits &= own[1].to_bits() == scalars[1].to_bits() && out.iter().zip(&list).all(|(x, y)| x.to_bits() == y.to_bits());
@@ -170,9 +178,9 @@ fn main() {
             fastest(&mut rust_solve, || solver.solve(black_box(&varied), true).is_ok());
             fastest(&mut solve, || {
                 husk::profile_deviance(&mut h, &mut w, black_box(&varied), true);
-                husk::solve_profile_blocked(&h, &w, true, &mut out)
+                husk::solve_profile_blocked(&h, &w, true, &mut out, &mut words)
             });
-            fastest(&mut alone, || husk::solve_profile_blocked(&h, &w, true, &mut out));
+            fastest(&mut alone, || husk::solve_profile_blocked(&h, &w, true, &mut out, &mut words));
             fastest(&mut steps, || by_steps(&mut h, &mut w, black_box(&varied), &order, true));
             fastest(&mut begin, || husk::begin(&mut h, &mut w, black_box(&varied)));
             // a list one too long is refused behind the check of the heading

@@ -6,7 +6,7 @@ ghost use Rattle.cross_block.specs.Blocks.{ByFactor, dividedColumns};
 use block_runs::run_quotients;
 use storage::Block;
 
-// T by the diagonal f: each column of the dense block t divided by its pivot.
+// T by the diagonal f: each column of the dense block t divided by its pivot. The block is lent as the part that starts at its own offset.
 pub fn divide_columns(doubles: &mut [f64], t: Block, f: Block)
     requires { ⌜ ByFactor (length (now doubles)) asDiagonal t f ⌝ }
     ensures { λ _. ⌜ now (doubles .exit) ≡ dividedColumns t f (now (doubles .entry)) ⌝ }
@@ -15,7 +15,7 @@ pub fn divide_columns(doubles: &mut [f64], t: Block, f: Block)
     let mut to = t.at;
     while c < t.cols {
         let p = doubles[f.at + c];
-        run_quotients::divide(doubles, to, t.rows, p);
+        run_quotients::divide(doubles, t.at, to + t.rows, to - t.at, t.rows, p);
         c += 1;
         to += t.rows;
     }

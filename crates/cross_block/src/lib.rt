@@ -16,15 +16,16 @@ use block_runs::run_quotients;
 use storage::Block;
 
 // Column c of the block t, from `to` on, solved with the columns before it and row c of the factor, which lies from `row` on.
+// The block is lent as the part that starts at its own offset.
 fn solve_column(doubles: &mut [f64], acc: &mut [f64], t: Block, c: usize, to: usize, row: usize)
-    requires { ⌜ (t .rows ≤ length (now acc)) × (to + t .rows ≤ length (now doubles)) × (t .at + sizeOf (columns (t .rows) c) ≤ length (now doubles)) × (row + c < length (now doubles)) ⌝ }
+    requires { ⌜ (t .rows ≤ length (now acc)) × (t .at ≤ to) × (to + t .rows ≤ length (now doubles)) × (t .at + sizeOf (columns (t .rows) c) ≤ length (now doubles)) × (row + c < length (now doubles)) ⌝ }
     ensures { λ _. ⌜ now (doubles .exit) ≡ solvedColumn t c to row (now (doubles .entry)) ⌝ }
 {
     let n = t.rows;
     run_copies::read(acc, n, doubles, to);
     axpy_products::subtract_products(acc, n, doubles, t.at, n, doubles, row, 1, 0, c);
     let p = doubles[row + c];
-    run_quotients::over(doubles, to, n, acc, p);
+    run_quotients::over(doubles, t.at, to + n, to - t.at, n, acc, p);
 }
 
 // T by the packed factor f: forward substitution in each row of the dense block t, all rows side by side.

@@ -4,7 +4,6 @@ use mathlib.Core.Path.{_≡_, sym, ap, ap₂, _∙_}
 use mathlib.Core.List.{List}
 use mathlib.Core.Logic.{inl, inr, ⊎-elim}
 use native.Mathlib.Omega.{arith}
-use native.Mathlib.Nat.{add-zero}
 use lib.ListN.{length}
 use lib.Ieee.{Float}
 use Rattle.storage.specs.Runs.{tab, dense}
@@ -56,7 +55,7 @@ sums-swapped n z x y = ap (ieee.minus z) (along-swap ieee.plus ieee.zero x y n) 
 pub products-swapped : (n : ℕ) (z : Float) (x y : ℕ → Float) → subtractEach n z x y ≡ chain ieee z y x n
 products-swapped n z x y = along-swap ieee.minus z x y n ∙ subtract-along z y x n
 
--- a run, as the functions of single runs make it
+-- a run, as the functions of single runs make it: x is its place, the block's offset and the place within the block
 module _ (w w′ acc acc₁ acc₂ : List Float) (to n : ℕ) (a b : Block) (r : ℕ) (room : n ≤ length acc) (e : b .cols ≡ a .cols) where
   taken : (f : Float → Float → Float) (z : ℕ → Float) → acc₁ ≡ run 0 n z acc → acc₂ ≡ products f acc₁ n w (a .at) (a .rows) w (b .at) (b .rows) r (a .cols)
       → (i : ℕ) → i < n → at acc₂ i ≡ along f (z i) (read (asColumns a) w i) (read (asColumns b) w r) (a .cols)
@@ -65,13 +64,13 @@ module _ (w w′ acc acc₁ acc₂ : List Float) (to n : ℕ) (a b : Block) (r :
       ∙ ap (λ (x : ℕ). along f (z i) (read (asColumns a) w i) (block b.at (columns b.rows x) w r) a.cols) (sym e)
 
   pub sums-subtracted : acc₁ ≡ run 0 n (λ i. ieee .zero) acc → acc₂ ≡ products (ieee .plus) acc₁ n w (a .at) (a .rows) w (b .at) (b .rows) r (a .cols)
-      → w′ ≡ run (to + 0) n (λ i. ieee .minus (at w (to + 0 + i)) (at acc₂ i)) w → w′ ≡ subtractSums to n a b r w
-  sums-subtracted first then so =
+      → (x : ℕ) → x ≡ to → w′ ≡ run x n (λ i. ieee .minus (at w (x + i)) (at acc₂ i)) w → w′ ≡ subtractSums to n a b r w
+  sums-subtracted first then x d so =
       so
-      ∙ ap (λ (x : ℕ). run x n (λ i. ieee .minus (at w (x + i)) (at acc₂ i)) w) (add-zero to)
+      ∙ ap (λ (x : ℕ). run x n (λ i. ieee .minus (at w (x + i)) (at acc₂ i)) w) d
       ∙ ap (λ (l : List Float). store to l w) (tab-ext n _ _ (λ i l. ap (ieee.minus (at w (to + i))) (taken ieee.plus (λ x. ieee .zero) first then i l)))
 
   pub products-put : acc₁ ≡ run 0 n (λ i. at w (to + i)) acc → acc₂ ≡ products (ieee .minus) acc₁ n w (a .at) (a .rows) w (b .at) (b .rows) r (a .cols)
-      → w′ ≡ run (to + 0) n (at acc₂) w → w′ ≡ subtractProducts to n a b r w
-  products-put first then so =
-      so ∙ ap₂ (λ (x : ℕ) (l : List Float). store x l w) (add-zero to) (tab-ext n _ _ (taken ieee.minus (λ i. at w (to + i)) first then))
+      → (x : ℕ) → x ≡ to → w′ ≡ run x n (at acc₂) w → w′ ≡ subtractProducts to n a b r w
+  products-put first then x d so =
+      so ∙ ap₂ (λ (x : ℕ) (l : List Float). store x l w) d (tab-ext n _ _ (taken ieee.minus (λ i. at w (to + i)) first then))

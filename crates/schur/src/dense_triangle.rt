@@ -15,7 +15,7 @@ pub fn rank_sub(doubles: &mut [f64], t: Block, a: Block)
     let mut r = 0;
     let mut to = t.at;
     while r < t.rows {
-        crate::subtract_run(doubles, &mut acc, to, r + 1, a, a, r);
+        crate::subtract_run(doubles, &mut acc, t.at, to, r + 1, a, a, r);
         r += 1;
         to += r;
     }

@@ -8,17 +8,18 @@ use block_runs::axpy_products;
 use block_runs::run_copies;
 use storage::Block;
 
-// One run of the triangle less its products, one by one.
+// One run of the triangle at `off` less its products, one by one. The triangle is lent as the part that starts at its own offset.
 fn subtract_last_run(
     doubles: &mut [f64],
     acc: &mut [f64],
+    off: usize,
     to: usize,
     n: usize,
     a: Block,
     b: Block,
     r: usize,
 )
-    requires { ⌜ (n ≤ a .rows) × (n ≤ length (now acc)) × (r < b .rows) × (b .cols ≡ a .cols) × (to + n ≤ length (now doubles)) × Lies (length (now doubles)) (asColumns a) × Lies (length (now doubles)) (asColumns b) ⌝ }
+    requires { ⌜ (n ≤ a .rows) × (n ≤ length (now acc)) × (r < b .rows) × (b .cols ≡ a .cols) × (off ≤ to) × (to + n ≤ length (now doubles)) × Lies (length (now doubles)) (asColumns a) × Lies (length (now doubles)) (asColumns b) ⌝ }
     ensures { λ _. ⌜ now (doubles .exit) ≡ subtractProducts to n a b r (now (doubles .entry)) ⌝ }
 {
     run_copies::read(acc, n, doubles, to);
@@ -34,7 +35,7 @@ fn subtract_last_run(
         r,
         a.cols,
     );
-    run_copies::put(doubles, to, to + n, 0, n, acc);
+    run_copies::put(doubles, off, to + n, to - off, n, acc);
 }
 
 // S(k,k,h) of the triangle t: less block a times itself transposed, product by product.
@@ -46,7 +47,7 @@ pub fn subtract_last(doubles: &mut [f64], t: Block, a: Block)
     let mut r = 0;
     let mut to = t.at;
     while r < t.rows {
-        subtract_last_run(doubles, &mut acc, to, r + 1, a, a, r);
+        subtract_last_run(doubles, &mut acc, t.at, to, r + 1, a, a, r);
         r += 1;
         to += r;
     }

@@ -19,17 +19,19 @@ use block_runs::run_copies;
 use block_runs::run_differences;
 use storage::Block;
 
-// n doubles from `to` on: less the sums of the products of rows 0 to n - 1 of block a and row r of block b.
+// n doubles from `to` on, of the block at `off`: less the sums of the products of rows 0 to n - 1 of block a and row r of block b. The block is lent as
+// the part that starts at its own offset.
 fn subtract_run(
     doubles: &mut [f64],
     acc: &mut [f64],
+    off: usize,
     to: usize,
     n: usize,
     a: Block,
     b: Block,
     r: usize,
 )
-    requires { ⌜ (n ≤ a .rows) × (n ≤ length (now acc)) × (r < b .rows) × (b .cols ≡ a .cols) × (to + n ≤ length (now doubles)) × Lies (length (now doubles)) (asColumns a) × Lies (length (now doubles)) (asColumns b) ⌝ }
+    requires { ⌜ (n ≤ a .rows) × (n ≤ length (now acc)) × (r < b .rows) × (b .cols ≡ a .cols) × (off ≤ to) × (to + n ≤ length (now doubles)) × Lies (length (now doubles)) (asColumns a) × Lies (length (now doubles)) (asColumns b) ⌝ }
     ensures { λ _. ⌜ now (doubles .exit) ≡ subtractSums to n a b r (now (doubles .entry)) ⌝ }
 {
     run_copies::clear(acc, n);
@@ -45,5 +47,5 @@ fn subtract_run(
         r,
         a.cols,
     );
-    run_differences::subtract(doubles, to, to + n, 0, n, acc);
+    run_differences::subtract(doubles, off, to + n, to - off, n, acc);
 }

@@ -11,7 +11,7 @@ use block_runs::run_differences;
 use storage::Block;
 
 // Columns c and c + 1 of the block t, which lie from `to` on: less the sums of the products of the rows of block a and row c of block b, and row c + 1.
-// The rows of block a are loaded once for both.
+// The rows of block a are loaded once for both, and the block is lent as the part that starts at its own offset.
 fn subtract_pair(
     doubles: &mut [f64],
     acc: &mut [f64],
@@ -26,6 +26,7 @@ fn subtract_pair(
     ensures { λ _. ⌜ now (doubles .exit) ≡ subtractSums (to + t .rows) (t .rows) a b (c + 1) (subtractSums to (t .rows) a b c (now (doubles .entry))) ⌝ }
 {
     let n = t.rows;
+    let off = t.at;
     run_copies::clear(acc, n);
     run_copies::clear(acc2, n);
     axpy_pair::add_products_pair(
@@ -41,8 +42,8 @@ fn subtract_pair(
         c,
         a.cols,
     );
-    run_differences::subtract(doubles, to, to + n, 0, n, acc);
-    run_differences::subtract(doubles, to + n, to + n + n, 0, n, acc2);
+    run_differences::subtract(doubles, off, to + n, to - off, n, acc);
+    run_differences::subtract(doubles, off, to + n + n, to + n - off, n, acc2);
 }
 
 // S of the dense block t, two columns at a time: the sums of a column lie side by side.
@@ -60,7 +61,7 @@ fn subtract_columns(doubles: &mut [f64], t: Block, a: Block, b: Block)
         to += 2 * t.rows;
     }
     if c < t.cols {
-        crate::subtract_run(doubles, &mut acc, to, t.rows, a, b, c);
+        crate::subtract_run(doubles, &mut acc, t.at, to, t.rows, a, b, c);
     }
 }
 

@@ -16,13 +16,22 @@ fn wide(x: u32) -> usize
     x as usize
 }
 
-// A column of `rows` doubles, from `to` on, less f times the one at ax.
-fn subtract_column(doubles: &mut [f64], acc: &mut [f64], to: usize, rows: usize, ax: usize, f: f64)
-    requires { ⌜ (rows ≤ length (now acc)) × (to + rows ≤ length (now doubles)) × (ax + rows ≤ length (now doubles)) ⌝ }
-    ensures { λ _. ⌜ now (doubles .exit) ≡ subtractColumn to rows ax f (now (doubles .entry)) ⌝ }
+// A column of `rows` doubles, from `to` on in the block at `off`, less f times the one at ax. The block is lent as the part that starts at its own
+// offset.
+fn subtract_column(
+    doubles: &mut [f64],
+    acc: &mut [f64],
+    off: usize,
+    to: usize,
+    rows: usize,
+    ax: usize,
+    f: f64,
+)
+    requires { ⌜ (rows ≤ length (now acc)) × (off + to + rows ≤ length (now doubles)) × (ax + rows ≤ length (now doubles)) ⌝ }
+    ensures { λ _. ⌜ now (doubles .exit) ≡ subtractColumn (off + to) rows ax f (now (doubles .entry)) ⌝ }
 {
     run_copies::read(acc, rows, doubles, ax);
-    run_products::subtract_times(doubles, to, rows, acc, f);
+    run_products::subtract_times(doubles, off, off + to + rows, to, rows, acc, f);
 }
 
 // S(k,1,0) of the fixed rows t with a sparse block v: product by product.
@@ -43,7 +52,7 @@ pub fn subtract_sparse(
     while x < a.cols {
         let c = wide(heading[first + x]);
         let f = doubles[v.at + x];
-        subtract_column(doubles, &mut acc, t.at + c * t.rows, t.rows, ax, f);
+        subtract_column(doubles, &mut acc, t.at, c * t.rows, t.rows, ax, f);
         x += 1;
         ax += t.rows;
     }

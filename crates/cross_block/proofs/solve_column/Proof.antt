@@ -10,9 +10,10 @@ subtract-products-requires : tie.Need-subtract-products-requires
 subtract-products-requires c κs = omega (arith, start-dense 1 c.before.before.before.before.before.before.before.before.before.args.c)
 
 returns : tie.Need-returns
-returns c = let a = c.before.before.before.before.before.before.before.before.before.before.before.before.before.before.before.before.before.before.args in
-    column-solved a.doubles.now _ a.acc.now _ _ a.t a.c a.to a.row (omega arith) c.before.before.before.before.before.before.before.before.before.before.before.before.before.read.ensures c.before.before.before.before.before.before.before.before.subtract-products.ensures c.before.before.over.ensures
+returns c = let a = c.before.before.before.before.before.before.before.before.before.before.before.before.before.before.before.before.before.before.before.args in
+    column-solved a.doubles.now _ a.acc.now _ _ a.t a.c a.to a.row (omega arith) c.before.before.before.before.before.before.before.before.before.before.before.before.before.before.read.ensures c.before.before.before.before.before.before.before.before.before.subtract-products.ensures _ (omega arith) c.before.before.over.ensures
 
 pub solve-column-spec : {M : Type 1} → statement M
 solve-column-spec = tie.close (tie.spec (λ c κs. search needs) subtract-products-requires (λ c. search needs)
-    (λ c. search needs) (λ c. search needs) (λ c κs. search needs) (λ c. search needs) (λ c. search needs) returns)
+    (λ c. search needs) (λ c. search needs) (λ c. search needs) (λ c. search needs) (λ c κs. search needs) (λ c. search needs)
+    (λ c. search needs) returns)

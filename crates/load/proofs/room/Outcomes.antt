@@ -1,38 +1,29 @@
 -- What load leaves, part by part, is what is defined.
 use Prim.Native.Nat.{ℕ, _+_, _≤_}
-use mathlib.Core.Path.{_≡_, refl, sym, ap, ap₂, _∙_}
+use mathlib.Core.Path.{_≡_, refl, ap, ap₂, _∙_}
 use mathlib.Core.Bool.{true, false, and-eq-true-iff}
 use mathlib.Core.List.{List, []}
-use mathlib.Core.Option.{Option, none, some}
+use mathlib.Core.Option.{none}
 use native.Mathlib.Omega.{arith}
 use borrow.Author.Tests.{leb-true}
 use lib.Dec.{leb}
 use lib.ListN.{length}
 use lib.Ieee.{Float}
-use Rattle.refusal.specs.declared.Refusal.{Refusal}
 use Rattle.refusal.specs.declared.Answer.{Answer}
-use Rattle.refusal.specs.declared.Answer.the-variants.{Accepted, Refused}
+use Rattle.refusal.specs.declared.Answer.the-variants.{Accepted}
 use Rattle.storage.specs.Runs.{tab}
 use Rattle.storage.specs.Part.{store}
 use Rattle.storage.proofs.Parts.{store-more}
-use Rattle.sheet.specs.declared.Reading.the-variants.{Sheet as Read, Refused as Unread}
-use Rattle.sheet.specs.declared.Starts.{Starts}
-use Rattle.sheet.specs.Sheet.{Sheet, accepted, readSheet, sheetOf}
-use Rattle.sheet.specs.Fault.{faultNumber}
-use Rattle.sheet.specs.Answer.{judged}
-use Rattle.sheet.proofs.Answers.{judged-read, judged-refused, checked-fine}
-use Rattle.sheet.proofs.Whole.{alone-read}
+use Rattle.sheet.specs.Sheet.{Sheet}
 use Rattle.layout.specs.declared.Layout.{Layout}
 use Rattle.heading_format.specs.declared.Progress.{Progress}
-use Rattle.layout.specs.Shapes.{pick, levels, pairs, doublesNeeded}
+use Rattle.layout.specs.Shapes.{pick, levels, doublesNeeded}
 use Rattle.heading_format.specs.Heading.{validLayout, written, idle, numbersNeeded}
 use Rattle.heading_format.proofs.Valid.{is-valid}
 use Rattle.heading_format.proofs.Heading.{length-written}
 use Rattle.workspace.specs.Answers.{Outcome, workspace, untouched}
-use Rattle.workspace.specs.Loaded.{entryRowIn, firstRefusedPair, layoutOfSheet}
-use Rattle.workspace.specs.Load.{headingOf, doublesOf, hasRoom, afterGate, loadSheet, loadOf}
-use Rattle.layout_gate.specs.gate_search.Search.{answerOf}
-use Rattle.layout_gate.proofs.gate_search.Pairs.{none-denied, some-denied}
+use Rattle.workspace.specs.Loaded.{entryRowIn}
+use Rattle.workspace.specs.Load.{headingOf, doublesOf, hasRoom, afterGate}
 use Rattle.heading_format.specs.Parts.{headingLength}
 
 -- ---- lengths
@@ -81,38 +72,3 @@ module _ (sheet : Sheet) (y : Layout) (h : List ℕ) (w : List Float) where
   pub written-out : (h₁ : List ℕ) (w₁ : List Float) → hasRoom y h w ≡ true → h₁ ≡ store 0 (headingOf sheet y) h → w₁ ≡ store 0 (doublesOf sheet y) w
       → left Accepted h₁ w₁ ≡ afterGate none sheet y h w
   written-out h₁ w₁ e a b = rw e (ap₂ (left Accepted) a b)
-
--- ---- the gate: its refusal, or it goes on
-module _ (sheet : Sheet) (y : Layout) (q : y ≡ layoutOfSheet sheet) (d : Refusal) (found : d ≡ answerOf (firstRefusedPair sheet y (pairs (y .k)))) where
-  pub gate-open : d .number ≡ 0 → firstRefusedPair sheet y (pairs (y .k)) ≡ none
-  gate-open e = none-denied sheet y (pairs y.k) (ap (λ (r : Refusal). r .number) (sym found) ∙ e)
-
-  -- load of the sheet, by the layout at hand
-  sheet-out : (h : List ℕ) (w : List Float) → loadSheet sheet h w ≡ afterGate (firstRefusedPair sheet y (pairs (y .k))) sheet y h w
-  unfolding loadSheet
-  sheet-out h w = ap (λ (x : Layout). afterGate (firstRefusedPair sheet x (pairs x.k)) sheet x h w) (sym q)
-
-  pub denied-out : (h : List ℕ) (w : List Float) → (d .number ≡ 0 → ⊥) → left (Refused d) h w ≡ loadSheet sheet h w
-  denied-out h w n =
-      let some-is = some-denied (firstRefusedPair sheet y (pairs y.k)) (λ e. n (ap (λ (r : Refusal). r .number) found ∙ e)) in
-      sym (sheet-out h w ∙ ap (λ (o : Option Refusal). afterGate o sheet y h w) (some-is ∙ ap some (sym found)))
-
-  pub open-out : (h : List ℕ) (w : List Float) (o : Outcome) → d .number ≡ 0 → o ≡ afterGate none sheet y h w → o ≡ loadSheet sheet h w
-  open-out h w o n e = e ∙ sym (sheet-out h w ∙ ap (λ (o : Option Refusal). afterGate o sheet y h w) (gate-open n))
-
--- ---- the reader's answer: a sheet that goes on, or a refusal
--- what the functions that read the sheet again ask
-pub to-read : (s : List ℕ) (z : Starts) → judged (sheetOf s) ≡ Read z → (sheet : Sheet) × (readSheet s ≡ accepted sheet z) × (faultNumber sheet ≡ 0)
-to-read s z a = let g = judged-read (sheetOf s) z a in (g.0, alone-read s g.0 z g.1 .0, g.2)
-
-module _ (s h : List ℕ) (w : List Float) where
-  pub read-out : (o : Outcome) (z : Starts) → judged (sheetOf s) ≡ Read z → ((sheet : Sheet) → readSheet s ≡ accepted sheet z → o ≡ loadSheet sheet h w) → o ≡ loadOf s h w
-  unfolding loadOf
-  read-out o z a f =
-      let g = judged-read (sheetOf s) z a in
-      f g.0 (alone-read s g.0 z g.1 .0)
-      ∙ sym (checked-fine (λ number line. untouched h w number line 0) (λ sheet starts. loadSheet sheet h w) (sheetOf s) g.0 z g.1 g.2)
-
-  pub unread-out : (number line : ℕ) → judged (sheetOf s) ≡ Unread number line → untouched h w number line 0 ≡ loadOf s h w
-  unfolding loadOf
-  unread-out number line a = sym (judged-refused (λ number line. untouched h w number line 0) (λ sheet starts. loadSheet sheet h w) (sheetOf s) number line a)

@@ -16,15 +16,15 @@ use Rattle.schur.proofs.Turns.{subtractSum, sums-dot, sums-subtracted, 
 -- a column less sums that were made before the column in front of it was written
 pub second-subtracted : (w w₁ w₂ acc acc₁ acc₂ : List Float) (t a b : Block) (to to′ n r r′ : ℕ) → Product (length w) asColumns asColumns t a b → n ≤ length acc → Within (asColumns t) to n
     → acc₁ ≡ run 0 n (λ i. ieee .zero) acc → acc₂ ≡ products (ieee .plus) acc₁ n w (a .at) (a .rows) w (b .at) (b .rows) r′ (a .cols)
-    → w₁ ≡ subtractSums to n a b r w → w₂ ≡ run (to′ + 0) n (λ i. ieee .minus (at w₁ (to′ + 0 + i)) (at acc₂ i)) w₁
+    → w₁ ≡ subtractSums to n a b r w → (x : ℕ) → x ≡ to′ → w₂ ≡ run x n (λ i. ieee .minus (at w₁ (x + i)) (at acc₂ i)) w₁
     → w₂ ≡ subtractSums to′ n a b r′ (subtractSums to n a b r w)
-second-subtracted w w₁ w₂ acc acc₁ acc₂ t a b to to′ n r r′ P long in-block first then made so =
+second-subtracted w w₁ w₂ acc acc₁ acc₂ t a b to to′ n r r′ P long in-block first then made x d so =
     let same : (q : Placed) → Apart (asColumns t) q → read q w ≡ read q w₁ = λ q h. sym (ap (read q) made ∙ same-apart (asColumns t) q to n _ w in-block P.target h) in
     sums-subtracted w₁ w₂ acc acc₁ acc₂ to′ n a b r′ long P.inner first
     (then
     ∙ ap₂ (λ (x y : ℕ → ℕ → Float). run 0 n (λ i. along ieee.plus (at acc₁ i) (x i) (y r′) a.cols) acc₁) (same (asColumns a) P.off-left)
     (same (asColumns (record { at = b .at; rows = b .rows; cols = a .cols })) (rw P.inner at P.off-right)))
-    so
+    x d so
     ∙ ap (subtractSums to′ n a b r′) made
 
 module _ {t a b : Block} {w₀ : List Float} (P : Product (length w₀) asColumns asColumns t a b) where

@@ -1,30 +1,17 @@
--- `block_runs::run_quotients::over`: the first i quotients are put.
-use borrow.Author.Needs.{needs}
+-- `block_runs::run_quotients::over`: the block is lent.
 use mathlib.Core.Path.{refl}
-use Prim.Native.Nat.{_-_}
 use native.Mathlib.Omega.{arith}
-use Rattle.storage.proofs.Filling.{Filling, filling-none, filling-more, filling-done}
 use Rattle.rules.specs.Arithmetic.{ieee}
 use Rattle.block_runs.specs.axpy.Axpy.{at}
+use Rattle.block_runs.proofs.run_differences.Lent.{lent-run}
+use borrow.Author.Needs.{needs}
 use Rattle.block_runs.proofs.run_quotients.over.Statement.{statement}
 use Rattle.block_runs.proofs.run_quotients.over.Tie as tie
 
-abbrev Inv-loop : tie.InvT-loop
-Inv-loop t₀ to n acc p i₀ t i = Filling (λ x. ieee .over (at acc x) p) to n t₀ t i
-
-abbrev μ-loop : tie.MeasureT-loop
-μ-loop t₀ to n acc p i₀ t i = n - i
-
-loop-holds : tie.Need-loop-holds Inv-loop μ-loop
-loop-holds c = let a = c.args in filling-none _ a.to a.n a.t.now (omega arith)
-
-loop-again : tie.Need-loop-again Inv-loop μ-loop
-loop-again c = filling-more c.before.before.loop.inv (omega arith) refl
-
-returns : tie.Need-returns Inv-loop μ-loop
-returns c = filling-done c.before.loop.inv (omega arith)
+returns : tie.Need-returns
+returns c = let a = c.before.before.before.before.before.before.args in
+    lent-run a.doubles.now _ a.off a.end a.to a.n (λ i. ieee .over (at a.acc.now i) a.p) (λ i. ieee .over (at a.acc.now i) a.p) (omega arith) (omega arith) (λ i l. refl) c.before.before.over-part.ensures
 
 pub over-spec : {M : Type 1} → statement M
-over-spec = tie.close (tie.spec Inv-loop μ-loop loop-holds (λ c. search needs) (λ c. search needs)
-    (λ c. search needs) (λ c. search needs) (λ c. search needs) (λ c. search needs) (λ c. search needs) loop-again
-    (λ c. search needs) returns)
+over-spec = tie.close (tie.spec (λ c. search needs) (λ c. search needs) (λ c. search needs) (λ c. search needs)
+    (λ c κs. search needs) (λ c. search needs) returns)

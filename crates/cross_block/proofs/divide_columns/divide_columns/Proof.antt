@@ -29,18 +29,24 @@ mul-p c = omega (arith, start-single c.before.before.before.before.before.args.f
 slice-read-p : tie.Need-slice-read-p Inv-loop μ-loop
 slice-read-p c = omega (arith, start-single c.before.before.before.before.before.before.args.f.rows)
 
+add-divide : tie.Need-add-divide Inv-loop μ-loop
+add-divide c = omega (arith, going-room c.before.before.before.before.before.before.loop.inv (omega arith))
+
+sub-divide : tie.Need-sub-divide Inv-loop μ-loop
+sub-divide c = omega (arith, going-room c.before.before.before.before.before.before.before.loop.inv (omega arith))
+
 divide-requires : tie.Need-divide-requires Inv-loop μ-loop
-divide-requires c κs = omega (arith, going-room c.before.before.before.before.before.loop.inv (omega arith))
+divide-requires c κs = omega (arith, going-room c.before.before.before.before.before.before.before.loop.inv (omega arith))
 
 add-to : tie.Need-add-to Inv-loop μ-loop
-add-to c = omega (arith, going-room c.before.before.before.before.before.before.before.before.before.loop.inv (omega arith))
+add-to c = omega (arith, going-room c.before.before.before.before.before.before.before.before.before.before.before.loop.inv (omega arith))
 
 loop-again : tie.Need-loop-again Inv-loop μ-loop
-loop-again c = divide-turn c.before.before.before.before.before.before.before.before.before.before.before.pre c.before.before.before.before.before.before.before.before.before.loop.inv c.before.before.before.before.before.before.before.if1.taken refl c.before.before.before.divide.ensures
+loop-again c = divide-turn c.before.before.before.before.before.before.before.before.before.before.before.before.before.pre c.before.before.before.before.before.before.before.before.before.before.before.loop.inv c.before.before.before.before.before.before.before.before.before.if1.taken refl _ (omega (arith, going-room c.before.before.before.before.before.before.before.before.before.before.before.loop.inv c.before.before.before.before.before.before.before.before.before.if1.taken)) c.before.before.before.divide.ensures
 
 returns : tie.Need-returns Inv-loop μ-loop
 returns c = going-all c.before.before.loop.inv (omega arith)
 
 pub divide-columns-spec : {M : Type 1} → statement M
 divide-columns-spec = tie.close (tie.spec Inv-loop μ-loop loop-holds add-p mul-p slice-read-p
-    divide-requires (λ c. search needs) add-to (λ c. search needs) loop-again (λ c. search needs) returns)
+    add-divide sub-divide divide-requires (λ c. search needs) add-to (λ c. search needs) loop-again (λ c. search needs) returns)

@@ -14,10 +14,11 @@ returns : tie.Need-returns
 returns c = let s = c.before.before.before.before.before.before.before.before.before.before.before.before.before.before.before.before.before.before.before.before.before.before.before.before.before.before.before.before.before in let a = s.args in let P = s.pre.0 in
     let sums = c.before.before.before.before.before.before.before.before.before.before.before.before.before.before.add-products-pair.ensures in
     second-subtracted a.doubles.now _ _ a.acc2.now _ _ a.t a.a a.b a.to (a.to + a .t .rows) a.t.rows a.c (a.c + 1) P s.pre.2 (omega arith) c.before.before.before.before.before.before.before.before.before.before.before.before.before.before.before.before.before.before.before.before.clear2.ensures sums.1
-    (sums-subtracted a.doubles.now _ a.acc.now _ _ a.to a.t.rows a.a a.b a.c s.pre.1 P.inner c.before.before.before.before.before.before.before.before.before.before.before.before.before.before.before.before.before.before.before.before.before.before.before.before.clear.ensures sums.0 c.before.before.before.before.before.before.before.subtract.ensures)
-    c.before.before.subtract2.ensures
+    (sums-subtracted a.doubles.now _ a.acc.now _ _ a.to a.t.rows a.a a.b a.c s.pre.1 P.inner c.before.before.before.before.before.before.before.before.before.before.before.before.before.before.before.before.before.before.before.before.before.before.before.before.clear.ensures sums.0 _ (omega arith) c.before.before.before.before.before.before.before.subtract.ensures)
+    _ (omega arith) c.before.before.subtract2.ensures
 
 pub subtract-pair-spec : {M : Type 1} → statement M
 subtract-pair-spec = tie.close (tie.spec (λ c κs. search needs) (λ c κs. search needs) add-products-pair-requires
-    (λ c. search needs) (λ c κs. search needs) (λ c. search needs) (λ c. search needs) (λ c. search needs) (λ c κs. search needs)
+    (λ c. search needs) (λ c. search needs) (λ c κs. search needs) (λ c. search needs) (λ c. search needs) (λ c. search needs)
+    (λ c. search needs) (λ c κs. search needs)
     (λ c. search needs) (λ c. search needs) (λ c. search needs) returns)

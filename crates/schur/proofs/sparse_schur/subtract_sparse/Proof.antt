@@ -31,26 +31,22 @@ mul-subtract-column : tie.Need-mul-subtract-column Inv-loop μ-loop
 mul-subtract-column c = let s = c.before.before.before.before.before.before.before.before.before.before.before.before in let k = c.before.before.before.before.before.wide in
     omega (arith, target-room s.pre.1 c.before.before.before.before.before.before.before.before.before.loop.inv.1 c.before.before.before.before.before.before.before.if1.taken k.result k.ensures s.pre.3)
 
-add-subtract-column : tie.Need-add-subtract-column Inv-loop μ-loop
-add-subtract-column c = let s = c.before.before.before.before.before.before.before.before.before.before.before.before.before in let k = c.before.before.before.before.before.before.wide in
-    omega (arith, target-room s.pre.1 c.before.before.before.before.before.before.before.before.before.before.loop.inv.1 c.before.before.before.before.before.before.before.before.if1.taken k.result k.ensures s.pre.3)
-
 subtract-column-requires : tie.Need-subtract-column-requires Inv-loop μ-loop
-subtract-column-requires c κs = let s = c.before.before.before.before.before.before.before.before.before.before.before.before.before in let k = c.before.before.before.before.before.before.wide in
-    let l = c.before.before.before.before.before.before.before.before.before.before.loop.inv in let h = c.before.before.before.before.before.before.before.before.if1.taken in
+subtract-column-requires c κs = let s = c.before.before.before.before.before.before.before.before.before.before.before.before in let k = c.before.before.before.before.before.wide in
+    let l = c.before.before.before.before.before.before.before.before.before.loop.inv in let h = c.before.before.before.before.before.before.before.if1.taken in
     omega (arith, target-room s.pre.1 l.1 h k.result k.ensures s.pre.3, source-room s.pre.1 l.1 h)
 
 add-ax : tie.Need-add-ax Inv-loop μ-loop
-add-ax c = omega (arith, source-room c.before.before.before.before.before.before.before.before.before.before.before.before.before.before.before.before.before.before.pre.1 c.before.before.before.before.before.before.before.before.before.before.before.before.before.before.before.loop.inv.1 (omega arith))
+add-ax c = omega (arith, source-room c.before.before.before.before.before.before.before.before.before.before.before.before.before.before.before.before.before.pre.1 c.before.before.before.before.before.before.before.before.before.before.before.before.before.before.loop.inv.1 (omega arith))
 
 loop-again : tie.Need-loop-again Inv-loop μ-loop
-loop-again c = let s = c.before.before.before.before.before.before.before.before.before.before.before.before.before.before.before.before.before.before in let k = c.before.before.before.before.before.before.before.before.before.before.before.wide in
-    (omega arith, sparse-more s.pre.1 c.before.before.before.before.before.before.before.before.before.before.before.before.before.before.before.loop.inv.1 c.before.before.before.before.before.before.before.before.before.before.before.before.before.if1.taken k.result k.ensures s.pre.3 refl c.before.before.before.before.subtract-column.ensures)
+loop-again c = let s = c.before.before.before.before.before.before.before.before.before.before.before.before.before.before.before.before.before in let k = c.before.before.before.before.before.before.before.before.before.before.wide in
+    (omega arith, sparse-more s.pre.1 c.before.before.before.before.before.before.before.before.before.before.before.before.before.before.loop.inv.1 c.before.before.before.before.before.before.before.before.before.before.before.before.if1.taken k.result k.ensures s.pre.3 refl c.before.before.before.before.subtract-column.ensures)
 
 returns : tie.Need-returns Inv-loop μ-loop
 returns c = sparse-all c.before.before.before.before.before.pre.1 c.before.before.loop.inv.1 (omega arith)
 
 pub subtract-sparse-spec : {M : Type 1} → statement M
 subtract-sparse-spec = tie.close (tie.spec Inv-loop μ-loop loop-holds (λ c. search needs) (λ c. search needs) (λ c. search needs)
-    (λ c κs. search needs) add-f mul-f slice-read-f (λ c. search needs) mul-subtract-column add-subtract-column
+    (λ c κs. search needs) add-f mul-f slice-read-f (λ c. search needs) mul-subtract-column
     subtract-column-requires (λ c. search needs) add-ax (λ c. search needs) loop-again (λ c. search needs) returns)
