@@ -7,6 +7,9 @@ use huskcanyon::{Mode, Refusal, Workspace};
 
 /// The deviance as a number to be made small: a theta without one, or with NaN, is worse than any other.
 fn cost(workspace: &mut Workspace, theta: &[f64], mode: Mode) -> Result<f64, Refusal> {
+    if theta.iter().any(|number| !number.is_finite()) {
+        return Ok(f64::INFINITY);
+    }
     let deviance = workspace.profile_deviance(theta, mode)?;
     Ok(deviance.value().filter(|value| !value.is_nan()).unwrap_or(f64::INFINITY))
 }
@@ -18,7 +21,7 @@ fn along(from: &[f64], to: &[f64], t: f64) -> Vec<f64> {
 
 /// The theta with the least deviance, from theta 1 on.
 fn fit(workspace: &mut Workspace, mode: Mode) -> Result<Vec<f64>, Refusal> {
-    let blocks = workspace.blocks();
+    let blocks = workspace.theta_length();
     let mut simplex = Vec::new();
     for corner in 0..=blocks {
         let theta: Vec<f64> = (0..blocks).map(|block| if block == corner { 1.5 } else { 1.0 }).collect();
@@ -94,6 +97,7 @@ mod tests {
             let near = |a: f64, b: f64, by: f64| assert!((a - b).abs() <= by * b.abs().max(1.0), "{line}: {a}");
             near(deviance, numbers(fields[3])[0], 1e-9);
             near(solution.sigma2.sqrt(), numbers(fields[4])[0], 1e-4);
+            assert_eq!((theta.len(), solution.beta.len()), (numbers(fields[2]).len(), numbers(fields[5]).len()), "{line}");
             theta.iter().zip(numbers(fields[2])).for_each(|(&a, b)| near(a, b, 1e-4));
             solution.beta.iter().zip(numbers(fields[5])).for_each(|(&a, b)| near(a, b, 1e-9));
         }

@@ -1,6 +1,7 @@
 //! The factor, the deviance and the solution of a linear mixed model with an intercept for each level, from a sheet of cross-products. The work is done by
 //! an archive whose every function is proved to meet its contract (the Rattle crate `capi` of this repository): to the last bit the same every time, in
-//! whatever order the steps of an update are done. This package lends it memory and gives its answers names; it does no arithmetic of its own.
+//! whatever order the steps of an update are done. This package lends it memory and gives its answers names; it does no
+//! floating-point arithmetic. Sizes and which steps are ready it reads from the workspace's heading. It is tested, not proved.
 //!
 //! "Document 01" is the specification: the sheet is its Record 1, the steps its Record 4, the deviance its Record 6 and the solution its Record 7, and a
 //! [`Refusal`] has the number and the places of its two tables.
@@ -30,8 +31,10 @@
 //! The optimiser that finds such a theta is the caller's: examples/fit.rs has one.
 
 #![warn(missing_docs)]
+#![deny(unsafe_code)]
 
 mod answers;
+#[allow(unsafe_code)]
 mod raw;
 mod refusal;
 mod room;

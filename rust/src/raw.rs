@@ -23,8 +23,8 @@ extern "C" {
     fn husk_pivot(heading: *const u32, heading_length: usize, doubles: *const f64, doubles_length: usize, block: u64, row: u64, answer: *mut u64, answer_length: usize) -> u64;
 }
 
-// SAFETY, of every call below: each pointer comes with the length of the slice that it was taken from, the slices are borrowed apart (those that are
-// written by `&mut`), and the functions are proved for all numbers, lengths and contents. They keep no pointer and have no state of their own.
+// SAFETY, of every call below: each pointer comes with the length of the slice that it was taken from; a slice that is written is borrowed by `&mut`, so it
+// overlaps no other, while those that are only read may overlap each other; and the functions are proved for all numbers, lengths and contents. They keep no pointer and have no state of their own.
 
 type Answer<const N: usize> = Result<[u64; N], Refusal>;
 

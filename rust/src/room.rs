@@ -20,6 +20,9 @@ const MOST_PACKED_ROWS: u64 = 316;
 /// The length of a `yy` line, the shortest line with a word.
 const SHORTEST_LINE: u64 = 20;
 
+/// A longer sheet is refused.
+const LONGEST_SHEET: usize = 16_777_216;
+
 /// A guess from the `size` and `block` lines: by Record 2's formula at least what the sheet needs, if load accepts it. It decides nothing: where it is too
 /// small load answers 12, and where the lines are not in form, which load will say, it is no room at all. Nor can a `size` line ask for more than its sheet
 /// is worth: an accepted sheet has a line for each of F numbers, so with fewer bytes than these take there is no room either, and the most that is ever
@@ -29,6 +32,9 @@ pub(crate) fn guess(sheet: &[u8]) -> Room {
 }
 
 fn from_counts(sheet: &[u8]) -> Option<Room> {
+    if sheet.len() > LONGEST_SHEET {
+        return None;
+    }
     let mut lines = sheet.split(|&byte| byte == b'\n');
     let [_, p, q, k, _] = numbers(lines.next()?, "size")?;
     if !(1..=32).contains(&p) || !(1..=8).contains(&k) {

@@ -104,7 +104,7 @@ impl Workspace {
         self.heading[place::FIXED_EFFECTS] as usize
     }
 
-    /// q, the number of random rows: a row for each level of each block.
+    /// q, the number of random rows; today a row for each level of each block.
     ///
     /// ```
     /// # use huskcanyon::{Workspace, WORKED_SHEET};
@@ -115,16 +115,27 @@ impl Workspace {
         self.heading[place::RANDOM_ROWS] as usize
     }
 
-    /// k, the number of blocks of random rows, which is the length of theta too.
+    /// k, the number of blocks of random rows.
     ///
     /// ```
     /// # use huskcanyon::{Workspace, WORKED_SHEET};
-    /// let mut workspace = Workspace::load(WORKED_SHEET)?;
-    /// workspace.begin(&vec![1.0; workspace.blocks()])?;
+    /// assert_eq!(Workspace::load(WORKED_SHEET)?.blocks(), 1);
     /// # Ok::<(), huskcanyon::Refusal>(())
     /// ```
     pub fn blocks(&self) -> usize {
         self.heading[place::BLOCKS] as usize
+    }
+
+    /// How many numbers theta has: today one for each block.
+    ///
+    /// ```
+    /// # use huskcanyon::{Workspace, WORKED_SHEET};
+    /// let mut workspace = Workspace::load(WORKED_SHEET)?;
+    /// workspace.begin(&vec![1.0; workspace.theta_length()])?;
+    /// # Ok::<(), huskcanyon::Refusal>(())
+    /// ```
+    pub fn theta_length(&self) -> usize {
+        self.blocks()
     }
 
     /// Begins an update at theta, one number for each block in sheet order (Record 4); one that was under way is given up. Refused with 13 (list 0), 14.
@@ -250,8 +261,8 @@ impl Workspace {
         Ok(Solution::from_words(deviance, sigma2, &words, p, q))
     }
 
-    /// Puts a new response in the place of the old: Z'y, X'y and y'y, the last a list of one number (Record 3). The factor is no longer a finished one; what
-    /// is left is what loading the sheet with this response would leave. Refused with 13 (list 0, 1 or 2) and 14 (list, index).
+    /// Puts a new response in the place of the old: Z'y, X'y and y'y, the last a list of one number (Record 3). The factor is no longer a finished one;
+    /// every later answer is that of the sheet loaded with this response. Refused with 13 (list 0, 1 or 2) and 14 (list, index).
     ///
     /// ```
     /// use huskcanyon::{Mode, Workspace, WORKED_SHEET};
@@ -371,7 +382,7 @@ mod tests {
         // Dense pairs, a sparse one, and a sparse one whose second block is longer than a packed triangle may be.
         let dense = [large(&[316, 316], false), large(&[1, 250, 400], false), large(&[100; 8], false), large(&[65_535], false)];
         let sparse = [large(&[33_334, 3], true), large(&[40_000, 400], true)];
-        assert!(sparse.iter().all(|sheet| Workspace::load(sheet).unwrap().heading.len() > 30_000));
+        assert!(sparse.iter().all(|sheet| raw::needs(sheet).unwrap().numbers > 30_000));
         for sheet in sheets().into_iter().chain(dense).chain(sparse) {
             let (guess, needs) = (room::guess(&sheet), raw::needs(&sheet).unwrap());
             assert!(guess.doubles >= needs.doubles && guess.numbers >= needs.numbers, "{guess:?} {needs:?}");

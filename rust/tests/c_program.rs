@@ -48,6 +48,16 @@ solve 25: 0 0 0 0
 profile deviance 0: 0 0 1
 solve 0: 0 0
 beta 4000000000000000
+begin, infinite theta 14: 0 0
+load 0: 0 0
+no scale 0: 0 0 3 0 7fefffffffffffff
+load 0: 0 0
+refused pivot 26: 1 0 2 0 7fefffffffffffff
+working doubles other than 0: 0
+load 0: 0 0
+NaN 0: 0 0 1 7ff8000000000000 7ff8000000000000
+solve 27: 0 0 0 0
+results other than 0: 0
 steps left, no workspace 20: 0 0 0
 step, no workspace 20: 0 0
 root 1.5, logarithm 0

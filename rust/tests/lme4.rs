@@ -49,7 +49,7 @@ fn compare(name: &str, thetas: usize) {
     let mut workspace = Workspace::load(example(&format!("{name}/sheet.txt")).as_bytes()).unwrap();
     for index in 1..=thetas {
         let given = words(&example(&format!("{name}/theta-{index}.txt")), 0);
-        let theta: Vec<f64> = (0..workspace.blocks()).map(|block| given[&format!("theta {block}")]).collect();
+        let theta: Vec<f64> = (0..workspace.theta_length()).map(|block| given[&format!("theta {block}")]).collect();
         let place = format!("{name} at theta {index}");
         let mut answers = Answers { place, values: words(&example(&format!("{name}/answer-{index}.txt")), 1), compared: HashSet::new() };
 

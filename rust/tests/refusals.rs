@@ -1,6 +1,6 @@
 //! Every refusal of document 01's two tables that can be provoked through the package, with its places and its words.
 //!
-//! Two cannot be: 12, since `Workspace::load` asks what a sheet needs, and 20, since nobody else writes a workspace. Nor can 13 for the result list, since
+//! Two cannot be: 12, since `Workspace::load` guesses room enough and else asks what a sheet needs, and 20, since nobody else writes a workspace. Nor can 13 for the result list, since
 //! `Workspace::solve` makes it. All three are provoked in src/workspace.rs, which sees the memory, and by the C program (tests/c/).
 
 mod common;
@@ -119,6 +119,8 @@ fn number_9_an_entry_is_zero_misplaced_or_without_mirror() {
     let line = penicillin.lines().position(|line| line.starts_with("zz\t0\t24\t")).unwrap() + 1;
     let without = penicillin.replacen("zz\t24\t0\t3ff0000000000000\n", "", 1);
     hold_load(without.as_bytes(), 9, [line as u64, 0], "without a mirror of equal bits");
+    let unequal = penicillin.replacen("zz\t24\t0\t3ff0000000000000\n", "zz\t24\t0\t3ff0000000000001\n", 1);
+    hold_load(unequal.as_bytes(), 9, [line as u64, 0], "without a mirror of equal bits");
 }
 
 #[test]
@@ -323,7 +325,7 @@ fn a_refusal_is_an_error_like_others() {
     assert!(refusal.source().is_none());
 }
 
-/// A new response leaves what the sheet with that response leaves.
+/// After a new response every answer is that of the sheet with that response.
 #[test]
 fn a_new_response_is_a_new_sheet() {
     let (a, b, c) = (word(1.5), word(-2.25), word(88.0));

@@ -17,7 +17,7 @@ fn sheets() -> Vec<String> {
 }
 
 fn theta(workspace: &Workspace, random: &mut Random) -> Vec<f64> {
-    (0..workspace.blocks()).map(|_| random.below(4000) as f64 / 1000.0 - 1.0).collect()
+    (0..workspace.theta_length()).map(|_| random.below(4000) as f64 / 1000.0 - 1.0).collect()
 }
 
 /// All steps, each time one of the ready ones.

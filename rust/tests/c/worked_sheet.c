@@ -1,11 +1,12 @@
 /*
  * Solves the worked sheet of document 01 through include/huskcanyon.h and prints what comes out; tests/c_program.rs compiles and runs it and has the text
  * that it must print. Doubles are printed as their words. It also provokes what a Rust caller cannot: 12, 20, 13 for the result list, and the boundary's
- * own numbers from 100 on.
+ * own numbers from 100 on; and looks at what 26 and 27 leave.
  */
 #include <huskcanyon.h>
 
 #include <inttypes.h>
+#include <math.h>
 #include <stdio.h>
 #include <stdlib.h>
 #include <string.h>
@@ -18,6 +19,17 @@ static const char sheet[] = "size\t3\t1\t1\t1\t1\n"
                             "xx\t0\t0\t4014000000000000\n"
                             "xy\t0\t4018000000000000\n"
                             "yy\t4022000000000000\n";
+
+/* The same with one reading; with 0.5 for X'X, so that the pivot of block 1, row 0, is -0.5; and without its entry of Z'Z. */
+static const char one_reading[] = "size\t1\t1\t1\t1\t1\nblock\t1\t1\nzz\t0\t0\t4008000000000000\nzx\t0\t0\t4000000000000000\nzy\t0\t4010000000000000\n"
+                                  "xx\t0\t0\t4014000000000000\nxy\t0\t4018000000000000\nyy\t4022000000000000\n";
+static const char small_product[] = "size\t3\t1\t1\t1\t1\nblock\t1\t1\nzz\t0\t0\t4008000000000000\nzx\t0\t0\t4000000000000000\nzy\t0\t4010000000000000\n"
+                                    "xx\t0\t0\t3fe0000000000000\nxy\t0\t4018000000000000\nyy\t4022000000000000\n";
+static const char no_entry[] = "size\t3\t1\t1\t1\t1\nblock\t1\t1\nzx\t0\t0\t4000000000000000\nzy\t0\t4010000000000000\n"
+                               "xx\t0\t0\t4014000000000000\nxy\t0\t4018000000000000\nyy\t4022000000000000\n";
+
+/* The loaded numbers: a diagonal, two fixed rows, a triangle of three. */
+enum { LOADED = 6 };
 
 /* beta, b, u, L_X, w of y, w of the column: p + 2q + p(p+1)/2 + q(p+1) with p = q = 1. */
 enum { RESULTS = 6, ML = 0, REML = 1, S = 0, C = 1, T = 2 };
@@ -104,6 +116,28 @@ int main(void) {
     print("profile deviance", husk_profile_deviance(heading, n, doubles, d, theta, 1, ML, answer, 5), 3);
     print("solve", husk_solve_profile_blocked(heading, n, doubles, d, ML, out, RESULTS, words, RESULTS, answer, 5), 2);
     printf("beta %" PRIx64 "\n", words[0]);
+
+    /* 14; the other cases of a deviance; what 26 and 27 leave. */
+    const double infinite[] = {HUGE_VAL}, large[] = {1e200};
+    print("begin, infinite theta", husk_begin(heading, n, doubles, d, infinite, 1, answer, 5), 2);
+    print("load", husk_load((const uint8_t *)one_reading, strlen(one_reading), heading, n, doubles, d, answer, 5), 2);
+    print("no scale", husk_profile_deviance(heading, n, doubles, d, theta, 1, REML, answer, 5), 5);
+    print("load", husk_load((const uint8_t *)small_product, strlen(small_product), heading, n, doubles, d, answer, 5), 2);
+    print("refused pivot", husk_profile_deviance(heading, n, doubles, d, theta, 1, ML, answer, 5), 5);
+    size_t left = 0;
+    for (size_t i = LOADED; i < d; i++)
+        left += doubles[i] != 0.0;
+    printf("working doubles other than 0: %zu\n", left);
+    print("load", husk_load((const uint8_t *)no_entry, strlen(no_entry), heading, n, doubles, d, answer, 5), 2);
+    print("NaN", husk_profile_deviance(heading, n, doubles, d, large, 1, ML, answer, 5), 5);
+    for (size_t i = 0; i < RESULTS; i++)
+        out[i] = 7.0, words[i] = 7;
+    print("solve", husk_solve_profile_blocked(heading, n, doubles, d, ML, out, RESULTS, words, RESULTS, answer, 5), 4);
+    left = 0;
+    for (size_t i = 0; i < RESULTS; i++)
+        left += out[i] != 0.0 || words[i] != 0;
+    printf("results other than 0: %zu\n", left);
+
     heading[3] = 9;
     print("steps left, no workspace", husk_steps_left(heading, n, answer, 5), 3);
     print("step, no workspace", husk_step(heading, n, doubles, d, C, 0, 0, 0, answer, 5), 2);
