@@ -1,7 +1,7 @@
 // Begin's blocks, all of them (document 01, Record 4): diagonals and triangles, cross blocks, fixed rows, the last triangle.
 ghost use Rattle.std.specs.Prelude.{◌≡◌, true, ◌+◌, ◌≤◌, ◌<◌, length};
 ghost use Rattle.storage.specs.Part.{part, store};
-ghost use Rattle.layout.specs.Shapes.{factors, across, pairs, targets, thetaLength};
+ghost use Rattle.layout.specs.Shapes.{factors, across, pairs, targets, theta_length};
 ghost use Rattle.begin.specs.scaled_blocks.Scaled.{BlockScaled, BlocksScaled};
 ghost use Rattle.heading_format.specs.Fits.{Room};
 
@@ -24,7 +24,7 @@ fn copy(doubles: &mut [f64], off: usize, src: usize, n: usize)
 
 // Factor j, scaled: (t·t)·a + 1 on its diagonal, 0 off it.
 fn init_factor(layout: Layout, doubles: &mut [f64], theta: &[f64], j: u64)
-    requires { Room layout (length doubles.old) × (length theta.now ≡ thetaLength layout) × (j < layout.k) }
+    requires { Room layout (length doubles.old) × (length theta.now ≡ theta_length layout) × (j < layout.k) }
     ensures { BlockScaled layout theta.now j j doubles.old doubles.new }
 {
     let b = block_places::block(layout, j, j);
@@ -49,7 +49,7 @@ fn init_last(layout: Layout, doubles: &mut [f64], theta: &[f64])
 
 // All factors, scaled.
 fn init_factors(layout: Layout, doubles: &mut [f64], theta: &[f64])
-    requires { Room layout (length doubles.old) × (length theta.now ≡ thetaLength layout) }
+    requires { Room layout (length doubles.old) × (length theta.now ≡ theta_length layout) }
     ensures { BlocksScaled layout theta.now (factors layout.k) doubles.old doubles.new }
 {
     let k = layout.k;
@@ -62,7 +62,7 @@ fn init_factors(layout: Layout, doubles: &mut [f64], theta: &[f64])
 
 // The blocks of row i left of its factor, scaled.
 fn init_row(layout: Layout, doubles: &mut [f64], theta: &[f64], i: u64)
-    requires { Room layout (length doubles.old) × (length theta.now ≡ thetaLength layout) × (i ≤ layout.k) }
+    requires { Room layout (length doubles.old) × (length theta.now ≡ theta_length layout) × (i ≤ layout.k) }
     ensures { BlocksScaled layout theta.now (across i i) doubles.old doubles.new }
 {
     let mut j: u64 = 0;
@@ -74,7 +74,7 @@ fn init_row(layout: Layout, doubles: &mut [f64], theta: &[f64], i: u64)
 
 // All pairs, scaled.
 fn init_pairs(layout: Layout, doubles: &mut [f64], theta: &[f64])
-    requires { Room layout (length doubles.old) × (length theta.now ≡ thetaLength layout) }
+    requires { Room layout (length doubles.old) × (length theta.now ≡ theta_length layout) }
     ensures { BlocksScaled layout theta.now (pairs layout.k) doubles.old doubles.new }
 {
     let k = layout.k;
@@ -87,7 +87,7 @@ fn init_pairs(layout: Layout, doubles: &mut [f64], theta: &[f64])
 
 // Every working block, scaled; no other double is touched.
 pub fn init_blocks(layout: Layout, doubles: &mut [f64], theta: &[f64])
-    requires { Room layout (length doubles.old) × (length theta.now ≡ thetaLength layout) }
+    requires { Room layout (length doubles.old) × (length theta.now ≡ theta_length layout) }
     ensures { BlocksScaled layout theta.now (targets layout.k) doubles.old doubles.new }
 {
     init_factors(layout, doubles, theta);

@@ -1,10 +1,10 @@
 // Begin on a cross block and on fixed rows (document 01, Record 4): each becomes its loaded block scaled by theta. What begin leaves of every block
 // is defined in specs/scaled_blocks/Scaled.antt.
 ghost use Rattle.std.specs.Prelude.{◌≡◌, true, ◌≤◌, ◌<◌, length};
-ghost use Rattle.layout.specs.Shapes.{thetaLength};
-ghost use Rattle.heading_format.specs.Heading.{validLayout};
+ghost use Rattle.layout.specs.Shapes.{theta_length};
+ghost use Rattle.heading_format.specs.Heading.{valid_layout};
 ghost use Rattle.begin.specs.scaled_blocks.Scaled.{BlockScaled};
-ghost use Rattle.workspace.specs.Memory.{sortedTheta};
+ghost use Rattle.workspace.specs.Memory.{sorted_theta};
 ghost use Rattle.heading_format.specs.Fits.{Room};
 
 use block_places::{block_sizes, places};
@@ -13,8 +13,8 @@ use layout::Layout;
 
 // Theta of sorted block j, out of theta in sheet order.
 pub fn theta_of(layout: Layout, theta: &[f64], j: u64) -> f64
-    requires { (validLayout layout ≡ true) × (length theta.now ≡ thetaLength layout) × (j < layout.k) }
-    ensures { result ≡ sortedTheta layout theta.now j }
+    requires { (valid_layout layout ≡ true) × (length theta.now ≡ theta_length layout) × (j < layout.k) }
+    ensures { result ≡ sorted_theta layout theta.now j }
 {
     let sheet = layout.order[j as usize];
     theta[sheet as usize]
@@ -22,7 +22,7 @@ pub fn theta_of(layout: Layout, theta: &[f64], j: u64) -> f64
 
 // Block (i, j) off the diagonal, scaled: a pair times theta of its column block, then of its row block; fixed rows times theta of their column block.
 pub fn init_off_diagonal(layout: Layout, doubles: &mut [f64], theta: &[f64], i: u64, j: u64)
-    requires { Room layout (length doubles.old) × (length theta.now ≡ thetaLength layout) × (j < i) × (i ≤ layout.k) }
+    requires { Room layout (length doubles.old) × (length theta.now ≡ theta_length layout) × (j < i) × (i ≤ layout.k) }
     ensures { BlockScaled layout theta.now i j doubles.old doubles.new }
 {
     let off = places::working_at(layout, i, j);

@@ -1,7 +1,7 @@
 // What begin writes to the doubles and to progress (document 01, Records 4 and 5).
 ghost use Rattle.std.specs.Prelude.{◌≡◌, ◌≤◌, length};
-ghost use Rattle.layout.specs.Shapes.{thetaLength};
-ghost use Rattle.heading_format.specs.Heading.{underWay};
+ghost use Rattle.layout.specs.Shapes.{theta_length};
+ghost use Rattle.heading_format.specs.Heading.{under_way};
 ghost use Rattle.begin.specs.write_begin.Begun.{DoublesBegun};
 ghost use Rattle.heading_format.specs.Fits.{Room};
 
@@ -15,14 +15,14 @@ use layout::Layout;
 // An update just begun: no step is done, every one is left.
 pub fn under_way(k: u64) -> Progress
     requires { k ≤ 8 }
-    ensures { result ≡ underWay k }
+    ensures { result ≡ under_way k }
 {
     heading_format::undone(State::UnderWay, idle_progress::step_count(k))
 }
 
 // Theta, the working blocks and the sum.
 pub fn write_doubles(layout: Layout, doubles: &mut [f64], theta: &[f64])
-    requires { Room layout (length doubles.old) × (length theta.now ≡ thetaLength layout) }
+    requires { Room layout (length doubles.old) × (length theta.now ≡ theta_length layout) }
     ensures { DoublesBegun layout theta.now doubles.old doubles.new }
 {
     let at = places::theta_at(layout);

@@ -1,8 +1,8 @@
 // How many cells each block has, and how many lie before it (document 01, Record 2).
 ghost use Rattle.std.specs.Prelude.{◌≡◌, true, ◌≤◌, ◌<◌};
 ghost use Rattle.layout.specs.Shapes.{levels, factors, across, pairs, targets, cells_of, before};
-ghost use Rattle.heading_format.specs.Heading.{validLayout};
-ghost use Rattle.block_places.specs.block_sizes.Kind.{sizesOf};
+ghost use Rattle.heading_format.specs.Heading.{valid_layout};
+ghost use Rattle.block_places.specs.block_sizes.Kind.{sizes_of};
 
 use crate::block_kinds;
 use layout::{FactorKind, Layout};
@@ -18,8 +18,8 @@ fn levels_of(layout: Layout, j: u64) -> u64
 
 // The cells of factor j, of which the diagonal alone is loaded.
 fn factor_size(layout: Layout, loaded: bool, j: u64) -> u64
-    requires { (validLayout layout ≡ true) × (j < layout.k) }
-    ensures { result ≡ sizesOf layout loaded j j }
+    requires { (valid_layout layout ≡ true) × (j < layout.k) }
+    ensures { result ≡ sizes_of layout loaded j j }
 {
     let m = levels_of(layout, j);
     if loaded {
@@ -33,8 +33,8 @@ fn factor_size(layout: Layout, loaded: bool, j: u64) -> u64
 
 // The cells of pair (i, j): one for each column where it is sparse, else rows times columns.
 fn pair_size(layout: Layout, loaded: bool, i: u64, j: u64) -> u64
-    requires { (validLayout layout ≡ true) × (j < i) × (i < layout.k) }
-    ensures { result ≡ sizesOf layout loaded i j }
+    requires { (valid_layout layout ≡ true) × (j < i) × (i < layout.k) }
+    ensures { result ≡ sizes_of layout loaded i j }
 {
     if layout.sparse {
         return levels_of(layout, 0);
@@ -44,8 +44,8 @@ fn pair_size(layout: Layout, loaded: bool, i: u64, j: u64) -> u64
 
 // The cells of the fixed rows of factor j, and of the last triangle for j = k.
 fn fixed_size(layout: Layout, loaded: bool, j: u64) -> u64
-    requires { (validLayout layout ≡ true) × (j ≤ layout.k) }
-    ensures { result ≡ sizesOf layout loaded layout.k j }
+    requires { (valid_layout layout ≡ true) × (j ≤ layout.k) }
+    ensures { result ≡ sizes_of layout loaded layout.k j }
 {
     let rows = block_kinds::last_rows(layout);
     if j == layout.k {
@@ -56,8 +56,8 @@ fn fixed_size(layout: Layout, loaded: bool, j: u64) -> u64
 
 // The cells of block (i, j).
 pub fn size_of(layout: Layout, loaded: bool, i: u64, j: u64) -> u64
-    requires { (validLayout layout ≡ true) × (j ≤ i) × (i ≤ layout.k) }
-    ensures { result ≡ sizesOf layout loaded i j }
+    requires { (valid_layout layout ≡ true) × (j ≤ i) × (i ≤ layout.k) }
+    ensures { result ≡ sizes_of layout loaded i j }
 {
     if i == layout.k {
         return fixed_size(layout, loaded, j);
@@ -70,8 +70,8 @@ pub fn size_of(layout: Layout, loaded: bool, i: u64, j: u64) -> u64
 
 // The cells of the first n factors.
 fn factor_cells(layout: Layout, loaded: bool, n: u64) -> u64
-    requires { (validLayout layout ≡ true) × (n ≤ layout.k) }
-    ensures { result ≡ cells_of (sizesOf layout loaded) (factors n) }
+    requires { (valid_layout layout ≡ true) × (n ≤ layout.k) }
+    ensures { result ≡ cells_of (sizes_of layout loaded) (factors n) }
 {
     let mut cells: u64 = 0;
     let mut j: u64 = 0;
@@ -84,8 +84,8 @@ fn factor_cells(layout: Layout, loaded: bool, n: u64) -> u64
 
 // The cells of the first n blocks of row i.
 fn row_cells(layout: Layout, loaded: bool, i: u64, n: u64) -> u64
-    requires { (validLayout layout ≡ true) × (n ≤ i) × (i ≤ layout.k) }
-    ensures { result ≡ cells_of (sizesOf layout loaded) (across i n) }
+    requires { (valid_layout layout ≡ true) × (n ≤ i) × (i ≤ layout.k) }
+    ensures { result ≡ cells_of (sizes_of layout loaded) (across i n) }
 {
     let mut cells: u64 = 0;
     let mut j: u64 = 0;
@@ -98,8 +98,8 @@ fn row_cells(layout: Layout, loaded: bool, i: u64, n: u64) -> u64
 
 // The cells of the pairs of the first n factors.
 fn pair_cells(layout: Layout, loaded: bool, n: u64) -> u64
-    requires { (validLayout layout ≡ true) × (n ≤ layout.k) }
-    ensures { result ≡ cells_of (sizesOf layout loaded) (pairs n) }
+    requires { (valid_layout layout ≡ true) × (n ≤ layout.k) }
+    ensures { result ≡ cells_of (sizes_of layout loaded) (pairs n) }
 {
     let mut cells: u64 = 0;
     let mut i: u64 = 0;
@@ -112,8 +112,8 @@ fn pair_cells(layout: Layout, loaded: bool, n: u64) -> u64
 
 // The cells of the blocks before (i, j): of the factors before it; else of all factors, of the pairs of the rows above, and of its own row.
 pub fn cells_before(layout: Layout, loaded: bool, i: u64, j: u64) -> u64
-    requires { (validLayout layout ≡ true) × (j ≤ i) × (i ≤ layout.k) }
-    ensures { result ≡ before (sizesOf layout loaded) (targets layout.k) i j }
+    requires { (valid_layout layout ≡ true) × (j ≤ i) × (i ≤ layout.k) }
+    ensures { result ≡ before (sizes_of layout loaded) (targets layout.k) i j }
 {
     if i == j {
         if i < layout.k {
@@ -127,8 +127,8 @@ pub fn cells_before(layout: Layout, loaded: bool, i: u64, j: u64) -> u64
 
 // The cells of all blocks.
 pub fn all_cells(layout: Layout, loaded: bool) -> u64
-    requires { validLayout layout ≡ true }
-    ensures { result ≡ cells_of (sizesOf layout loaded) (targets layout.k) }
+    requires { valid_layout layout ≡ true }
+    ensures { result ≡ cells_of (sizes_of layout loaded) (targets layout.k) }
 {
     cells_before(layout, loaded, layout.k, layout.k) + size_of(layout, loaded, layout.k, layout.k)
 }

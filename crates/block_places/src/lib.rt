@@ -7,7 +7,7 @@ pub mod row_map;
 pub mod sheet_rows;
 
 ghost use Rattle.std.specs.Prelude.{◌≡◌, true, ◌≤◌};
-ghost use Rattle.heading_format.specs.Heading.{validLayout};
+ghost use Rattle.heading_format.specs.Heading.{valid_layout};
 ghost use Rattle.block_places.specs.Working.{working};
 
 use layout::Layout;
@@ -15,7 +15,7 @@ use storage::Block;
 
 // Working block (i, j).
 pub fn block(layout: Layout, i: u64, j: u64) -> Block
-    requires { (validLayout layout ≡ true) × (j ≤ i) × (i ≤ layout.k) }
+    requires { (valid_layout layout ≡ true) × (j ≤ i) × (i ≤ layout.k) }
     ensures { result ≡ working layout i j }
 {
     Block {

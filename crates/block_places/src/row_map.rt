@@ -1,9 +1,9 @@
 // The map of a sheet's rows to sorted blocks and levels (document 01, Record 2).
 ghost use Rattle.std.specs.Prelude.{◌≡◌, true, length, get_or, ℕ, ◌+◌, ◌*◌, ◌≤◌, ◌<◌};
-ghost use Rattle.layout.specs.Shapes.{loadedAt};
-ghost use Rattle.heading_format.specs.Heading.{validLayout};
-ghost use Rattle.workspace.specs.Loaded.{rowStart};
-ghost use Rattle.block_places.specs.sheet_rows.Blocks.{blockOfRow, FirstRows, Maps};
+ghost use Rattle.layout.specs.Shapes.{loaded_at};
+ghost use Rattle.heading_format.specs.Heading.{valid_layout};
+ghost use Rattle.workspace.specs.Loaded.{row_start};
+ghost use Rattle.block_places.specs.sheet_rows.Blocks.{block_of_row, FirstRows, Maps};
 
 use crate::sheet_rows::Map;
 use crate::{places, sheet_rows};
@@ -11,8 +11,8 @@ use layout::Layout;
 
 // The rows' starts of the sorted blocks, one after the other.
 fn fill_first(layout: Layout, first: &mut [u64; 8])
-    requires { (validLayout layout ≡ true) × (length first.old ≡ 8) }
-    ensures { (j : ℕ) → j < layout.k → get_or first.new j 0 ≡ rowStart layout j }
+    requires { (valid_layout layout ≡ true) × (length first.old ≡ 8) }
+    ensures { (j : ℕ) → j < layout.k → get_or first.new j 0 ≡ row_start layout j }
 {
     let k = layout.k as usize;
     let mut j: usize = 0;
@@ -24,8 +24,8 @@ fn fill_first(layout: Layout, first: &mut [u64; 8])
 
 // Where loaded block (i, j) starts, for t = 9 i + j; 0 where there is no such block.
 fn start_at(layout: Layout, t: usize) -> u64
-    requires { validLayout layout ≡ true }
-    ensures { (i j : ℕ) → t ≡ i * 9 + j → j ≤ i → i ≤ layout.k → result ≡ loadedAt layout i j }
+    requires { valid_layout layout ≡ true }
+    ensures { (i j : ℕ) → t ≡ i * 9 + j → j ≤ i → i ≤ layout.k → result ≡ loaded_at layout i j }
 {
     let i = (t / 9) as u64;
     let j = (t % 9) as u64;
@@ -40,8 +40,8 @@ fn start_at(layout: Layout, t: usize) -> u64
 
 // The starts of all loaded blocks.
 fn fill_at(layout: Layout, at: &mut [u64; 81])
-    requires { (validLayout layout ≡ true) × (length at.old ≡ 81) }
-    ensures { (i j : ℕ) → j ≤ i → i ≤ layout.k → get_or at.new (i * 9 + j) 0 ≡ loadedAt layout i j }
+    requires { (valid_layout layout ≡ true) × (length at.old ≡ 81) }
+    ensures { (i j : ℕ) → j ≤ i → i ≤ layout.k → get_or at.new (i * 9 + j) 0 ≡ loaded_at layout i j }
 {
     let mut t: usize = 0;
     while t < 81 {
@@ -52,7 +52,7 @@ fn fill_at(layout: Layout, at: &mut [u64; 81])
 
 // The map of a layout.
 pub fn map_of(layout: Layout) -> Map
-    requires { validLayout layout ≡ true }
+    requires { valid_layout layout ≡ true }
     ensures { Maps layout result }
 {
     let mut first: [u64; 8] = [0; 8];
@@ -68,8 +68,8 @@ pub fn map_of(layout: Layout) -> Map
 // The sorted block that has row x of the sheet, or k where none has. The blocks' levels and first rows are lent: a copy of the layout's and the map's lists for
 // each line of a sheet took a fifth of the time of a load.
 pub fn block_of<'a>(layout: Layout, counts: &'a [u64; 8], first: &'a [u64; 8], x: u64) -> u64
-    requires { (validLayout layout ≡ true) × (counts.now ≡ layout.m) × FirstRows layout first.now }
-    ensures { result ≡ blockOfRow layout layout.k x }
+    requires { (valid_layout layout ≡ true) × (counts.now ≡ layout.m) × FirstRows layout first.now }
+    ensures { result ≡ block_of_row layout layout.k x }
 {
     let k = layout.k as usize;
     let mut b = layout.k;

@@ -1,7 +1,7 @@
 // Which sorted block has a row of the sheet (document 01, Record 3: rows keep sheet order, blocks are sorted). Definitions are in specs/sheet_rows/Blocks.antt.
 ghost use Rattle.std.specs.Prelude.{◌≡◌, true, cond, ◌&&◌, ltb, leb, ◌+◌, ◌≤◌, ◌<◌};
-ghost use Rattle.heading_format.specs.Heading.{validLayout, sheetLevels};
-ghost use Rattle.workspace.specs.Loaded.{rowStart};
+ghost use Rattle.heading_format.specs.Heading.{valid_layout, sheet_levels};
+ghost use Rattle.workspace.specs.Loaded.{row_start};
 
 use layout::Layout;
 
@@ -24,8 +24,8 @@ pub fn choose(b: bool, x: u64, other: u64) -> u64
 
 // Levels of the block that has sheet index i.
 fn sheet_levels(layout: Layout, i: u64) -> u64
-    requires { validLayout layout ≡ true }
-    ensures { result ≡ sheetLevels layout layout.k i }
+    requires { valid_layout layout ≡ true }
+    ensures { result ≡ sheet_levels layout layout.k i }
 {
     let k = layout.k as usize;
     let mut m: u64 = 0;
@@ -39,8 +39,8 @@ fn sheet_levels(layout: Layout, i: u64) -> u64
 
 // The first row of sorted block j: the levels of the blocks before it in the sheet.
 pub fn first_row(layout: Layout, j: usize) -> u64
-    requires { (validLayout layout ≡ true) × (j < layout.k) }
-    ensures { result ≡ rowStart layout j }
+    requires { (valid_layout layout ≡ true) × (j < layout.k) }
+    ensures { result ≡ row_start layout j }
 {
     let before = layout.order[j];
     let mut sum: u64 = 0;

@@ -3,7 +3,7 @@
 ghost use Rattle.std.specs.Prelude.{◌≡◌, ◌+◌, ◌≤◌, ◌<◌, length};
 ghost use Rattle.storage.specs.Shape.{columns, size_of};
 ghost use Rattle.rules.specs.Arithmetic.{ieee};
-ghost use Rattle.block_runs.specs.axpy.Axpy.{at, run, addOrSubtract, signed_of, oneMore, fourMore, Some};
+ghost use Rattle.block_runs.specs.axpy.Axpy.{at, run, add_or_subtract, signed_of, one_more, four_more, Some};
 
 // The factor whose product is added where the product with x is to be subtracted.
 fn signed(x: f64, subtract: bool) -> f64
@@ -18,7 +18,7 @@ fn signed(x: f64, subtract: bool) -> f64
 // n sums, each with one product more.
 fn add_one(acc: &mut [f64], n: usize, doubles: &[f64], p: usize, f: f64)
     requires { (n ≤ length acc.old) × (p + n ≤ length doubles.now) }
-    ensures { acc.new ≡ run 0 n (oneMore ieee.plus doubles.now p f (at acc.old)) acc.old }
+    ensures { acc.new ≡ run 0 n (one_more ieee.plus doubles.now p f (at acc.old)) acc.old }
 {
     let mut i = 0;
     while i < n {
@@ -42,7 +42,7 @@ fn add_four(
     f3: f64,
 )
     requires { (n ≤ length acc.old) × (p + n ≤ length doubles.now) × (p1 + n ≤ length doubles.now) × (p2 + n ≤ length doubles.now) × (p3 + n ≤ length doubles.now) }
-    ensures { acc.new ≡ run 0 n (oneMore ieee.plus doubles.now p3 f3 (oneMore ieee.plus doubles.now p2 f2 (oneMore ieee.plus doubles.now p1 f1 (oneMore ieee.plus doubles.now p f (at acc.old))))) acc.old }
+    ensures { acc.new ≡ run 0 n (one_more ieee.plus doubles.now p3 f3 (one_more ieee.plus doubles.now p2 f2 (one_more ieee.plus doubles.now p1 f1 (one_more ieee.plus doubles.now p f (at acc.old))))) acc.old }
 {
     let mut i = 0;
     while i < n {
@@ -68,7 +68,7 @@ fn add_columns(
     subtract: bool,
 )
     requires { (n ≤ rows) × (n ≤ length acc.old) × (p + rows + rows + rows + rows ≤ length doubles.now) × (q + step + step + step < length v.now) }
-    ensures { acc.new ≡ fourMore (addOrSubtract subtract) acc.old n doubles.now p rows v.now q step }
+    ensures { acc.new ≡ four_more (add_or_subtract subtract) acc.old n doubles.now p rows v.now q step }
 {
     let p1 = p + rows;
     let p2 = p1 + rows;
@@ -98,7 +98,7 @@ pub fn add_some(
     subtract: bool,
 ) -> usize
     requires { (0 < left) × (n ≤ rows) × (n ≤ length acc.old) × (r < step) × (p + size_of (columns rows left) ≤ length doubles.now) × (q + size_of (columns step left) ≤ length v.now) }
-    ensures { Some (addOrSubtract subtract) acc.old acc.new n doubles.now p rows v.now q step r left result }
+    ensures { Some (add_or_subtract subtract) acc.old acc.new n doubles.now p rows v.now q step r left result }
 {
     let from = q + r;
     if left < 4 {

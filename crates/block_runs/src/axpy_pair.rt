@@ -3,7 +3,7 @@
 ghost use Rattle.std.specs.Prelude.{◌≡◌, ◌+◌, ◌≤◌, ◌<◌, length};
 ghost use Rattle.storage.specs.Shape.{columns, size_of};
 ghost use Rattle.rules.specs.Arithmetic.{ieee};
-ghost use Rattle.block_runs.specs.axpy.Axpy.{at, run, fourMore, products};
+ghost use Rattle.block_runs.specs.axpy.Axpy.{at, run, four_more, products};
 ghost use Rattle.block_runs.specs.axpy_pair.Pair.{four};
 
 use crate::axpy_products;
@@ -56,8 +56,8 @@ fn add_columns_pair(
     step: usize,
 )
     requires { (n ≤ rows) × (n ≤ length acc.old) × (n ≤ length acc2.old) × (p + rows + rows + rows + rows ≤ length doubles.now) × (q + 1 + step + step + step < length v.now) }
-    ensures acc_after { acc.new ≡ fourMore ieee.plus acc.old n doubles.now p rows v.now q step }
-    ensures acc2_after { acc2.new ≡ fourMore ieee.plus acc2.old n doubles.now p rows v.now (q + 1) step }
+    ensures acc_after { acc.new ≡ four_more ieee.plus acc.old n doubles.now p rows v.now q step }
+    ensures acc2_after { acc2.new ≡ four_more ieee.plus acc2.old n doubles.now p rows v.now (q + 1) step }
 {
     let p1 = p + rows;
     let p2 = p1 + rows;

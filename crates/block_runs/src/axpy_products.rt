@@ -2,7 +2,7 @@
 ghost use Rattle.std.specs.Prelude.{◌≡◌, ◌+◌, ◌≤◌, ◌<◌, length};
 ghost use Rattle.storage.specs.Shape.{columns, size_of};
 ghost use Rattle.rules.specs.Arithmetic.{ieee};
-ghost use Rattle.block_runs.specs.axpy.Axpy.{addOrSubtract, products};
+ghost use Rattle.block_runs.specs.axpy.Axpy.{add_or_subtract, products};
 
 use crate::axpy;
 
@@ -21,7 +21,7 @@ fn apply_products(
     subtract: bool,
 )
     requires { (n ≤ rows) × (n ≤ length acc.old) × (r < step) × (a + size_of (columns rows inner) ≤ length doubles.now) × (b + size_of (columns step inner) ≤ length v.now) }
-    ensures { acc.new ≡ products (addOrSubtract subtract) acc.old n doubles.now a rows v.now b step r inner }
+    ensures { acc.new ≡ products (add_or_subtract subtract) acc.old n doubles.now a rows v.now b step r inner }
 {
     let mut x = 0;
     let mut p = a;

@@ -10,26 +10,26 @@ use Rattle.step_order.specs.Steps.{S, C, T}
 use Rattle.sheet.specs.Sheet.{Sheet}
 use Rattle.refusal.specs.Numbers.{refusal}
 use Rattle.heading_format.specs.declared.State.TheVariants.{Finished}
-use Rattle.heading_format.specs.Heading.{progressOf}
+use Rattle.heading_format.specs.Heading.{progress_of}
 use Rattle.workspace.specs.Memory.{Workspace}
-use Rattle.workspace.specs.Load.{loadSheet}
-use Rattle.workspace.specs.Response.{response, replaceOf}
-use Rattle.update.specs.Calls.{beginOf, step_of, run_of}
+use Rattle.workspace.specs.Load.{load_sheet}
+use Rattle.workspace.specs.Response.{response, replace_of}
+use Rattle.update.specs.Calls.{begin_of, step_of, run_of}
 use Rattle.profile.specs.declared.Deviance.TheVariants.{Value}
 use Rattle.profile.specs.declared.DevianceAnswer.TheVariants.{Given}
-use Rattle.profile.specs.Deviance.{profileOf}
+use Rattle.profile.specs.Deviance.{profile_of}
 use Rattle.workspace.specs.Compute.{word, words}
 use Rattle.update.specs.Compute.{steps}
 use Rattle.book.specs.Calls as Calls
-use Rattle.book.specs.Calls.{Call, begin, step, replaceResponse, profileDeviance, Reply, deviance, refusalOf, replies, leftBy}
-use Rattle.book.specs.Book.{Book, entered, opened, bookReplies, bookAfter, bookLeft, bookState}
-use Rattle.heading_format.specs.Parts.{headingLength}
-use Rattle.sheet.proofs.Made.{countsWith}
+use Rattle.book.specs.Calls.{Call, begin, step, replace_response, profile_deviance, Reply, deviance, refusal_of, replies, left_by}
+use Rattle.book.specs.Book.{Book, entered, opened, book_replies, book_after, book_left, book_state}
+use Rattle.heading_format.specs.Parts.{heading_length}
+use Rattle.sheet.proofs.Made.{counts_with}
 
 abbrev sheet : Sheet
 sheet =
     record {
-      counts = countsWith 3 1 1 1 1;
+      counts = counts_with 3 1 1 1 1;
       blocks = record { m = 1; e = 1 } ∷ [];
       zz = record { line = 3; col = 0; row = 0; word = 0x4008000000000000 } ∷ [];
       zx = 0x4000000000000000 ∷ [];
@@ -44,7 +44,7 @@ one = word 0x3ff0000000000000
 
 unfoldable numbers : List Reply → List ℕ
 numbers [] = []
-numbers (r ∷ l) = (refusalOf r).number ∷ numbers l
+numbers (r ∷ l) = (refusal_of r).number ∷ numbers l
 
 -- The new y'y is too small: the last pivot, block 1, row 1, is refused from there on. The last list of calls ends before it.
 abbrev calls : List Call
@@ -58,10 +58,10 @@ calls =
     ∷ step (C 0)
     ∷ step (C 0)
     ∷ step (T 1 0)
-    ∷ replaceResponse (response (one ∷ []) (one ∷ []) (inf true ∷ []))
-    ∷ replaceResponse (response (word 0x4010000000000000 ∷ []) (word 0x4018000000000000 ∷ []) (one ∷ []))
+    ∷ replace_response (response (one ∷ []) (one ∷ []) (inf true ∷ []))
+    ∷ replace_response (response (word 0x4010000000000000 ∷ []) (word 0x4018000000000000 ∷ []) (one ∷ []))
     ∷ step (S 1 1 0)
-    ∷ profileDeviance (one ∷ []) true
+    ∷ profile_deviance (one ∷ []) true
     ∷ step (C 0)
     ∷ begin (one ∷ [])
     ∷ step (C 0)
@@ -73,71 +73,71 @@ abbrev expected : List ℕ
 expected = 22 ∷ 13 ∷ 14 ∷ 0 ∷ 21 ∷ 24 ∷ 0 ∷ 23 ∷ 0 ∷ 14 ∷ 0 ∷ 22 ∷ 26 ∷ 22 ∷ 0 ∷ 0 ∷ 0 ∷ 0 ∷ []
 
 unfoldable loaded : Workspace
-unfolding steps loadSheet
-loaded = (loadSheet sheet (replicate headingLength 0) (replicate 16 (inf false))).left
+unfolding steps load_sheet
+loaded = (load_sheet sheet (replicate heading_length 0) (replicate 16 (inf false))).left
 
 unfoldable called : List ℕ
-unfolding steps ℕ_discrete loaded numbers replies beginOf step_of replaceOf profileOf
+unfolding steps ℕ_discrete loaded numbers replies begin_of step_of replace_of profile_of
 called = numbers (replies calls loaded)
 
 unfoldable booked : List ℕ
-unfolding steps ℕ_discrete numbers bookReplies loadSheet beginOf run_of replaceOf profileOf
-booked = numbers (bookReplies sheet calls (opened sheet))
+unfolding steps ℕ_discrete numbers book_replies load_sheet begin_of run_of replace_of profile_of
+booked = numbers (book_replies sheet calls (opened sheet))
 
 unfoldable left : Workspace
-unfolding called leftBy
-left = leftBy calls loaded
+unfolding called left_by
+left = left_by calls loaded
 
 unfoldable booked_after : Book
-unfolding booked bookAfter
-booked_after = bookAfter sheet calls (opened sheet)
+unfolding booked book_after
+booked_after = book_after sheet calls (opened sheet)
 
-calls-answer : called ≡ expected
+calls_answer : called ≡ expected
 unfolding called
-calls-answer = refl
+calls_answer = refl
 
-book-answers : booked ≡ expected
+book_answers : booked ≡ expected
 unfolding booked
-book-answers = refl
+book_answers = refl
 
 -- one step is left, and with none all four
-called-left : (progressOf left.heading).left ≡ 1
+called_left : (progress_of left.heading).left ≡ 1
 unfolding left
-called-left = refl
+called_left = refl
 
-booked-left : bookLeft sheet booked_after.done ≡ 1
+booked_left : book_left sheet booked_after.done ≡ 1
 unfolding booked_after
-booked-left = refl
+booked_left = refl
 
-opened-left : bookLeft sheet (opened sheet).done ≡ (progressOf loaded.heading).left
-unfolding loaded progressOf
-opened-left = refl
+opened_left : book_left sheet (opened sheet).done ≡ (progress_of loaded.heading).left
+unfolding loaded progress_of
+opened_left = refl
 
 -- the loaded numbers are the book's: 3, 2 over 4, 5 6 and the new 1
-abbrev numbersNow : List ℕ
-numbersNow =
+abbrev numbers_now : List ℕ
+numbers_now =
     0x4008000000000000 ∷ 0x4000000000000000 ∷ 0x4010000000000000 ∷ 0x4014000000000000 ∷ 0x4018000000000000 ∷ 0x3ff0000000000000 ∷ []
 
-called-loaded : words (take 6 left.doubles) ≡ numbersNow
+called_loaded : words (take 6 left.doubles) ≡ numbers_now
 unfolding left words
-called-loaded = refl
+called_loaded = refl
 
-booked-loaded : words booked_after.loaded ≡ numbersNow
+booked_loaded : words booked_after.loaded ≡ numbers_now
 unfolding booked_after words
-booked-loaded = refl
+booked_loaded = refl
 
 -- C(1) is ready, and refuses its pivot in both
-last-refused : refusalOf (Calls.called (step (C 1)) left).reply ≡ refusal 26 1 1
+last_refused : refusal_of (Calls.called (step (C 1)) left).reply ≡ refusal 26 1 1
 unfolding left step_of
-last-refused = refl
+last_refused = refl
 
-book-refused : refusalOf (entered sheet (step (C 1)) booked_after).reply ≡ refusal 26 1 1
+book_refused : refusal_of (entered sheet (step (C 1)) booked_after).reply ≡ refusal 26 1 1
 unfolding booked_after
-book-refused = refl
+book_refused = refl
 
 -- ---- a second list, to the end of an update by steps and by `profile_deviance`: 22 with all steps done, whatever the step
-abbrev calls-to-end : List Call
-calls-to-end =
+abbrev calls_to_end : List Call
+calls_to_end =
     begin (one ∷ [])
     ∷ step (C 0)
     ∷ step (T 1 0)
@@ -145,40 +145,40 @@ calls-to-end =
     ∷ step (C 1)
     ∷ step (C 0)
     ∷ step (C 9)
-    ∷ profileDeviance (one ∷ []) false
+    ∷ profile_deviance (one ∷ []) false
     ∷ step (C 0)
     ∷ []
 
-abbrev expected-to-end : List ℕ
-expected-to-end = 0 ∷ 0 ∷ 0 ∷ 0 ∷ 0 ∷ 22 ∷ 22 ∷ 0 ∷ 22 ∷ []
+abbrev expected_to_end : List ℕ
+expected_to_end = 0 ∷ 0 ∷ 0 ∷ 0 ∷ 0 ∷ 22 ∷ 22 ∷ 0 ∷ 22 ∷ []
 
-calls-end : numbers (replies calls-to-end loaded) ≡ expected-to-end
+calls_end : numbers (replies calls_to_end loaded) ≡ expected_to_end
 unfolding called
-calls-end = refl
+calls_end = refl
 
-book-ends : numbers (bookReplies sheet calls-to-end (opened sheet)) ≡ expected-to-end
+book_ends : numbers (book_replies sheet calls_to_end (opened sheet)) ≡ expected_to_end
 unfolding booked
-book-ends = refl
+book_ends = refl
 
-calls-finished : (progressOf (leftBy calls-to-end loaded).heading).state ≡ Finished
+calls_finished : (progress_of (left_by calls_to_end loaded).heading).state ≡ Finished
 unfolding left
-calls-finished = refl
+calls_finished = refl
 
-book-finished : bookState sheet (bookAfter sheet calls-to-end (opened sheet)).done ≡ Finished
+book_finished : book_state sheet (book_after sheet calls_to_end (opened sheet)).done ≡ Finished
 unfolding booked_after
-book-finished = refl
+book_finished = refl
 
 -- theta is kept, here 1
-called-theta : words (take 1 (drop 6 (leftBy calls-to-end loaded).doubles)) ≡ 0x3ff0000000000000 ∷ []
+called_theta : words (take 1 (drop 6 (left_by calls_to_end loaded).doubles)) ≡ 0x3ff0000000000000 ∷ []
 unfolding left words
-called-theta = refl
+called_theta = refl
 
-booked-theta : words (bookAfter sheet calls-to-end (opened sheet)).theta ≡ 0x3ff0000000000000 ∷ []
+booked_theta : words (book_after sheet calls_to_end (opened sheet)).theta ≡ 0x3ff0000000000000 ∷ []
 unfolding booked_after words
-booked-theta = refl
+booked_theta = refl
 
 -- a deviance in the mode that is asked for: by ML 3 ln(2π/3) + 2 ln 2 + 3, by REML 2 ln(2π/2) + 2 ln 2 + 2 + 2 ln 2, in Python's doubles
-modes-called : ((Calls.called (profileDeviance (one ∷ []) false) loaded).reply ≡ deviance (Given (Value (word 0x401a6a963a085b3b))))
-    × ((Calls.called (profileDeviance (one ∷ []) true) loaded).reply ≡ deviance (Given (Value (word 0x401c3f89a3f0edd6))))
+modes_called : ((Calls.called (profile_deviance (one ∷ []) false) loaded).reply ≡ deviance (Given (Value (word 0x401a6a963a085b3b))))
+    × ((Calls.called (profile_deviance (one ∷ []) true) loaded).reply ≡ deviance (Given (Value (word 0x401c3f89a3f0edd6))))
 unfolding called
-modes-called = (refl, refl)
+modes_called = (refl, refl)

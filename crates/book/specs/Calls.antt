@@ -6,19 +6,19 @@ use Rattle.refusal.specs.declared.Answer.{Answer}
 use Rattle.workspace.specs.Memory.{Workspace}
 use Rattle.refusal.specs.Numbers as Numbers
 use Rattle.workspace.specs.Answers.{Outcome}
-use Rattle.workspace.specs.Response.{Response, replaceOf}
-use Rattle.update.specs.Calls.{beginOf, step_of}
+use Rattle.workspace.specs.Response.{Response, replace_of}
+use Rattle.update.specs.Calls.{begin_of, step_of}
 use Rattle.profile.specs.declared.DevianceAnswer.{DevianceAnswer}
 use Rattle.profile.specs.Deviance as Deviances
-use Rattle.profile.specs.Deviance.{Profiled, profileOf}
+use Rattle.profile.specs.Deviance.{Profiled, profile_of}
 
 -- a call with its arguments, but for the workspace
 pub data Call : Type 0 where
   begin : List Float → Call
   step : Step → Call
-  replaceResponse : Response → Call
+  replace_response : Response → Call
   -- theta, and whether the mode is REML
-  profileDeviance : List Float → Bool → Call
+  profile_deviance : List Float → Bool → Call
 
 -- what a call answers
 pub data Reply : Type 0 where
@@ -26,9 +26,9 @@ pub data Reply : Type 0 where
   deviance : DevianceAnswer → Reply
 
 -- its number and places
-abbrev pub refusalOf : Reply → Refusal
-refusalOf (plain a) = Numbers.refusalOf a
-refusalOf (deviance d) = Deviances.refusalOf d
+abbrev pub refusal_of : Reply → Refusal
+refusal_of (plain a) = Numbers.refusal_of a
+refusal_of (deviance d) = Deviances.refusal_of d
 
 -- a call's reply, and what it leaves
 pub record Called : Type 0 where
@@ -42,16 +42,16 @@ abbrev pub profiled : Profiled → Called
 profiled o = record { reply = deviance o.answer; left = o.left }
 
 abbrev pub called : Call → Workspace → Called
-called (begin theta) v = outcome (beginOf v.heading v.doubles theta)
+called (begin theta) v = outcome (begin_of v.heading v.doubles theta)
 called (step s) v = outcome (step_of v.heading v.doubles s)
-called (replaceResponse r) v = outcome (replaceOf v.heading v.doubles r)
-called (profileDeviance theta reml) v = profiled (profileOf v.heading v.doubles theta reml)
+called (replace_response r) v = outcome (replace_of v.heading v.doubles r)
+called (profile_deviance theta reml) v = profiled (profile_of v.heading v.doubles theta reml)
 
 -- the replies of a list of calls, and what the last one leaves
 unfoldable pub replies : List Call → Workspace → List Reply
 replies [] v = []
 replies (c ∷ l) v = (called c v).reply ∷ replies l (called c v).left
 
-unfoldable pub leftBy : List Call → Workspace → Workspace
-leftBy [] v = v
-leftBy (c ∷ l) v = leftBy l (called c v).left
+unfoldable pub left_by : List Call → Workspace → Workspace
+left_by [] v = v
+left_by (c ∷ l) v = left_by l (called c v).left

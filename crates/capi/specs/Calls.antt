@@ -7,31 +7,31 @@ use Rattle.refusal.specs.Numbers.{meaning}
 use Rattle.workspace.specs.Memory.{Workspace}
 use Rattle.workspace.specs.Answers.{Outcome, workspace}
 use Rattle.workspace.specs.Load.{load_of}
-use Rattle.workspace.specs.Response.{Response, replaceOf}
-use Rattle.update.specs.Calls.{beginOf, step_of}
-use Rattle.profile.specs.Deviance.{Profiled, devianceMeaning, devianceFromFactor, profileOf}
-use Rattle.profile.specs.Finish.{Solving, solveMeaning, solveOf}
-use Rattle.load.specs.room.Needs.{needsMeaning, needsOf}
-use Rattle.views.specs.Views.{stepsMeaning, viewMeaning, stepsLeftOf, determinantOf, pivotOf}
-use Rattle.capi.specs.Told.{Told, leaves, wordOf, toldAnswer, toldDeviance, toldSolve, toldNeeds, toldSteps, toldView}
+use Rattle.workspace.specs.Response.{Response, replace_of}
+use Rattle.update.specs.Calls.{begin_of, step_of}
+use Rattle.profile.specs.Deviance.{Profiled, deviance_meaning, deviance_from_factor, profile_of}
+use Rattle.profile.specs.Finish.{Solving, solve_meaning, solve_of}
+use Rattle.load.specs.room.Needs.{needs_meaning, needs_of}
+use Rattle.views.specs.Views.{steps_meaning, view_meaning, steps_left_of, determinant_of, pivot_of}
+use Rattle.capi.specs.Told.{Told, leaves, word_of, told_answer, told_deviance, told_solve, told_needs, told_steps, told_view}
 
 -- ---- the boundary's tests
 abbrev pub shorter : List ℕ → ℕ → Bool
 shorter answer n = ltb (length answer) n
 
 -- 0 is ML, 1 is REML
-abbrev pub noMode : ℕ → Bool
-noMode mode = ltb 1 mode
+abbrev pub no_mode : ℕ → Bool
+no_mode mode = ltb 1 mode
 
-abbrev pub isReml : ℕ → Bool
-isReml mode = eqb mode 1
+abbrev pub is_reml : ℕ → Bool
+is_reml mode = eqb mode 1
 
 -- 0 is S, 1 is C, 2 is T
-abbrev pub noKind : ℕ → Bool
-noKind kind = ltb 2 kind
+abbrev pub no_kind : ℕ → Bool
+no_kind kind = ltb 2 kind
 
-abbrev pub stepNamed : ℕ → ℕ → ℕ → ℕ → Step
-stepNamed kind i j h = cond (eqb kind 0) (S i j h) (cond (eqb kind 1) (C i) (T i j))
+abbrev pub step_named : ℕ → ℕ → ℕ → ℕ → Step
+step_named kind i j h = cond (eqb kind 0) (S i j h) (cond (eqb kind 1) (C i) (T i j))
 
 -- ---- the functions that may change the workspace
 pub record Called : Type 0 where
@@ -42,48 +42,48 @@ abbrev pub called : ℕ → List ℕ → List ℕ → List Float → Called
 called n answer h w = record { told = leaves n answer; left = workspace h w }
 
 -- a call that gives no value
-abbrev pub ofOutcome : Outcome → List ℕ → Called
-ofOutcome o answer = record { told = toldAnswer (meaning o.answer) answer; left = o.left }
+abbrev pub of_outcome : Outcome → List ℕ → Called
+of_outcome o answer = record { told = told_answer (meaning o.answer) answer; left = o.left }
 
-abbrev pub ofProfiled : Profiled → List ℕ → Called
-ofProfiled o answer = record { told = toldDeviance (devianceMeaning o.answer) answer; left = o.left }
+abbrev pub of_profiled : Profiled → List ℕ → Called
+of_profiled o answer = record { told = told_deviance (deviance_meaning o.answer) answer; left = o.left }
 
-abbrev pub loadCall : List ℕ → List ℕ → List Float → List ℕ → Called
-loadCall sheet h w answer = pick (shorter answer 2) (called 100 answer h w) (ofOutcome (load_of sheet h w) answer)
+abbrev pub load_call : List ℕ → List ℕ → List Float → List ℕ → Called
+load_call sheet h w answer = pick (shorter answer 2) (called 100 answer h w) (of_outcome (load_of sheet h w) answer)
 
-abbrev pub beginCall : List ℕ → List Float → List Float → List ℕ → Called
-beginCall h w theta answer = pick (shorter answer 2) (called 100 answer h w) (ofOutcome (beginOf h w theta) answer)
+abbrev pub begin_call : List ℕ → List Float → List Float → List ℕ → Called
+begin_call h w theta answer = pick (shorter answer 2) (called 100 answer h w) (of_outcome (begin_of h w theta) answer)
 
-abbrev pub stepCall : List ℕ → List Float → ℕ → ℕ → ℕ → ℕ → List ℕ → Called
-stepCall h w kind i j x answer =
+abbrev pub step_call : List ℕ → List Float → ℕ → ℕ → ℕ → ℕ → List ℕ → Called
+step_call h w kind i j x answer =
     pick (shorter answer 2) (called 100 answer h w)
-    (pick (noKind kind) (called 102 answer h w) (ofOutcome (step_of h w (stepNamed kind i j x)) answer))
+    (pick (no_kind kind) (called 102 answer h w) (of_outcome (step_of h w (step_named kind i j x)) answer))
 
-abbrev pub replaceCall : List ℕ → List Float → Response → List ℕ → Called
-replaceCall h w new answer = pick (shorter answer 2) (called 100 answer h w) (ofOutcome (replaceOf h w new) answer)
+abbrev pub replace_call : List ℕ → List Float → Response → List ℕ → Called
+replace_call h w new answer = pick (shorter answer 2) (called 100 answer h w) (of_outcome (replace_of h w new) answer)
 
-abbrev pub profileCall : List ℕ → List Float → List Float → ℕ → List ℕ → Called
-profileCall h w theta mode answer =
+abbrev pub profile_call : List ℕ → List Float → List Float → ℕ → List ℕ → Called
+profile_call h w theta mode answer =
     pick (shorter answer 5) (called 100 answer h w)
-    (pick (noMode mode) (called 101 answer h w) (ofProfiled (profileOf h w theta (isReml mode)) answer))
+    (pick (no_mode mode) (called 101 answer h w) (of_profiled (profile_of h w theta (is_reml mode)) answer))
 
 -- ---- the functions that only look
-abbrev pub needsCall : List ℕ → List ℕ → Told
-needsCall sheet answer = pick (shorter answer 4) (leaves 100 answer) (toldNeeds (needsMeaning (needsOf sheet)) answer)
+abbrev pub needs_call : List ℕ → List ℕ → Told
+needs_call sheet answer = pick (shorter answer 4) (leaves 100 answer) (told_needs (needs_meaning (needs_of sheet)) answer)
 
-abbrev pub devianceCall : List ℕ → List Float → ℕ → List ℕ → Told
-devianceCall h w mode answer =
+abbrev pub deviance_call : List ℕ → List Float → ℕ → List ℕ → Told
+deviance_call h w mode answer =
     pick (shorter answer 5) (leaves 100 answer)
-    (pick (noMode mode) (leaves 101 answer) (toldDeviance (devianceMeaning (devianceFromFactor h w (isReml mode))) answer))
+    (pick (no_mode mode) (leaves 101 answer) (told_deviance (deviance_meaning (deviance_from_factor h w (is_reml mode))) answer))
 
-abbrev pub stepsCall : List ℕ → List ℕ → Told
-stepsCall h answer = pick (shorter answer 3) (leaves 100 answer) (toldSteps (stepsMeaning (stepsLeftOf h)) answer)
+abbrev pub steps_call : List ℕ → List ℕ → Told
+steps_call h answer = pick (shorter answer 3) (leaves 100 answer) (told_steps (steps_meaning (steps_left_of h)) answer)
 
-abbrev pub determinantCall : List ℕ → List Float → List ℕ → Told
-determinantCall h w answer = pick (shorter answer 4) (leaves 100 answer) (toldView (viewMeaning (determinantOf h w)) answer)
+abbrev pub determinant_call : List ℕ → List Float → List ℕ → Told
+determinant_call h w answer = pick (shorter answer 4) (leaves 100 answer) (told_view (view_meaning (determinant_of h w)) answer)
 
-abbrev pub pivotCall : List ℕ → List Float → ℕ → ℕ → List ℕ → Told
-pivotCall h w block row answer = pick (shorter answer 4) (leaves 100 answer) (toldView (viewMeaning (pivotOf h w block row)) answer)
+abbrev pub pivot_call : List ℕ → List Float → ℕ → ℕ → List ℕ → Told
+pivot_call h w block row answer = pick (shorter answer 4) (leaves 100 answer) (told_view (view_meaning (pivot_of h w block row)) answer)
 
 -- ---- the solution: the result list in which the solver works, and the list of its words
 pub record Solved : Type 0 where
@@ -95,16 +95,16 @@ abbrev pub solved : ℕ → List ℕ → List Float → List ℕ → Solved
 solved n answer out words = record { told = leaves n answer; out = out; words = words }
 
 -- a solution and 27 write the result list, and so its words; 20, 25 and 13 leave both as they were
-abbrev pub wordsLeft : ℕ → List Float → List ℕ → List ℕ
-wordsLeft number result words = pick (eqb number 0 || eqb number 27) (map wordOf result) words
+abbrev pub words_left : ℕ → List Float → List ℕ → List ℕ
+words_left number result words = pick (eqb number 0 || eqb number 27) (map word_of result) words
 
-abbrev pub ofSolving : Solving → List ℕ → List ℕ → Solved
-ofSolving s words answer =
-    let m = solveMeaning s.answer in
-    record { told = toldSolve m answer; out = s.result; words = wordsLeft m.refusal.number s.result words }
+abbrev pub of_solving : Solving → List ℕ → List ℕ → Solved
+of_solving s words answer =
+    let m = solve_meaning s.answer in
+    record { told = told_solve m answer; out = s.result; words = words_left m.refusal.number s.result words }
 
-abbrev pub solveCall : List ℕ → List Float → ℕ → List Float → List ℕ → List ℕ → Solved
-solveCall h w mode out words answer =
+abbrev pub solve_call : List ℕ → List Float → ℕ → List Float → List ℕ → List ℕ → Solved
+solve_call h w mode out words answer =
     pick (shorter answer 4) (solved 100 answer out words)
-    (pick (noMode mode) (solved 101 answer out words)
-    (pick (not (eqb (length words) (length out))) (solved 103 answer out words) (ofSolving (solveOf h w (isReml mode) out) words answer)))
+    (pick (no_mode mode) (solved 101 answer out words)
+    (pick (not (eqb (length words) (length out))) (solved 103 answer out words) (of_solving (solve_of h w (is_reml mode) out) words answer)))

@@ -25,17 +25,17 @@ abbrev pub told : Refusal → List ℕ → List ℕ → Told
 told r values l = leaves r.number (store 0 (r.first ∷ r.second ∷ values) l)
 
 -- the word of a double, of a NaN 7ff8000000000000, and 0 where there is none
-abbrev pub wordOf : Float → ℕ
-wordOf x = to_bits binary64 x
+abbrev pub word_of : Float → ℕ
+word_of x = to_bits binary64 x
 
 abbrev pub word : Option Float → ℕ
 word none = 0
-word (some x) = wordOf x
+word (some x) = word_of x
 
 -- the words of two doubles
 abbrev pub scalars : Option Solution → List ℕ
 scalars none = 0 ∷ 0 ∷ []
-scalars (some s) = wordOf s.deviance ∷ wordOf s.sigma2 ∷ []
+scalars (some s) = word_of s.deviance ∷ word_of s.sigma2 ∷ []
 
 abbrev pub count : Option ℕ → ℕ
 count none = 0
@@ -54,25 +54,25 @@ case_of none false (some r) = 2
 case_of none false none = 0
 
 -- ---- the words behind the places, for each kind of answer
-abbrev pub toldAnswer : Meaning → List ℕ → Told
-toldAnswer m l = told m.refusal [] l
+abbrev pub told_answer : Meaning → List ℕ → Told
+told_answer m l = told m.refusal [] l
 
 -- the case, the deviance, the Rust's value
-abbrev pub toldDeviance : DevianceMeaning → List ℕ → Told
-toldDeviance m l = told m.refusal (case_of m.value m.noScale m.rust ∷ word m.value ∷ word m.rust ∷ []) l
+abbrev pub told_deviance : DevianceMeaning → List ℕ → Told
+told_deviance m l = told m.refusal (case_of m.value m.no_scale m.rust ∷ word m.value ∷ word m.rust ∷ []) l
 
 -- the deviance and sigma2
-abbrev pub toldSolve : SolveMeaning → List ℕ → Told
-toldSolve m l = told m.refusal (scalars m.solution) l
+abbrev pub told_solve : SolveMeaning → List ℕ → Told
+told_solve m l = told m.refusal (scalars m.solution) l
 
 -- the doubles and the numbers that load wants
-abbrev pub toldNeeds : NeedsMeaning → List ℕ → Told
-toldNeeds m l = told m.refusal (count m.doubles ∷ count m.numbers ∷ []) l
+abbrev pub told_needs : NeedsMeaning → List ℕ → Told
+told_needs m l = told m.refusal (count m.doubles ∷ count m.numbers ∷ []) l
 
 -- the steps left
-abbrev pub toldSteps : StepsMeaning → List ℕ → Told
-toldSteps m l = told m.refusal (count m.steps ∷ []) l
+abbrev pub told_steps : StepsMeaning → List ℕ → Told
+told_steps m l = told m.refusal (count m.steps ∷ []) l
 
 -- 1 where there is a value, and the value
-abbrev pub toldView : ViewMeaning → List ℕ → Told
-toldView m l = told m.refusal (there m.value ∷ word m.value ∷ []) l
+abbrev pub told_view : ViewMeaning → List ℕ → Told
+told_view m l = told m.refusal (there m.value ∷ word m.value ∷ []) l

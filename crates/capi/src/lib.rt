@@ -4,13 +4,13 @@ mod answer_list;
 mod tell_answers;
 
 ghost use Rattle.std.specs.Prelude.{◌≡◌, map, ◌≤◌, length};
-ghost use Rattle.square_root.specs.Root.{sqrtOf};
-ghost use Rattle.logarithm.specs.Ln.{lnOf};
+ghost use Rattle.square_root.specs.Root.{sqrt_of};
+ghost use Rattle.logarithm.specs.Ln.{ln_of};
 ghost use Rattle.workspace.specs.Response.{response};
-ghost use Rattle.update.specs.Names.{stepOfName};
-ghost use Rattle.profile.specs.Finish.{solveOf};
-ghost use Rattle.capi.specs.Told.{leaves, wordOf};
-ghost use Rattle.capi.specs.Calls.{stepNamed, called, needsCall, loadCall, beginCall, stepCall, replaceCall, profileCall, devianceCall, stepsCall, determinantCall, pivotCall, solved, ofSolving, solveCall};
+ghost use Rattle.update.specs.Names.{step_of_name};
+ghost use Rattle.profile.specs.Finish.{solve_of};
+ghost use Rattle.capi.specs.Told.{leaves, word_of};
+ghost use Rattle.capi.specs.Calls.{step_named, called, needs_call, load_call, begin_call, step_call, replace_call, profile_call, deviance_call, steps_call, determinant_call, pivot_call, solved, of_solving, solve_call};
 
 use float_bits::words::word_of;
 use update::StepName;
@@ -27,7 +27,7 @@ const WORDS_LENGTH: u64 = 103;
 // square_root::sqrt.
 #[unsafe(no_mangle)]
 pub extern "C" fn husk_sqrt(x: f64) -> f64
-    ensures { result ≡ sqrtOf x }
+    ensures { result ≡ sqrt_of x }
 {
     square_root::sqrt(x)
 }
@@ -35,7 +35,7 @@ pub extern "C" fn husk_sqrt(x: f64) -> f64
 // logarithm::ln.
 #[unsafe(no_mangle)]
 pub extern "C" fn husk_ln(x: f64) -> f64
-    ensures { result ≡ lnOf x }
+    ensures { result ≡ ln_of x }
 {
     logarithm::ln(x)
 }
@@ -43,7 +43,7 @@ pub extern "C" fn husk_ln(x: f64) -> f64
 // load::needs.
 #[unsafe(no_mangle)]
 pub extern "C" fn husk_needs(sheet: &[u8], answer: &mut [u64]) -> u64
-    ensures { leaves result answer.new ≡ needsCall sheet.now answer.old }
+    ensures { leaves result answer.new ≡ needs_call sheet.now answer.old }
 {
     if answer.len() < 4 {
         return SHORT_ANSWER;
@@ -59,7 +59,7 @@ pub extern "C" fn husk_load(
     doubles: &mut [f64],
     answer: &mut [u64],
 ) -> u64
-    ensures { called result answer.new heading.new doubles.new ≡ loadCall sheet.now heading.old doubles.old answer.old }
+    ensures { called result answer.new heading.new doubles.new ≡ load_call sheet.now heading.old doubles.old answer.old }
 {
     if answer.len() < 2 {
         return SHORT_ANSWER;
@@ -75,7 +75,7 @@ pub extern "C" fn husk_begin(
     theta: &[f64],
     answer: &mut [u64],
 ) -> u64
-    ensures { called result answer.new heading.new doubles.new ≡ beginCall heading.old doubles.old theta.now answer.old }
+    ensures { called result answer.new heading.new doubles.new ≡ begin_call heading.old doubles.old theta.now answer.old }
 {
     if answer.len() < 2 {
         return SHORT_ANSWER;
@@ -85,7 +85,7 @@ pub extern "C" fn husk_begin(
 
 // The step of a kind, of which there are three.
 fn name(kind: u64, i: u64, j: u64, h: u64) -> StepName
-    ensures { stepOfName result ≡ stepNamed kind i j h }
+    ensures { step_of_name result ≡ step_named kind i j h }
 {
     if kind == 0 {
         return StepName::S(i, j, h);
@@ -107,7 +107,7 @@ pub extern "C" fn husk_step(
     h: u64,
     answer: &mut [u64],
 ) -> u64
-    ensures { called result answer.new heading.new doubles.new ≡ stepCall heading.old doubles.old kind i j h answer.old }
+    ensures { called result answer.new heading.new doubles.new ≡ step_call heading.old doubles.old kind i j h answer.old }
 {
     if answer.len() < 2 {
         return SHORT_ANSWER;
@@ -128,7 +128,7 @@ pub extern "C" fn husk_replace_response(
     yty: &[f64],
     answer: &mut [u64],
 ) -> u64
-    ensures { called result answer.new heading.new doubles.new ≡ replaceCall heading.old doubles.old (response zty.now xty.now yty.now) answer.old }
+    ensures { called result answer.new heading.new doubles.new ≡ replace_call heading.old doubles.old (response zty.now xty.now yty.now) answer.old }
 {
     if answer.len() < 2 {
         return SHORT_ANSWER;
@@ -148,7 +148,7 @@ pub extern "C" fn husk_profile_deviance(
     mode: u64,
     answer: &mut [u64],
 ) -> u64
-    ensures { called result answer.new heading.new doubles.new ≡ profileCall heading.old doubles.old theta.now mode answer.old }
+    ensures { called result answer.new heading.new doubles.new ≡ profile_call heading.old doubles.old theta.now mode answer.old }
 {
     if answer.len() < 5 {
         return SHORT_ANSWER;
@@ -170,7 +170,7 @@ pub extern "C" fn husk_deviance_from_factor(
     mode: u64,
     answer: &mut [u64],
 ) -> u64
-    ensures { leaves result answer.new ≡ devianceCall heading.now doubles.now mode answer.old }
+    ensures { leaves result answer.new ≡ deviance_call heading.now doubles.now mode answer.old }
 {
     if answer.len() < 5 {
         return SHORT_ANSWER;
@@ -187,7 +187,7 @@ pub extern "C" fn husk_deviance_from_factor(
 // The word of each double.
 fn write_words(out: &[f64], words: &mut [u64])
     requires { length words.old ≡ length out.now }
-    ensures { words.new ≡ map wordOf out.now }
+    ensures { words.new ≡ map word_of out.now }
 {
     let mut i: usize = 0;
     while i < out.len() {
@@ -206,7 +206,7 @@ fn solve(
     answer: &mut [u64],
 ) -> u64
     requires { (4 ≤ length answer.old) × (length words.old ≡ length out.old) }
-    ensures { solved result answer.new out.new words.new ≡ ofSolving (solveOf heading.now doubles.now reml out.old) words.old answer.old }
+    ensures { solved result answer.new out.new words.new ≡ of_solving (solve_of heading.now doubles.now reml out.old) words.old answer.old }
 {
     let number = tell_answers::tell_solve(
         solve_profile::solve_profile_blocked(heading, doubles, reml, out),
@@ -228,7 +228,7 @@ pub extern "C" fn husk_solve_profile_blocked(
     words: &mut [u64],
     answer: &mut [u64],
 ) -> u64
-    ensures { solved result answer.new out.new words.new ≡ solveCall heading.now doubles.now mode out.old words.old answer.old }
+    ensures { solved result answer.new out.new words.new ≡ solve_call heading.now doubles.now mode out.old words.old answer.old }
 {
     if answer.len() < 4 {
         return SHORT_ANSWER;
@@ -245,7 +245,7 @@ pub extern "C" fn husk_solve_profile_blocked(
 // views::steps_left.
 #[unsafe(no_mangle)]
 pub extern "C" fn husk_steps_left(heading: &[u32], answer: &mut [u64]) -> u64
-    ensures { leaves result answer.new ≡ stepsCall heading.now answer.old }
+    ensures { leaves result answer.new ≡ steps_call heading.now answer.old }
 {
     if answer.len() < 3 {
         return SHORT_ANSWER;
@@ -256,7 +256,7 @@ pub extern "C" fn husk_steps_left(heading: &[u32], answer: &mut [u64]) -> u64
 // views::log_determinant.
 #[unsafe(no_mangle)]
 pub extern "C" fn husk_log_determinant(heading: &[u32], doubles: &[f64], answer: &mut [u64]) -> u64
-    ensures { leaves result answer.new ≡ determinantCall heading.now doubles.now answer.old }
+    ensures { leaves result answer.new ≡ determinant_call heading.now doubles.now answer.old }
 {
     if answer.len() < 4 {
         return SHORT_ANSWER;
@@ -273,7 +273,7 @@ pub extern "C" fn husk_pivot(
     row: u64,
     answer: &mut [u64],
 ) -> u64
-    ensures { leaves result answer.new ≡ pivotCall heading.now doubles.now block row answer.old }
+    ensures { leaves result answer.new ≡ pivot_call heading.now doubles.now block row answer.old }
 {
     if answer.len() < 4 {
         return SHORT_ANSWER;

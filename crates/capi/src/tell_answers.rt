@@ -1,12 +1,12 @@
 // Each kind of answer as its number and words.
 ghost use Rattle.std.specs.Prelude.{◌≡◌, ◌≤◌, length};
-ghost use Rattle.refusal.specs.Numbers.{meaning, noRefusal};
-ghost use Rattle.profile.specs.Deviance.{devianceMeaning};
+ghost use Rattle.refusal.specs.Numbers.{meaning, no_refusal};
+ghost use Rattle.profile.specs.Deviance.{deviance_meaning};
 ghost use Rattle.profile.specs.declared.DevianceAnswer.TheVariants.{Given};
-ghost use Rattle.profile.specs.Finish.{solveMeaning};
-ghost use Rattle.views.specs.Views.{stepsMeaning, viewMeaning};
-ghost use Rattle.capi.specs.Told.{leaves, toldAnswer, toldDeviance, toldSolve, toldNeeds, toldSteps, toldView};
-ghost use Rattle.load.specs.room.Needs.{needsMeaning};
+ghost use Rattle.profile.specs.Finish.{solve_meaning};
+ghost use Rattle.views.specs.Views.{steps_meaning, view_meaning};
+ghost use Rattle.capi.specs.Told.{leaves, told_answer, told_deviance, told_solve, told_needs, told_steps, told_view};
+ghost use Rattle.load.specs.room.Needs.{needs_meaning};
 
 use crate::answer_list;
 use float_bits::words::word_of;
@@ -20,7 +20,7 @@ const LARGEST: u64 = 0x7fefffffffffffff;
 
 // What is not refused.
 fn none() -> Refusal
-    ensures { result ≡ noRefusal }
+    ensures { result ≡ no_refusal }
 {
     Refusal {
         number: 0,
@@ -32,7 +32,7 @@ fn none() -> Refusal
 // A call that gives no value.
 pub fn tell_answer(a: Answer, answer: &mut [u64]) -> u64
     requires { 2 ≤ length answer.old }
-    ensures { leaves result answer.new ≡ toldAnswer (meaning a) answer.old }
+    ensures { leaves result answer.new ≡ told_answer (meaning a) answer.old }
 {
     match a {
         Answer::Accepted => answer_list::tell(none(), answer),
@@ -43,7 +43,7 @@ pub fn tell_answer(a: Answer, answer: &mut [u64]) -> u64
 // Record 6's three cases.
 fn tell_given(d: Deviance, answer: &mut [u64]) -> u64
     requires { 5 ≤ length answer.old }
-    ensures { leaves result answer.new ≡ toldDeviance (devianceMeaning (Given d)) answer.old }
+    ensures { leaves result answer.new ≡ told_deviance (deviance_meaning (Given d)) answer.old }
 {
     match d {
         Deviance::Value(x) => answer_list::tell_three(none(), 1, word_of(x), word_of(x), answer),
@@ -65,7 +65,7 @@ fn tell_given(d: Deviance, answer: &mut [u64]) -> u64
 // A call that gives a deviance.
 pub fn tell_deviance(a: DevianceAnswer, answer: &mut [u64]) -> u64
     requires { 5 ≤ length answer.old }
-    ensures { leaves result answer.new ≡ toldDeviance (devianceMeaning a) answer.old }
+    ensures { leaves result answer.new ≡ told_deviance (deviance_meaning a) answer.old }
 {
     match a {
         DevianceAnswer::Given(d) => tell_given(d, answer),
@@ -76,7 +76,7 @@ pub fn tell_deviance(a: DevianceAnswer, answer: &mut [u64]) -> u64
 // A solution's two scalars.
 pub fn tell_solve(s: Solve, answer: &mut [u64]) -> u64
     requires { 4 ≤ length answer.old }
-    ensures { leaves result answer.new ≡ toldSolve (solveMeaning s) answer.old }
+    ensures { leaves result answer.new ≡ told_solve (solve_meaning s) answer.old }
 {
     match s {
         Solve::Solved(x) => answer_list::tell_two(
@@ -92,7 +92,7 @@ pub fn tell_solve(s: Solve, answer: &mut [u64]) -> u64
 // The room that a sheet wants.
 pub fn tell_needs(n: Needs, answer: &mut [u64]) -> u64
     requires { 4 ≤ length answer.old }
-    ensures { leaves result answer.new ≡ toldNeeds (needsMeaning n) answer.old }
+    ensures { leaves result answer.new ≡ told_needs (needs_meaning n) answer.old }
 {
     match n {
         Needs::Room(room) => answer_list::tell_two(none(), room.doubles, room.numbers, answer),
@@ -103,7 +103,7 @@ pub fn tell_needs(n: Needs, answer: &mut [u64]) -> u64
 // The steps left.
 pub fn tell_steps(s: StepsLeft, answer: &mut [u64]) -> u64
     requires { 3 ≤ length answer.old }
-    ensures { leaves result answer.new ≡ toldSteps (stepsMeaning s) answer.old }
+    ensures { leaves result answer.new ≡ told_steps (steps_meaning s) answer.old }
 {
     match s {
         StepsLeft::Steps(left) => answer_list::tell_one(none(), left, answer),
@@ -114,7 +114,7 @@ pub fn tell_steps(s: StepsLeft, answer: &mut [u64]) -> u64
 // A double of a finished factor.
 pub fn tell_view(v: View, answer: &mut [u64]) -> u64
     requires { 4 ≤ length answer.old }
-    ensures { leaves result answer.new ≡ toldView (viewMeaning v) answer.old }
+    ensures { leaves result answer.new ≡ told_view (view_meaning v) answer.old }
 {
     match v {
         View::Value(x) => answer_list::tell_two(none(), 1, word_of(x), answer),

@@ -6,8 +6,8 @@ pub mod scaling;
 
 ghost use Rattle.std.specs.Prelude.{◌≡◌, ◌+◌, ◌≤◌, ◌<◌, length};
 ghost use Rattle.storage.specs.Shape.{columns, size_of};
-ghost use Rattle.storage.specs.Placed.{asTriangle};
-ghost use Rattle.cross_block.specs.Blocks.{ByFactor, solvedRows, solvedColumn};
+ghost use Rattle.storage.specs.Placed.{as_triangle};
+ghost use Rattle.cross_block.specs.Blocks.{ByFactor, solved_rows, solved_column};
 
 use block_runs::{axpy_products, run_copies, run_quotients};
 use storage::Block;
@@ -16,7 +16,7 @@ use storage::Block;
 // The block is lent as the part that starts at its own offset.
 fn solve_column(doubles: &mut [f64], acc: &mut [f64], t: Block, c: usize, to: usize, row: usize)
     requires { (t.rows ≤ length acc.old) × (t.at ≤ to) × (to + t.rows ≤ length doubles.old) × (t.at + size_of (columns t.rows c) ≤ length doubles.old) × (row + c < length doubles.old) }
-    ensures { doubles.new ≡ solvedColumn t c to row doubles.old }
+    ensures { doubles.new ≡ solved_column t c to row doubles.old }
 {
     let n = t.rows;
     run_copies::read(acc, n, doubles, to);
@@ -27,8 +27,8 @@ fn solve_column(doubles: &mut [f64], acc: &mut [f64], t: Block, c: usize, to: us
 
 // T by the packed factor f: forward substitution in each row of the dense block t, all rows side by side.
 pub fn solve_rows(doubles: &mut [f64], t: Block, f: Block)
-    requires { (t.rows ≤ 316) × ByFactor (length doubles.old) asTriangle t f }
-    ensures { doubles.new ≡ solvedRows t f doubles.old }
+    requires { (t.rows ≤ 316) × ByFactor (length doubles.old) as_triangle t f }
+    ensures { doubles.new ≡ solved_rows t f doubles.old }
 {
     let mut acc = [0.0; 316];
     let mut c = 0;

@@ -10,44 +10,44 @@ use Rattle.storage.specs.Runs.{start, dense}
 use Rattle.storage.specs.Shape.{columns, size_of}
 use Rattle.storage.specs.Part.{store}
 use Rattle.storage.specs.declared.Block.{Block}
-use Rattle.storage.specs.Placed.{Lies, asColumns, read}
-use Rattle.storage.proofs.Starts.{start-dense, start-below}
-use Rattle.storage.proofs.Cells.{tab-ext}
-use Rattle.storage.proofs.Filling.{Filling, filling-none, filling-done, filling-else, filling-apart, filling-next, filling-run}
+use Rattle.storage.specs.Placed.{Lies, as_columns, read}
+use Rattle.storage.proofs.Starts.{start_dense, start_below}
+use Rattle.storage.proofs.Cells.{tab_ext}
+use Rattle.storage.proofs.Filling.{Filling, filling_none, filling_done, filling_else, filling_apart, filling_next, filling_run}
 use Rattle.rules.specs.Arithmetic.{ieee}
 use Rattle.rules.specs.Sums.{dot}
 use Rattle.block_runs.specs.blocks.Blocks.{block, entry}
-use Rattle.block_runs.proofs.blocks.Laws.{read-block, has-dense}
+use Rattle.block_runs.proofs.blocks.Laws.{read_block, has_dense}
 use Rattle.block_runs.specs.axpy.Axpy.{at, run, along, products}
-use Rattle.block_runs.proofs.axpy.Sums.{sum-along, along-ext, start-add, summed}
-use Rattle.cross_matvec.specs.Products.{Sides, subtractedProduct, subtractedProductT, column_sum, minusColumn, subtractColumns}
-use Rattle.cross_matvec.proofs.Vectors.{read-entry}
+use Rattle.block_runs.proofs.axpy.Sums.{sum_along, along_ext, start_add, summed}
+use Rattle.cross_matvec.specs.Products.{Sides, subtracted_product, subtracted_product_t, column_sum, minus_column, subtract_columns}
+use Rattle.cross_matvec.proofs.Vectors.{read_entry}
 
 -- the vector at z is the one row of a block
-pub one-row : (z n : ℕ) (v : List Float) → z + n ≤ length v → (x : ℕ) → x < n → block z (columns 1 n) v 0 x ≡ entry z n v x
-one-row z n v fits x l =
-    sym (read-block (columns 1 n) z v 0 x (z + x) (has-dense 1 n 0 x (omega arith) l) (omega (arith, start-dense 1 n)) (omega (arith, start-dense 1 x)))
-    ∙ read-entry z n v x l fits
+pub one_row : (z n : ℕ) (v : List Float) → z + n ≤ length v → (x : ℕ) → x < n → block z (columns 1 n) v 0 x ≡ entry z n v x
+one_row z n v fits x l =
+    sym (read_block (columns 1 n) z v 0 x (z + x) (has_dense 1 n 0 x (omega arith) l) (omega (arith, start_dense 1 n)) (omega (arith, start_dense 1 x)))
+    ∙ read_entry z n v x l fits
 
 -- ---- going forward
 module _ (to z : ℕ) (a : Block) (w v v' acc acc₁ acc₂ : List Float) (room : a.rows ≤ length acc) (sides : Sides (length v) to z a) where
-  pub sums-subtracted : acc₁ ≡ run 0 a.rows (λ i. ieee.zero) acc → acc₂ ≡ products ieee.plus acc₁ a.rows w a.at a.rows v z 1 0 a.cols
-      → (k : ℕ) → k ≡ to → v' ≡ run k a.rows (λ i. ieee.minus (at v (k + i)) (at acc₂ i)) v → v' ≡ subtractedProduct to z a w v
-  sums-subtracted first then k e so =
+  pub sums_subtracted : acc₁ ≡ run 0 a.rows (λ i. ieee.zero) acc → acc₂ ≡ products ieee.plus acc₁ a.rows w a.at a.rows v z 1 0 a.cols
+      → (k : ℕ) → k ≡ to → v' ≡ run k a.rows (λ i. ieee.minus (at v (k + i)) (at acc₂ i)) v → v' ≡ subtracted_product to z a w v
+  sums_subtracted first then k e so =
       so
       ∙ ap (λ (x : ℕ). run x a.rows (λ i. ieee.minus (at v (x + i)) (at acc₂ i)) v) e
       ∙ ap (λ (l : List Float). store to l v)
-      (tab-ext a.rows _ _
+      (tab_ext a.rows _ _
       (λ i l.
-      ap₂ ieee.minus (read-entry to a.rows v i l sides.rows)
+      ap₂ ieee.minus (read_entry to a.rows v i l sides.rows)
       (summed ieee.plus a.rows w a.at a.rows v z 1 0 a.cols acc acc₁ acc₂ (λ x. ieee.zero) room first then i l
-      ∙ along-ext ieee.plus _ _ _ _ _ _ a.cols refl (λ x m. refl) (one-row z a.cols v sides.cols)
-      ∙ sum-along ieee.zero (read (asColumns a) w i) (entry z a.cols v) a.cols)))
+      ∙ along_ext ieee.plus _ _ _ _ _ _ a.cols refl (λ x m. refl) (one_row z a.cols v sides.cols)
+      ∙ sum_along ieee.zero (read (as_columns a) w i) (entry z a.cols v) a.cols)))
 
 -- a column times a vector is the rule's sum of what they hold
-pub column-sum : (w : List Float) (p : ℕ) (v : List Float) (z n : ℕ) (a b : ℕ → Float) → ((i : ℕ) → i < n → at w (p + i) ≡ a i) → ((i : ℕ) → i < n → at v (z + i) ≡ b i)
+pub column_sum_lem : (w : List Float) (p : ℕ) (v : List Float) (z n : ℕ) (a b : ℕ → Float) → ((i : ℕ) → i < n → at w (p + i) ≡ a i) → ((i : ℕ) → i < n → at v (z + i) ≡ b i)
     → column_sum w p v z n ≡ dot ieee a b n
-column-sum w p v z n a b f g = along-ext ieee.plus ieee.zero ieee.zero _ _ _ _ n refl f g ∙ sum-along ieee.zero a b n
+column_sum_lem w p v z n a b f g = along_ext ieee.plus ieee.zero ieee.zero _ _ _ _ n refl f g ∙ sum_along ieee.zero a b n
 
 -- ---- going backward
 -- one product more in the sum of a column
@@ -57,56 +57,56 @@ unfolding along
 sum_more w p v z r s so = ap (λ (x : Float). ieee.plus x (ieee.times (at w (p + r)) (at v (z + r)))) so
 
 -- one entry more less a number
-pub entry-subtracted : {to n : ℕ} {v v₁ : List Float} {i : ℕ} (f : ℕ → Float) → Filling (λ x. ieee.minus (at v (to + x)) (f x)) to n v v₁ i → i < n → (k : ℕ) → k ≡ to + i
+pub entry_subtracted : {to n : ℕ} {v v₁ : List Float} {i : ℕ} (f : ℕ → Float) → Filling (λ x. ieee.minus (at v (to + x)) (f x)) to n v v₁ i → i < n → (k : ℕ) → k ≡ to + i
     → (s : Float) → s ≡ f i → Filling (λ x. ieee.minus (at v (to + x)) (f x)) to n v (set v₁ k (ieee.minus (at v₁ k) s)) (i + 1)
-entry-subtracted {to} {n} {v} f h more k e s is = filling-next h (λ (x : Float). ieee.minus x s) nan e more (ap₂ ieee.minus (ap (at v) e) is)
+entry_subtracted {to} {n} {v} f h more k e s is = filling_next h (λ (x : Float). ieee.minus x s) nan e more (ap₂ ieee.minus (ap (at v) e) is)
 
 -- one entry less the product of its column
-pub column-subtracted : (to p rows z : ℕ) (w v : List Float) → to + 1 ≤ length v → (s : Float) → s ≡ column_sum w p v z rows
-    → set v to (ieee.minus (at v to) s) ≡ subtractColumns to 1 p rows z w v
-column-subtracted to p rows z w v fits s is =
-    filling-done
-    (entry-subtracted (λ i. column_sum w (p + start (dense rows) i) v z rows) (filling-none _ to 1 v fits) (omega arith) to (omega arith) s
-    (is ∙ ap (λ (x : ℕ). column_sum w x v z rows) (omega (arith, start-dense rows 0))))
+pub column_subtracted : (to p rows z : ℕ) (w v : List Float) → to + 1 ≤ length v → (s : Float) → s ≡ column_sum w p v z rows
+    → set v to (ieee.minus (at v to) s) ≡ subtract_columns to 1 p rows z w v
+column_subtracted to p rows z w v fits s is =
+    filling_done
+    (entry_subtracted (λ i. column_sum w (p + start (dense rows) i) v z rows) (filling_none _ to 1 v fits) (omega arith) to (omega arith) s
+    (is ∙ ap (λ (x : ℕ). column_sum w x v z rows) (omega (arith, start_dense rows 0))))
     (omega arith)
 
 -- four entries less the products of four columns
-pub four-subtracted : (to p rows z : ℕ) (w v v' : List Float) (s s1 s2 s3 : Float) → s ≡ column_sum w p v z rows → s1 ≡ column_sum w (p + rows) v z rows
+pub four_subtracted : (to p rows z : ℕ) (w v v' : List Float) (s s1 s2 s3 : Float) → s ≡ column_sum w p v z rows → s1 ≡ column_sum w (p + rows) v z rows
     → s2 ≡ column_sum w (p + rows + rows) v z rows → s3 ≡ column_sum w (p + rows + rows + rows) v z rows
-    → ((f : ℕ → Float) → s ≡ f 0 → s1 ≡ f 1 → s2 ≡ f 2 → s3 ≡ f 3 → v' ≡ run to 4 (λ i. ieee.minus (at v (to + i)) (f i)) v) → v' ≡ subtractColumns to 4 p rows z w v
-four-subtracted to p rows z w v v' s s1 s2 s3 is is1 is2 is3 so =
+    → ((f : ℕ → Float) → s ≡ f 0 → s1 ≡ f 1 → s2 ≡ f 2 → s3 ≡ f 3 → v' ≡ run to 4 (λ i. ieee.minus (at v (to + i)) (f i)) v) → v' ≡ subtract_columns to 4 p rows z w v
+four_subtracted to p rows z w v v' s s1 s2 s3 is is1 is2 is3 so =
     so (λ i. column_sum w (p + start (dense rows) i) v z rows)
-    (is ∙ place (omega (arith, start-dense rows 0)))
-    (is1 ∙ place (omega (arith, start-dense rows 1)))
-    (is2 ∙ place (omega (arith, start-dense rows 2)))
-    (is3 ∙ place (omega (arith, start-dense rows 3)))
+    (is ∙ place (omega (arith, start_dense rows 0)))
+    (is1 ∙ place (omega (arith, start_dense rows 1)))
+    (is2 ∙ place (omega (arith, start_dense rows 2)))
+    (is3 ∙ place (omega (arith, start_dense rows 3)))
   where
     place : {x y : ℕ} → x ≡ y → column_sum w x v z rows ≡ column_sum w y v z rows
     place e = ap (λ (x : ℕ). column_sum w x v z rows) e
 
 module _ (to z : ℕ) (a : Block) (w v₀ : List Float) (sides : Sides (length v₀) z to a) where
   -- c columns and k more; the block may lie in the list that is written, if it stays as it was
-  pub columns-more : {c : ℕ} {v₁ v₂ : List Float} (w₁ : List Float) (k : ℕ) → Filling (minusColumn to a.at a.rows z w v₀) to a.cols v₀ v₁ c → c + k ≤ a.cols
+  pub columns_more : {c : ℕ} {v₁ v₂ : List Float} (w₁ : List Float) (k : ℕ) → Filling (minus_column to a.at a.rows z w v₀) to a.cols v₀ v₁ c → c + k ≤ a.cols
       → ((i : ℕ) → i < size_of (columns a.rows a.cols) → at w₁ (a.at + i) ≡ at w (a.at + i))
-      → (p : ℕ) → p ≡ a.at + start (dense a.rows) c → v₂ ≡ subtractColumns (to + c) k p a.rows z w₁ v₁
-      → Filling (minusColumn to a.at a.rows z w v₀) to a.cols v₀ v₂ (c + k)
-  columns-more {c} {v₁} {v₂} w₁ k h top same p d then =
-      filling-run h k (minusColumn (to + c) p a.rows z w₁ v₁) (to + c) v₂ refl top
+      → (p : ℕ) → p ≡ a.at + start (dense a.rows) c → v₂ ≡ subtract_columns (to + c) k p a.rows z w₁ v₁
+      → Filling (minus_column to a.at a.rows z w v₀) to a.cols v₀ v₂ (c + k)
+  columns_more {c} {v₁} {v₂} w₁ k h top same p d then =
+      filling_run h k (minus_column (to + c) p a.rows z w₁ v₁) (to + c) v₂ refl top
       (λ i l.
-      ap₂ ieee.minus (filling-else h nan (to + c + i) (inr (omega arith)) ∙ ap (at v₀) (omega arith))
-      (along-ext ieee.plus _ _ _ _ _ _ a.rows refl
-      (λ r m. ap (at w₁) (omega (arith, start-add a.rows c i))
-      ∙ same (start (dense a.rows) (c + i) + r) (omega (arith, start-below (dense a.rows) (c + i) a.cols (omega arith))) ∙ ap (at w) (omega arith))
-      (filling-apart h nan z a.rows (⊎_swap sides.apart))))
+      ap₂ ieee.minus (filling_else h nan (to + c + i) (inr (omega arith)) ∙ ap (at v₀) (omega arith))
+      (along_ext ieee.plus _ _ _ _ _ _ a.rows refl
+      (λ r m. ap (at w₁) (omega (arith, start_add a.rows c i))
+      ∙ same (start (dense a.rows) (c + i) + r) (omega (arith, start_below (dense a.rows) (c + i) a.cols (omega arith))) ∙ ap (at w) (omega arith))
+      (filling_apart h nan z a.rows (⊎_swap sides.apart))))
       then
 
   -- each entry is the rule's
-  pub columns-done : Lies (length w) (asColumns a) → subtractColumns to a.cols a.at a.rows z w v₀ ≡ subtractedProductT to z a w v₀
-  columns-done room =
+  pub columns_done : Lies (length w) (as_columns a) → subtract_columns to a.cols a.at a.rows z w v₀ ≡ subtracted_product_t to z a w v₀
+  columns_done room =
       ap (λ (l : List Float). store to l v₀)
-      (tab-ext a.cols _ _
+      (tab_ext a.cols _ _
       (λ c l.
-      ap₂ ieee.minus (read-entry to a.cols v₀ c l sides.cols)
-      (column-sum w (a.at + start (dense a.rows) c) v₀ z a.rows (λ r. read (asColumns a) w r c) (entry z a.rows v₀)
-      (λ r m. read-block (columns a.rows a.cols) a.at w r c (a.at + start (dense a.rows) c + r) (has-dense a.rows a.cols r c m l) room (omega arith))
-      (λ r m. read-entry z a.rows v₀ r m sides.rows))))
+      ap₂ ieee.minus (read_entry to a.cols v₀ c l sides.cols)
+      (column_sum_lem w (a.at + start (dense a.rows) c) v₀ z a.rows (λ r. read (as_columns a) w r c) (entry z a.rows v₀)
+      (λ r m. read_block (columns a.rows a.cols) a.at w r c (a.at + start (dense a.rows) c + r) (has_dense a.rows a.cols r c m l) room (omega arith))
+      (λ r m. read_entry z a.rows v₀ r m sides.rows))))

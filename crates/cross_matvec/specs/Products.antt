@@ -4,9 +4,9 @@ use Rattle.std.specs.Prelude.{ℕ, ◌+◌, ◌≤◌, ◌<◌, cond, List, ◌�
 use Rattle.storage.specs.Runs.{start, dense}
 use Rattle.storage.specs.Shape.{columns, size_of}
 use Rattle.storage.specs.declared.Block.{Block}
-use Rattle.storage.specs.Placed.{asColumns, read}
+use Rattle.storage.specs.Placed.{as_columns, read}
 use Rattle.rules.specs.Arithmetic.{ieee}
-use Rattle.rules.specs.Solves.{matvecSub, sparseMatvecSub, matvecTSub, sparseMatvecTSub}
+use Rattle.rules.specs.Solves.{matvec_sub, sparse_matvec_sub, matvec_tsub, sparse_matvec_tsub}
 use Rattle.block_runs.specs.blocks.Blocks.{entry}
 use Rattle.block_runs.specs.axpy.Axpy.{at, run, along}
 
@@ -29,24 +29,24 @@ abbrev pub HasRows : List ℕ → Block → Type 0
 HasRows rows a = (a.cols ≤ length rows) × ((c : ℕ) → c < a.cols → row_in rows c < a.rows)
 
 -- forward: less the dense block a times the vector at z
-abbrev pub subtractedProduct : (to z : ℕ) → Block → List Float → List Float → List Float
-subtractedProduct to z a w v =
-    run to a.rows (matvecSub ieee (read (asColumns a) w) (entry z a.cols v) (entry to a.rows v) a.cols) v
+abbrev pub subtracted_product : (to z : ℕ) → Block → List Float → List Float → List Float
+subtracted_product to z a w v =
+    run to a.rows (matvec_sub ieee (read (as_columns a) w) (entry z a.cols v) (entry to a.rows v) a.cols) v
 
 -- backward: less its transpose times the vector at z
-abbrev pub subtractedProductT : (to z : ℕ) → Block → List Float → List Float → List Float
-subtractedProductT to z a w v =
-    run to a.cols (matvecTSub ieee (read (asColumns a) w) (entry z a.rows v) (entry to a.cols v) a.rows) v
+abbrev pub subtracted_product_t : (to z : ℕ) → Block → List Float → List Float → List Float
+subtracted_product_t to z a w v =
+    run to a.cols (matvec_tsub ieee (read (as_columns a) w) (entry z a.rows v) (entry to a.cols v) a.rows) v
 
 -- forward: less the sparse block a, whose column c has its entry in row `row c`, times the vector at z, where a source of ±0 is skipped
-abbrev pub subtractedSparseProduct : (row : ℕ → ℕ) (to z : ℕ) → Block → List Float → List Float → List Float
-subtractedSparseProduct row to z a w v =
-    run to a.rows (sparseMatvecSub ieee row (entry a.at a.cols w) (entry z a.cols v) (entry to a.rows v) a.cols) v
+abbrev pub subtracted_sparse_product : (row : ℕ → ℕ) (to z : ℕ) → Block → List Float → List Float → List Float
+subtracted_sparse_product row to z a w v =
+    run to a.rows (sparse_matvec_sub ieee row (entry a.at a.cols w) (entry z a.cols v) (entry to a.rows v) a.cols) v
 
 -- backward: less its transpose times the vector at z
-abbrev pub subtractedSparseProductT : (row : ℕ → ℕ) (to z : ℕ) → Block → List Float → List Float → List Float
-subtractedSparseProductT row to z a w v =
-    run to a.cols (sparseMatvecTSub ieee row (entry a.at a.cols w) (entry z a.rows v) (entry to a.cols v)) v
+abbrev pub subtracted_sparse_product_t : (row : ℕ → ℕ) (to z : ℕ) → Block → List Float → List Float → List Float
+subtracted_sparse_product_t row to z a w v =
+    run to a.cols (sparse_matvec_tsub ieee row (entry a.at a.cols w) (entry z a.rows v) (entry to a.cols v)) v
 
 -- ---- what the loops leave, double by double
 -- the sum of the products of n doubles from p on in w with those from z on in v
@@ -54,12 +54,12 @@ abbrev pub column_sum : (w : List Float) (p : ℕ) (v : List Float) (z n : ℕ) 
 column_sum w p v z n = along ieee.plus ieee.zero (λ r. at w (p + r)) (λ r. at v (z + r)) n
 
 -- entry i of the k entries from `to` on, less the sum of column i of those that start at p
-abbrev pub minusColumn : (to p rows z : ℕ) (w v : List Float) → ℕ → Float
-minusColumn to p rows z w v i = ieee.minus (at v (to + i)) (column_sum w (p + start (dense rows) i) v z rows)
+abbrev pub minus_column : (to p rows z : ℕ) (w v : List Float) → ℕ → Float
+minus_column to p rows z w v i = ieee.minus (at v (to + i)) (column_sum w (p + start (dense rows) i) v z rows)
 
-abbrev pub subtractColumns : (to k p rows z : ℕ) (w v : List Float) → List Float
-subtractColumns to k p rows z w v = run to k (minusColumn to p rows z w v) v
+abbrev pub subtract_columns : (to k p rows z : ℕ) (w v : List Float) → List Float
+subtract_columns to k p rows z w v = run to k (minus_column to p rows z w v) v
 
 -- the double at k less x times e, unless e is ±0
-abbrev pub subtractEntry : (k : ℕ) (x e : Float) → List Float → List Float
-subtractEntry k x e v = cond (ieee.null e) v (set v k (ieee.minus (at v k) (ieee.times x e)))
+abbrev pub subtract_entry : (k : ℕ) (x e : Float) → List Float → List Float
+subtract_entry k x e v = cond (ieee.null e) v (set v k (ieee.minus (at v k) (ieee.times x e)))

@@ -3,7 +3,7 @@
 ghost use Rattle.std.specs.Prelude.{◌≡◌, ℕ, ◌+◌, ◌≤◌, length, Float};
 ghost use Rattle.rules.specs.Arithmetic.{ieee};
 ghost use Rattle.block_runs.specs.axpy.Axpy.{at, run};
-ghost use Rattle.cross_matvec.specs.Products.{column_sum, subtractColumns};
+ghost use Rattle.cross_matvec.specs.Products.{column_sum, subtract_columns};
 
 #[derive(Drop)]
 pub struct Sums {
@@ -55,7 +55,7 @@ pub fn four(doubles: &[f64], p: usize, rows: usize, v: &[f64], z: usize) -> Sums
 // The entry at `to` less the product of the column at p with the vector at z.
 pub fn subtract_one(v: &mut [f64], to: usize, doubles: &[f64], p: usize, rows: usize, z: usize)
     requires { (to + 1 ≤ length v.old) × (z + rows ≤ length v.old) × (p + rows ≤ length doubles.now) }
-    ensures { v.new ≡ subtractColumns to 1 p rows z doubles.now v.old }
+    ensures { v.new ≡ subtract_columns to 1 p rows z doubles.now v.old }
 {
     let s = one(doubles, p, rows, v, z);
     v[to] = v[to] - s;
@@ -75,7 +75,7 @@ pub fn subtract_sums(v: &mut [f64], to: usize, t: Sums)
 // Four entries less the products of four columns with the vector at z.
 pub fn subtract_four(v: &mut [f64], to: usize, doubles: &[f64], p: usize, rows: usize, z: usize)
     requires { (to + 4 ≤ length v.old) × (z + rows ≤ length v.old) × (p + rows + rows + rows + rows ≤ length doubles.now) }
-    ensures { v.new ≡ subtractColumns to 4 p rows z doubles.now v.old }
+    ensures { v.new ≡ subtract_columns to 4 p rows z doubles.now v.old }
 {
     let t = four(doubles, p, rows, v, z);
     subtract_sums(v, to, t);

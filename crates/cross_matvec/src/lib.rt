@@ -8,16 +8,16 @@ pub mod sparse_matvec;
 pub mod sparse_matvec_t;
 
 ghost use Rattle.std.specs.Prelude.{◌≡◌, ◌≤◌, length};
-ghost use Rattle.storage.specs.Placed.{Lies, asColumns};
-ghost use Rattle.cross_matvec.specs.Products.{Sides, subtractedProduct};
+ghost use Rattle.storage.specs.Placed.{Lies, as_columns};
+ghost use Rattle.cross_matvec.specs.Products.{Sides, subtracted_product};
 
 use block_runs::{axpy_products, run_copies, run_differences};
 use storage::Block;
 
 // The sums of the rows, side by side in acc, then the entries at `to`.
 fn subtract_sums(v: &mut [f64], acc: &mut [f64], to: usize, z: usize, doubles: &[f64], a: Block)
-    requires { (a.rows ≤ length acc.old) × Sides (length v.old) to z a × Lies (length doubles.now) (asColumns a) }
-    ensures { v.new ≡ subtractedProduct to z a doubles.now v.old }
+    requires { (a.rows ≤ length acc.old) × Sides (length v.old) to z a × Lies (length doubles.now) (as_columns a) }
+    ensures { v.new ≡ subtracted_product to z a doubles.now v.old }
 {
     let n = a.rows;
     run_copies::clear(acc, n);
@@ -27,8 +27,8 @@ fn subtract_sums(v: &mut [f64], acc: &mut [f64], to: usize, z: usize, doubles: &
 
 // Going forward: the vector at `to` less a dense block times the vector at z.
 pub fn matvec_sub(v: &mut [f64], to: usize, z: usize, doubles: &[f64], a: Block)
-    requires { (a.rows ≤ 316) × Sides (length v.old) to z a × Lies (length doubles.now) (asColumns a) }
-    ensures { v.new ≡ subtractedProduct to z a doubles.now v.old }
+    requires { (a.rows ≤ 316) × Sides (length v.old) to z a × Lies (length doubles.now) (as_columns a) }
+    ensures { v.new ≡ subtracted_product to z a doubles.now v.old }
 {
     let mut acc = [0.0; 316];
     subtract_sums(v, &mut acc, to, z, doubles, a);

@@ -1,7 +1,7 @@
 // A sparse cross block of one entry a column times a vector (document 01, Record 7; the Rust's `cross_matvec_sub`).
 ghost use Rattle.std.specs.Prelude.{◌≡◌, ◌<◌, length};
-ghost use Rattle.storage.specs.Placed.{Lies, asEntries};
-ghost use Rattle.cross_matvec.specs.Products.{HasRows, Sides, row_in, subtractedSparseProduct, subtractEntry};
+ghost use Rattle.storage.specs.Placed.{Lies, as_entries};
+ghost use Rattle.cross_matvec.specs.Products.{HasRows, Sides, row_in, subtracted_sparse_product, subtract_entry};
 
 use storage::Block;
 
@@ -15,7 +15,7 @@ pub fn wide(x: u32) -> usize
 // v[at] less x times e, unless e is ±0.
 fn subtract_entry(v: &mut [f64], at: usize, x: f64, e: f64)
     requires { at < length v.old }
-    ensures { v.new ≡ subtractEntry at x e v.old }
+    ensures { v.new ≡ subtract_entry at x e v.old }
 {
     if e == 0.0 {
         return;
@@ -32,8 +32,8 @@ pub fn sparse_matvec_sub(
     a: Block,
     rows: &[u32],
 )
-    requires { Sides (length v.old) to z a × Lies (length doubles.now) (asEntries (row_in rows.now) a) × HasRows rows.now a }
-    ensures { v.new ≡ subtractedSparseProduct (row_in rows.now) to z a doubles.now v.old }
+    requires { Sides (length v.old) to z a × Lies (length doubles.now) (as_entries (row_in rows.now) a) × HasRows rows.now a }
+    ensures { v.new ≡ subtracted_sparse_product (row_in rows.now) to z a doubles.now v.old }
 {
     let mut c = 0;
     while c < a.cols {

@@ -1,8 +1,8 @@
 // A sparse cross block going backward (document 01, Record 7): sums from 0.0, subtracted once.
 ghost use Rattle.std.specs.Prelude.{◌≡◌, ◌+◌, ◌<◌, length};
-ghost use Rattle.storage.specs.Placed.{Lies, asEntries};
+ghost use Rattle.storage.specs.Placed.{Lies, as_entries};
 ghost use Rattle.block_runs.specs.axpy.Axpy.{at};
-ghost use Rattle.cross_matvec.specs.Products.{HasRows, Sides, row_in, subtractedSparseProductT};
+ghost use Rattle.cross_matvec.specs.Products.{HasRows, Sides, row_in, subtracted_sparse_product_t};
 
 use crate::sparse_matvec;
 use storage::Block;
@@ -25,8 +25,8 @@ pub fn sparse_matvec_t_sub(
     a: Block,
     rows: &[u32],
 )
-    requires { Sides (length v.old) z to a × Lies (length doubles.now) (asEntries (row_in rows.now) a) × HasRows rows.now a }
-    ensures { v.new ≡ subtractedSparseProductT (row_in rows.now) to z a doubles.now v.old }
+    requires { Sides (length v.old) z to a × Lies (length doubles.now) (as_entries (row_in rows.now) a) × HasRows rows.now a }
+    ensures { v.new ≡ subtracted_sparse_product_t (row_in rows.now) to z a doubles.now v.old }
 {
     let mut c = 0;
     while c < a.cols {

@@ -1,10 +1,10 @@
 // The profiled deviance of a finished factor (document 01, Record 6).
 ghost use Rattle.std.specs.Prelude.{◌≡◌, ◌≤◌, length};
 ghost use Rattle.rules.specs.Arithmetic.{ieee};
-ghost use Rattle.rules.specs.Finish.{devianceOf};
-ghost use Rattle.deviance.specs.deviance_tail.Tail.{pivotOf, logDeterminantOf, devianceWith};
+ghost use Rattle.rules.specs.Finish.{deviance_of};
+ghost use Rattle.deviance.specs.deviance_tail.Tail.{pivot_of, log_determinant_of, deviance_with};
 ghost use Rattle.heading_format.specs.Fits.{Room};
-ghost use Rattle.layout.specs.Shapes.{responseRow};
+ghost use Rattle.layout.specs.Shapes.{response_row};
 
 use crate::deviance_value;
 use block_places::places;
@@ -16,7 +16,7 @@ use storage::Block;
 // Twice the logarithms' sum.
 pub fn log_determinant(layout: Layout, doubles: &[f64]) -> f64
     requires { Room layout (length doubles.now) }
-    ensures { result ≡ logDeterminantOf layout doubles.now }
+    ensures { result ≡ log_determinant_of layout doubles.now }
 {
     2.0 * doubles[places::sum_at(layout)]
 }
@@ -24,7 +24,7 @@ pub fn log_determinant(layout: Layout, doubles: &[f64]) -> f64
 // The last pivot of all.
 fn last_pivot(layout: Layout, doubles: &[f64]) -> f64
     requires { Room layout (length doubles.now) }
-    ensures { result ≡ pivotOf layout doubles.now (responseRow layout) }
+    ensures { result ≡ pivot_of layout doubles.now (response_row layout) }
 {
     let p = layout.p as usize;
     doubles[places::working_at(layout, layout.k, layout.k) + triangle_cells::row_start(p) + p]
@@ -33,7 +33,7 @@ fn last_pivot(layout: Layout, doubles: &[f64]) -> f64
 // The deviance with d and the scale s. REML adds twice the logarithms of the first p pivots of block k.
 fn value(layout: Layout, doubles: &[f64], d: f64, s: f64, logdet: f64, reml: bool) -> f64
     requires { Room layout (length doubles.now) }
-    ensures { result ≡ devianceOf ieee reml d s logdet (pivotOf layout doubles.now) layout.p }
+    ensures { result ≡ deviance_of ieee reml d s logdet (pivot_of layout doubles.now) layout.p }
 {
     let b = Block {
         at: places::working_at(layout, layout.k, layout.k),
@@ -46,7 +46,7 @@ fn value(layout: Layout, doubles: &[f64], d: f64, s: f64, logdet: f64, reml: boo
 // The deviance of the doubles, the log determinant being known: no scale where the square of the last pivot or d is at most 0.
 pub fn tail(layout: Layout, doubles: &[f64], logdet: f64, reml: bool) -> Deviance
     requires { Room layout (length doubles.now) }
-    ensures { result ≡ devianceWith layout doubles.now logdet reml }
+    ensures { result ≡ deviance_with layout doubles.now logdet reml }
 {
     let pivot = last_pivot(layout, doubles);
     let r2 = pivot * pivot;

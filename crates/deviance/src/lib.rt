@@ -1,13 +1,13 @@
 // The call `deviance_from_factor` (document 01, Record 6): the deviance of a finished factor. Refused with 20 or 25. What it answers is
-// `devianceFromFactor` of the crate profile, specs/Deviance.antt; the tail by layout, doubles and log determinant is in
+// `deviance_from_factor` of the crate profile, specs/Deviance.antt; the tail by layout, doubles and log determinant is in
 // specs/deviance_tail/Tail.antt.
 pub mod deviance_tail;
 pub mod deviance_value;
 
 ghost use Rattle.std.specs.Prelude.{◌≡◌, true, length};
-ghost use Rattle.heading_format.specs.Heading.{validHeading};
+ghost use Rattle.heading_format.specs.Heading.{valid_heading};
 ghost use Rattle.refusal.specs.Numbers.{refusal};
-ghost use Rattle.profile.specs.Deviance.{isFinished, devianceMeaning, devianceFromFactor};
+ghost use Rattle.profile.specs.Deviance.{is_finished, deviance_meaning, deviance_from_factor};
 
 use heading_format::State;
 use profile::DevianceAnswer;
@@ -26,7 +26,7 @@ pub fn refused(number: u64) -> Refusal
 
 // Whether an update has ended.
 pub fn is_finished(s: State) -> bool
-    ensures { result ≡ isFinished s }
+    ensures { result ≡ is_finished s }
 {
     match s {
         State::Idle => false,
@@ -37,8 +37,8 @@ pub fn is_finished(s: State) -> bool
 
 // The deviance of a workspace; 25 where its factor is not finished.
 fn of_workspace(heading: &[u32], doubles: &[f64], reml: bool) -> DevianceAnswer
-    requires { validHeading heading.now (length doubles.now) ≡ true }
-    ensures { result ≡ devianceFromFactor heading.now doubles.now reml }
+    requires { valid_heading heading.now (length doubles.now) ≡ true }
+    ensures { result ≡ deviance_from_factor heading.now doubles.now reml }
 {
     let layout = heading::layout(heading);
     let progress = heading::progress(heading);
@@ -56,7 +56,7 @@ fn of_workspace(heading: &[u32], doubles: &[f64], reml: bool) -> DevianceAnswer
 
 // The deviance of the factor as it stands. Any numbers and doubles may be lent: 20 where they are no workspace, 25 where the factor is not finished.
 pub fn deviance_from_factor(heading: &[u32], doubles: &[f64], reml: bool) -> DevianceAnswer
-    ensures { devianceMeaning result ≡ devianceMeaning (devianceFromFactor heading.now doubles.now reml) }
+    ensures { deviance_meaning result ≡ deviance_meaning (deviance_from_factor heading.now doubles.now reml) }
 {
     if heading_check::is_valid_heading(heading, doubles.len()) {
         return of_workspace(heading, doubles, reml);

@@ -6,178 +6,178 @@ use Rattle.rules.specs.Arithmetic.{Arithmetic}
 use Rattle.rules.specs.Exact.{Exact}
 
 data Three : Type 0 where
-  zeroThree : Three
+  zero_three : Three
   unit : Three
-  minus-unit : Three
+  minus_unit : Three
 
 abbrev sum : Three → Three → Three
-sum zeroThree zeroThree = zeroThree
-sum zeroThree unit = unit
-sum zeroThree minus-unit = minus-unit
-sum unit zeroThree = unit
-sum unit unit = minus-unit
-sum unit minus-unit = zeroThree
-sum minus-unit zeroThree = minus-unit
-sum minus-unit unit = zeroThree
-sum minus-unit minus-unit = unit
+sum zero_three zero_three = zero_three
+sum zero_three unit = unit
+sum zero_three minus_unit = minus_unit
+sum unit zero_three = unit
+sum unit unit = minus_unit
+sum unit minus_unit = zero_three
+sum minus_unit zero_three = minus_unit
+sum minus_unit unit = zero_three
+sum minus_unit minus_unit = unit
 
 abbrev difference : Three → Three → Three
-difference zeroThree zeroThree = zeroThree
-difference zeroThree unit = minus-unit
-difference zeroThree minus-unit = unit
-difference unit zeroThree = unit
-difference unit unit = zeroThree
-difference unit minus-unit = minus-unit
-difference minus-unit zeroThree = minus-unit
-difference minus-unit unit = unit
-difference minus-unit minus-unit = zeroThree
+difference zero_three zero_three = zero_three
+difference zero_three unit = minus_unit
+difference zero_three minus_unit = unit
+difference unit zero_three = unit
+difference unit unit = zero_three
+difference unit minus_unit = minus_unit
+difference minus_unit zero_three = minus_unit
+difference minus_unit unit = unit
+difference minus_unit minus_unit = zero_three
 
 abbrev product : Three → Three → Three
-product zeroThree zeroThree = zeroThree
-product zeroThree unit = zeroThree
-product zeroThree minus-unit = zeroThree
-product unit zeroThree = zeroThree
+product zero_three zero_three = zero_three
+product zero_three unit = zero_three
+product zero_three minus_unit = zero_three
+product unit zero_three = zero_three
 product unit unit = unit
-product unit minus-unit = minus-unit
-product minus-unit zeroThree = zeroThree
-product minus-unit unit = minus-unit
-product minus-unit minus-unit = unit
+product unit minus_unit = minus_unit
+product minus_unit zero_three = zero_three
+product minus_unit unit = minus_unit
+product minus_unit minus_unit = unit
 
 abbrev quotient : Three → Three → Three
-quotient zeroThree zeroThree = zeroThree
-quotient zeroThree unit = zeroThree
-quotient zeroThree minus-unit = zeroThree
-quotient unit zeroThree = zeroThree
+quotient zero_three zero_three = zero_three
+quotient zero_three unit = zero_three
+quotient zero_three minus_unit = zero_three
+quotient unit zero_three = zero_three
 quotient unit unit = unit
-quotient unit minus-unit = minus-unit
-quotient minus-unit zeroThree = zeroThree
-quotient minus-unit unit = minus-unit
-quotient minus-unit minus-unit = unit
+quotient unit minus_unit = minus_unit
+quotient minus_unit zero_three = zero_three
+quotient minus_unit unit = minus_unit
+quotient minus_unit minus_unit = unit
 
 abbrev is_zero : Three → Bool
-is_zero zeroThree = true
+is_zero zero_three = true
 is_zero unit = false
-is_zero minus-unit = false
+is_zero minus_unit = false
 
-abbrev no-root : Three → Bool
-no-root zeroThree = true
-no-root unit = false
-no-root minus-unit = true
+abbrev no_root : Three → Bool
+no_root zero_three = true
+no_root unit = false
+no_root minus_unit = true
 
-abbrev is-unit : Three → Bool
-is-unit zeroThree = false
-is-unit unit = true
-is-unit minus-unit = false
+abbrev is_unit : Three → Bool
+is_unit zero_three = false
+is_unit unit = true
+is_unit minus_unit = false
 
-abbrev of-whole : ℕ → Three
-of-whole zero = zeroThree
-of-whole (suc n) = sum (of-whole n) unit
+abbrev of_whole : ℕ → Three
+of_whole zero = zero_three
+of_whole (suc n) = sum (of_whole n) unit
 
 abbrev three : Arithmetic
 three =
     record {
       Num = Three;
-      zero = zeroThree;
+      zero = zero_three;
       one = unit;
-      two = minus-unit;
+      two = minus_unit;
       tau = unit;
-      whole = of-whole;
+      whole = of_whole;
       plus = sum;
       minus = difference;
       times = product;
       over = quotient;
       root = λ x. x;
       log = λ x. x;
-      refused = no-root;
-      above = is-unit;
+      refused = no_root;
+      above = is_unit;
       null = is_zero;
     }
 
-three-is-exact : Exact three
-three-is-exact = record { zero-plus = zero-plus; plus-minus = plus-minus; plus-zero = plus-zero; minus-zero = minus-zero; times_zero = times_zero; zero-times = zero-times; minus_plus = minus_plus; over-times = over-times; root-square = root-square; root-some = root-some }
+three_is_exact : Exact three
+three_is_exact = record { zero_plus = zero_plus; plus_minus = plus_minus; plus_zero = plus_zero; minus_zero = minus_zero; times_zero = times_zero; zero_times = zero_times; minus_plus = minus_plus; over_times = over_times; root_square = root_square; root_some = root_some }
   where
-    zero-plus : (a : Three) → sum zeroThree a ≡ a
-    zero-plus zeroThree = refl
-    zero-plus unit = refl
-    zero-plus minus-unit = refl
+    zero_plus : (a : Three) → sum zero_three a ≡ a
+    zero_plus zero_three = refl
+    zero_plus unit = refl
+    zero_plus minus_unit = refl
 
-    plus-minus : (a b p : Three) → sum (sum a p) (difference b p) ≡ sum a b
-    plus-minus zeroThree zeroThree zeroThree = refl
-    plus-minus zeroThree zeroThree unit = refl
-    plus-minus zeroThree zeroThree minus-unit = refl
-    plus-minus zeroThree unit zeroThree = refl
-    plus-minus zeroThree unit unit = refl
-    plus-minus zeroThree unit minus-unit = refl
-    plus-minus zeroThree minus-unit zeroThree = refl
-    plus-minus zeroThree minus-unit unit = refl
-    plus-minus zeroThree minus-unit minus-unit = refl
-    plus-minus unit zeroThree zeroThree = refl
-    plus-minus unit zeroThree unit = refl
-    plus-minus unit zeroThree minus-unit = refl
-    plus-minus unit unit zeroThree = refl
-    plus-minus unit unit unit = refl
-    plus-minus unit unit minus-unit = refl
-    plus-minus unit minus-unit zeroThree = refl
-    plus-minus unit minus-unit unit = refl
-    plus-minus unit minus-unit minus-unit = refl
-    plus-minus minus-unit zeroThree zeroThree = refl
-    plus-minus minus-unit zeroThree unit = refl
-    plus-minus minus-unit zeroThree minus-unit = refl
-    plus-minus minus-unit unit zeroThree = refl
-    plus-minus minus-unit unit unit = refl
-    plus-minus minus-unit unit minus-unit = refl
-    plus-minus minus-unit minus-unit zeroThree = refl
-    plus-minus minus-unit minus-unit unit = refl
-    plus-minus minus-unit minus-unit minus-unit = refl
+    plus_minus : (a b p : Three) → sum (sum a p) (difference b p) ≡ sum a b
+    plus_minus zero_three zero_three zero_three = refl
+    plus_minus zero_three zero_three unit = refl
+    plus_minus zero_three zero_three minus_unit = refl
+    plus_minus zero_three unit zero_three = refl
+    plus_minus zero_three unit unit = refl
+    plus_minus zero_three unit minus_unit = refl
+    plus_minus zero_three minus_unit zero_three = refl
+    plus_minus zero_three minus_unit unit = refl
+    plus_minus zero_three minus_unit minus_unit = refl
+    plus_minus unit zero_three zero_three = refl
+    plus_minus unit zero_three unit = refl
+    plus_minus unit zero_three minus_unit = refl
+    plus_minus unit unit zero_three = refl
+    plus_minus unit unit unit = refl
+    plus_minus unit unit minus_unit = refl
+    plus_minus unit minus_unit zero_three = refl
+    plus_minus unit minus_unit unit = refl
+    plus_minus unit minus_unit minus_unit = refl
+    plus_minus minus_unit zero_three zero_three = refl
+    plus_minus minus_unit zero_three unit = refl
+    plus_minus minus_unit zero_three minus_unit = refl
+    plus_minus minus_unit unit zero_three = refl
+    plus_minus minus_unit unit unit = refl
+    plus_minus minus_unit unit minus_unit = refl
+    plus_minus minus_unit minus_unit zero_three = refl
+    plus_minus minus_unit minus_unit unit = refl
+    plus_minus minus_unit minus_unit minus_unit = refl
 
     minus_plus : (p x : Three) → difference (sum p x) p ≡ x
-    minus_plus zeroThree zeroThree = refl
-    minus_plus zeroThree unit = refl
-    minus_plus zeroThree minus-unit = refl
-    minus_plus unit zeroThree = refl
+    minus_plus zero_three zero_three = refl
+    minus_plus zero_three unit = refl
+    minus_plus zero_three minus_unit = refl
+    minus_plus unit zero_three = refl
     minus_plus unit unit = refl
-    minus_plus unit minus-unit = refl
-    minus_plus minus-unit zeroThree = refl
-    minus_plus minus-unit unit = refl
-    minus_plus minus-unit minus-unit = refl
+    minus_plus unit minus_unit = refl
+    minus_plus minus_unit zero_three = refl
+    minus_plus minus_unit unit = refl
+    minus_plus minus_unit minus_unit = refl
 
-    plus-zero : (a : Three) → sum a zeroThree ≡ a
-    plus-zero zeroThree = refl
-    plus-zero unit = refl
-    plus-zero minus-unit = refl
+    plus_zero : (a : Three) → sum a zero_three ≡ a
+    plus_zero zero_three = refl
+    plus_zero unit = refl
+    plus_zero minus_unit = refl
 
-    minus-zero : (a : Three) → difference a zeroThree ≡ a
-    minus-zero zeroThree = refl
-    minus-zero unit = refl
-    minus-zero minus-unit = refl
+    minus_zero : (a : Three) → difference a zero_three ≡ a
+    minus_zero zero_three = refl
+    minus_zero unit = refl
+    minus_zero minus_unit = refl
 
-    times_zero : (a : Three) → product a zeroThree ≡ zeroThree
-    times_zero zeroThree = refl
+    times_zero : (a : Three) → product a zero_three ≡ zero_three
+    times_zero zero_three = refl
     times_zero unit = refl
-    times_zero minus-unit = refl
+    times_zero minus_unit = refl
 
-    zero-times : (a : Three) → product zeroThree a ≡ zeroThree
-    zero-times zeroThree = refl
-    zero-times unit = refl
-    zero-times minus-unit = refl
+    zero_times : (a : Three) → product zero_three a ≡ zero_three
+    zero_times zero_three = refl
+    zero_times unit = refl
+    zero_times minus_unit = refl
 
-    over-times : (a d : Three) → is_zero d ≡ false → product (quotient a d) d ≡ a
-    over-times zeroThree zeroThree e = absurd (true≢false e)
-    over-times zeroThree unit e = refl
-    over-times zeroThree minus-unit e = refl
-    over-times unit zeroThree e = absurd (true≢false e)
-    over-times unit unit e = refl
-    over-times unit minus-unit e = refl
-    over-times minus-unit zeroThree e = absurd (true≢false e)
-    over-times minus-unit unit e = refl
-    over-times minus-unit minus-unit e = refl
+    over_times : (a d : Three) → is_zero d ≡ false → product (quotient a d) d ≡ a
+    over_times zero_three zero_three e = absurd (true≢false e)
+    over_times zero_three unit e = refl
+    over_times zero_three minus_unit e = refl
+    over_times unit zero_three e = absurd (true≢false e)
+    over_times unit unit e = refl
+    over_times unit minus_unit e = refl
+    over_times minus_unit zero_three e = absurd (true≢false e)
+    over_times minus_unit unit e = refl
+    over_times minus_unit minus_unit e = refl
 
-    root-square : (x : Three) → no-root x ≡ false → product x x ≡ x
-    root-square zeroThree e = refl
-    root-square unit e = refl
-    root-square minus-unit e = absurd (true≢false e)
+    root_square : (x : Three) → no_root x ≡ false → product x x ≡ x
+    root_square zero_three e = refl
+    root_square unit e = refl
+    root_square minus_unit e = absurd (true≢false e)
 
-    root-some : (x : Three) → no-root x ≡ false → is_zero x ≡ false
-    root-some zeroThree e = e
-    root-some unit e = refl
-    root-some minus-unit e = refl
+    root_some : (x : Three) → no_root x ≡ false → is_zero x ≡ false
+    root_some zero_three e = e
+    root_some unit e = refl
+    root_some minus_unit e = refl

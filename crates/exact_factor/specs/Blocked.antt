@@ -4,21 +4,21 @@ use Rattle.std.specs.Prelude.{ℕ, zero, suc, ◌≤◌, ◌<◌, ◌≡◌}
 use Rattle.step_order.specs.Elimination.{Rules}
 use Rattle.rules.specs.Arithmetic.{Arithmetic}
 use Rattle.rules.specs.Sums.{dot}
-use Rattle.rules.specs.Steps.{subtractDense}
+use Rattle.rules.specs.Steps.{subtract_dense}
 use Rattle.rules.specs.Cholesky.{at, forward, factor, radicand, pivots}
 
 module _ (A : Arithmetic) (m : ℕ → ℕ) where
   -- Block j has m j rows; a block is a function of row and column. The sum of logarithms is no matter here.
-  abbrev pub blockRules : Rules
-  blockRules =
+  abbrev pub block_rules : Rules
+  block_rules =
       record {
         Block = ℕ → ℕ → A.Num;
         Total = A.Num;
-        subtract = λ i j h t a b. subtractDense A t a b (m h);
+        subtract = λ i j h t a b. subtract_dense A t a b (m h);
         pivots = λ j b. pivots A (radicand A b) (m j);
         factor = λ j b. factor A b (m j);
         solve = λ i j t f r. at A (forward A (t r) f (m j));
-        emptySum = A.zero;
+        empty_sum = A.zero;
         logs = λ j s f. s;
       }
 

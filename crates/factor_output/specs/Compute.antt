@@ -2,8 +2,8 @@
 use Rattle.std.specs.Prelude.{ℕ, List}
 use Rattle.sheet.specs.Text.{reading}
 use Rattle.update.specs.Compute.{steps}
-use Rattle.factor_output.specs.Program.{printOf}
+use Rattle.factor_output.specs.Program.{print_of}
 
 unfoldable pub printed : List ℕ → List ℕ
-unfolding reading steps printOf
-printed s = printOf s
+unfolding reading steps print_of
+printed s = print_of s

@@ -13,27 +13,27 @@ abbrev pub number : ℕ → List ℕ
 number x = decimal 20 x
 
 -- a lower-case hexadecimal digit, and the last n of a number
-abbrev pub hexDigit : ℕ → ℕ
-hexDigit d = cond (ltb d 10) (48 + d) (87 + d)
+abbrev pub hex_digit : ℕ → ℕ
+hex_digit d = cond (ltb d 10) (48 + d) (87 + d)
 
 unfoldable pub hexadecimal : ℕ → ℕ → List ℕ
 hexadecimal zero x = []
-hexadecimal (suc n) x = hexadecimal n (x / 16) ++ (hexDigit (x % 16) ∷ [])
+hexadecimal (suc n) x = hexadecimal n (x / 16) ++ (hex_digit (x % 16) ∷ [])
 
 -- a double's word; of every NaN it is 7ff8000000000000
 abbrev pub word : Float → List ℕ
 word x = hexadecimal 16 (to_bits binary64 x)
 
-abbrev pub pivotTag : List ℕ
-pivotTag = 112 ∷ 105 ∷ 118 ∷ 111 ∷ 116 ∷ tab ∷ []
+abbrev pub pivot_tag : List ℕ
+pivot_tag = 112 ∷ 105 ∷ 118 ∷ 111 ∷ 116 ∷ tab ∷ []
 
-abbrev pub refusedTag : List ℕ
-refusedTag = 114 ∷ 101 ∷ 102 ∷ 117 ∷ 115 ∷ 101 ∷ 100 ∷ tab ∷ []
+abbrev pub refused_tag : List ℕ
+refused_tag = 114 ∷ 101 ∷ 102 ∷ 117 ∷ 115 ∷ 101 ∷ 100 ∷ tab ∷ []
 
-unfoldable pub pivotLine : ℕ → ℕ → Float → List ℕ
+unfoldable pub pivot_line : ℕ → ℕ → Float → List ℕ
 unfolding decimal hexadecimal
-pivotLine j r x = pivotTag ++ number j ++ (tab ∷ number r) ++ (tab ∷ word x) ++ (lf ∷ [])
+pivot_line j r x = pivot_tag ++ number j ++ (tab ∷ number r) ++ (tab ∷ word x) ++ (lf ∷ [])
 
-unfoldable pub refusedLine : ℕ → ℕ → ℕ → List ℕ
+unfoldable pub refused_line : ℕ → ℕ → ℕ → List ℕ
 unfolding decimal
-refusedLine n a b = refusedTag ++ number n ++ (tab ∷ number a) ++ (tab ∷ number b) ++ (lf ∷ [])
+refused_line n a b = refused_tag ++ number n ++ (tab ∷ number a) ++ (tab ∷ number b) ++ (lf ∷ [])

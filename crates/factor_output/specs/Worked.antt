@@ -3,8 +3,8 @@ use Prim.Native.String.{String}
 use Rattle.std.specs.Prelude.{List, [], ◌∷◌}
 
 -- the sheet
-abbrev pub sheetLines : List String
-sheetLines =
+abbrev pub sheet_lines : List String
+sheet_lines =
     "size 3 1 1 1 1"
     ∷ "block 1 1"
     ∷ "zz 0 0 4008000000000000"
@@ -16,9 +16,9 @@ sheetLines =
     ∷ []
 
 -- the theta part
-abbrev pub thetaLines : List String
-thetaLines = "theta 0 3ff0000000000000" ∷ []
+abbrev pub theta_lines : List String
+theta_lines = "theta 0 3ff0000000000000" ∷ []
 
 -- the output
-abbrev pub outputLines : List String
-outputLines = "pivot 0 0 4000000000000000" ∷ "pivot 1 0 4000000000000000" ∷ "pivot 1 1 3ff0000000000000" ∷ []
+abbrev pub output_lines : List String
+output_lines = "pivot 0 0 4000000000000000" ∷ "pivot 1 0 4000000000000000" ∷ "pivot 1 1 3ff0000000000000" ∷ []

@@ -7,10 +7,10 @@ mod theta_part;
 mod theta_text;
 
 ghost use Rattle.std.specs.Prelude.{◌≡◌, ◌≤◌, ◌<◌, ◌+◌, length};
-ghost use Rattle.sheet.specs.Sheet.{Sheet, accepted, readSheet};
-ghost use Rattle.sheet.specs.Fault.{faultNumber};
+ghost use Rattle.sheet.specs.Sheet.{Sheet, accepted, read_sheet};
+ghost use Rattle.sheet.specs.Fault.{fault_number};
 ghost use Rattle.workspace.specs.Answers.{workspace};
-ghost use Rattle.factor_output.specs.Program.{afterLoad, afterRead};
+ghost use Rattle.factor_output.specs.Program.{after_load, after_read};
 ghost use Rattle.factor_text.specs.refusal_text.Text.{Text};
 ghost use Rattle.factor_text.specs.Written.{Written};
 
@@ -28,7 +28,7 @@ fn put_loaded(
     out: &mut [u8],
 ) -> usize
     requires { (starts.counts.k ≤ 8) × (starts.line + starts.counts.k < 9223372036854775808) × (length doubles.old ≤ 4096) × (131072 ≤ length out.old) }
-    ensures { Text (afterLoad a (workspace heading.old doubles.old) starts.counts bytes.now starts) result out.old out.new }
+    ensures { Text (after_load a (workspace heading.old doubles.old) starts.counts bytes.now starts) result out.old out.new }
 {
     match a {
         Answer::Accepted => theta_text::put_theta(bytes, starts, heading, doubles, out),
@@ -38,8 +38,8 @@ fn put_loaded(
 
 // A sheet that 1 to 9 do not refuse, on a heading and 4,096 doubles, all zero.
 fn put_sheet(bytes: &[u8], starts: Starts, out: &mut [u8]) -> usize
-    requires { ((sheet : Sheet) × (readSheet bytes.now ≡ accepted sheet starts) × (faultNumber sheet ≡ 0)) × (131072 ≤ length out.old) }
-    ensures { Text (afterRead (readSheet bytes.now) bytes.now) result out.old out.new }
+    requires { ((sheet : Sheet) × (read_sheet bytes.now ≡ accepted sheet starts) × (fault_number sheet ≡ 0)) × (131072 ≤ length out.old) }
+    ensures { Text (after_read (read_sheet bytes.now) bytes.now) result out.old out.new }
 {
     let mut h = [0u32; parts::HEADING_LENGTH];
     let mut w = [0f64; 4096];

@@ -1,9 +1,9 @@
 // Writes the lines of all pivots of a factor (document 01, "Worked sheets"), by block, then row, into lent bytes. The lines are defined in the crate
 // factor_output, specs/Program.antt.
 ghost use Rattle.std.specs.Prelude.{◌≡◌, true, suc, ◌+◌, ◌*◌, ◌≤◌, length};
-ghost use Rattle.heading_format.specs.Heading.{layout_of, validHeading};
+ghost use Rattle.heading_format.specs.Heading.{layout_of, valid_heading};
 ghost use Rattle.workspace.specs.Answers.{workspace};
-ghost use Rattle.factor_output.specs.Program.{pivotLines};
+ghost use Rattle.factor_output.specs.Program.{pivot_lines};
 ghost use Rattle.text_output.specs.Written.{Put};
 ghost use Rattle.block_places.specs.block_kinds.Rows.{rows_of};
 ghost use Rattle.factor_text.specs.pivot_lines.Lines.{row_lines, block_lines};
@@ -47,8 +47,8 @@ fn put_blocks(layout: Layout, doubles: &[f64], out: &mut [u8]) -> usize
 
 // The pivots of a workspace of at most 4,096 doubles, from the first byte on.
 pub fn put_pivots(heading: &[u32], doubles: &[f64], out: &mut [u8]) -> usize
-    requires { (validHeading heading.now (length doubles.now) ≡ true) × (length doubles.now ≤ 4096) × (131072 ≤ length out.old) }
-    ensures { (result ≤ 131072) × Put 0 (pivotLines (workspace heading.now doubles.now) (suc (layout_of heading.now).k)) out.old result out.new }
+    requires { (valid_heading heading.now (length doubles.now) ≡ true) × (length doubles.now ≤ 4096) × (131072 ≤ length out.old) }
+    ensures { (result ≤ 131072) × Put 0 (pivot_lines (workspace heading.now doubles.now) (suc (layout_of heading.now).k)) out.old result out.new }
 {
     put_blocks(heading::layout(heading), doubles, out)
 }

@@ -1,11 +1,11 @@
 // What the program `factor` prints once theta is read: the pivots, or the refused one.
 ghost use Rattle.std.specs.Prelude.{◌≡◌, true, ◌≤◌, length};
-ghost use Rattle.step_order.specs.Steps.{rustOrder};
+ghost use Rattle.step_order.specs.Steps.{rust_order};
 ghost use Rattle.refusal.specs.declared.Answer.TheVariants.{Accepted};
-ghost use Rattle.heading_format.specs.Heading.{layout_of, validHeading};
+ghost use Rattle.heading_format.specs.Heading.{layout_of, valid_heading};
 ghost use Rattle.workspace.specs.Answers.{workspace};
 ghost use Rattle.profile_deviance.specs.ready_step.ReadyInTurn.{ReadyInTurn};
-ghost use Rattle.factor_output.specs.Program.{printSteps, afterBegin, factorWith};
+ghost use Rattle.factor_output.specs.Program.{print_steps, after_begin, factor_with};
 ghost use Rattle.factor_text.specs.refusal_text.Text.{Text};
 
 use crate::{pivot_lines, refusal_text};
@@ -14,8 +14,8 @@ use refusal::Answer;
 
 // What the steps came to: the pivots of every block, or the refusal that ended them.
 fn put_steps(a: Answer, heading: &[u32], doubles: &[f64], out: &mut [u8]) -> usize
-    requires { (a ≡ Accepted → validHeading heading.now (length doubles.now) ≡ true) × (length doubles.now ≤ 4096) × (131072 ≤ length out.old) }
-    ensures { Text (printSteps a (workspace heading.now doubles.now) (layout_of heading.now).k) result out.old out.new }
+    requires { (a ≡ Accepted → valid_heading heading.now (length doubles.now) ≡ true) × (length doubles.now ≤ 4096) × (131072 ≤ length out.old) }
+    ensures { Text (print_steps a (workspace heading.now doubles.now) (layout_of heading.now).k) result out.old out.new }
 {
     match a {
         Answer::Accepted => pivot_lines::put_pivots(heading, doubles, out),
@@ -25,8 +25,8 @@ fn put_steps(a: Answer, heading: &[u32], doubles: &[f64], out: &mut [u8]) -> usi
 
 // What begin came to: the steps in the Rust's order, or its refusal.
 fn put_begun(a: Answer, heading: &mut [u32], doubles: &mut [f64], k: u64, out: &mut [u8]) -> usize
-    requires { (a ≡ Accepted → ReadyInTurn (workspace heading.old doubles.old) (rustOrder k) × ((layout_of heading.old).k ≡ k)) × (length doubles.old ≤ 4096) × (131072 ≤ length out.old) }
-    ensures { Text (afterBegin a (workspace heading.old doubles.old) k) result out.old out.new }
+    requires { (a ≡ Accepted → ReadyInTurn (workspace heading.old doubles.old) (rust_order k) × ((layout_of heading.old).k ≡ k)) × (length doubles.old ≤ 4096) × (131072 ≤ length out.old) }
+    ensures { Text (after_begin a (workspace heading.old doubles.old) k) result out.old out.new }
 {
     match a {
         Answer::Accepted => {
@@ -40,7 +40,7 @@ fn put_begun(a: Answer, heading: &mut [u32], doubles: &mut [f64], k: u64, out: &
 // Begin with theta, and what it came to.
 pub fn put_factor(heading: &mut [u32], doubles: &mut [f64], theta: &[f64], out: &mut [u8]) -> usize
     requires { (length doubles.old ≤ 4096) × (131072 ≤ length out.old) }
-    ensures { Text (factorWith (workspace heading.old doubles.old) (length theta.now) theta.now) result out.old out.new }
+    ensures { Text (factor_with (workspace heading.old doubles.old) (length theta.now) theta.now) result out.old out.new }
 {
     let a = begin::begin(heading, doubles, theta);
     put_begun(a, heading, doubles, theta.len() as u64, out)

@@ -1,8 +1,8 @@
 // Reads the theta part of the input of the program `factor` (document 01, "Worked sheets"): a line for each block, in the sheet's order. What it is
 // to answer is defined in the crate factor_output, specs/Program.antt.
 ghost use Rattle.std.specs.Prelude.{◌≡◌, ◌+◌, ◌≤◌, ◌<◌, length, take};
-ghost use Rattle.sheet.specs.Run.{passOf};
-ghost use Rattle.factor_output.specs.Program.{thetaVerdict, thetaLines};
+ghost use Rattle.sheet.specs.Run.{pass_of};
+ghost use Rattle.factor_output.specs.Program.{theta_verdict, theta_lines};
 
 use float_bits::words;
 use sheet::{Cursor, Line};
@@ -12,7 +12,7 @@ use sheet_reader::single_line;
 // Past a theta line, whose index is to be i; one that is not in form or has another index is not passed, and is 2.
 fn theta_line(l: Line, i: u64, c: Cursor) -> Cursor
     requires { (c.number ≡ 0) × (c.line < 9223372036854775808) }
-    ensures { result ≡ passOf c (thetaVerdict (i, 0) l) l.next }
+    ensures { result ≡ pass_of c (theta_verdict (i, 0) l) l.next }
 {
     if (l.next != NOWHERE) & (l.first == i) {
         return Cursor {
@@ -32,7 +32,7 @@ fn theta_line(l: Line, i: u64, c: Cursor) -> Cursor
 // The cursor that is left says whether they were, number 0, or which line is not, number 2.
 pub fn read_theta(bytes: &[u8], c: Cursor, k: u64, theta: &mut [f64]) -> Cursor
     requires { (c.line + k < 9223372036854775808) × (k ≤ 8) × (8 ≤ length theta.old) }
-    ensures { (result ≡ (thetaLines bytes.now k c).past) × (result.number ≡ 0 → take k theta.new ≡ (thetaLines bytes.now k c).items) × (length theta.new ≡ length theta.old) }
+    ensures { (result ≡ (theta_lines bytes.now k c).past) × (result.number ≡ 0 → take k theta.new ≡ (theta_lines bytes.now k c).items) × (length theta.new ≡ length theta.old) }
 {
     let mut d = c;
     let mut i: u64 = 0;

@@ -2,7 +2,7 @@
 ghost use Rattle.std.specs.Prelude.{◌≤◌, ◌<◌, ◌+◌, length};
 ghost use Rattle.refusal.specs.declared.Answer.TheVariants.{Accepted};
 ghost use Rattle.workspace.specs.Answers.{workspace};
-ghost use Rattle.factor_output.specs.Program.{afterLoad};
+ghost use Rattle.factor_output.specs.Program.{after_load};
 ghost use Rattle.factor_text.specs.refusal_text.Text.{Text};
 
 use crate::{refusal_text, steps_text, theta_part};
@@ -17,7 +17,7 @@ pub fn put_theta(
     out: &mut [u8],
 ) -> usize
     requires { (starts.counts.k ≤ 8) × (starts.line + starts.counts.k < 9223372036854775808) × (length doubles.old ≤ 4096) × (131072 ≤ length out.old) }
-    ensures { Text (afterLoad Accepted (workspace heading.old doubles.old) starts.counts bytes.now starts) result out.old out.new }
+    ensures { Text (after_load Accepted (workspace heading.old doubles.old) starts.counts bytes.now starts) result out.old out.new }
 {
     let k = starts.counts.k;
     let mut theta = [0f64; layout::MOST_THETA];

@@ -8,19 +8,19 @@ use lib.Dec.{eqb}
 use lib.ListN.{length, get_or, take, drop, set, replicate, length-drop}
 use lib.Seq.{get_or-drop, take_all}
 use Rattle.storage.specs.Part.{store}
-use Rattle.storage.proofs.Cells.{take-tab}
-use Rattle.storage.proofs.Parts.{store-nil, store-one, store-more}
+use Rattle.storage.proofs.Cells.{take_tab}
+use Rattle.storage.proofs.Parts.{store_nil, store_one, store_more}
 use Rattle.layout.specs.declared.Layout.{Layout}
 use Rattle.heading_format.specs.declared.Progress.{Progress}
 use Rattle.heading_format.specs.declared.State.{State}
 use Rattle.heading_format.specs.declared.State.TheVariants.{Finished}
 use Rattle.layout.specs.Blocks.{padded}
-use Rattle.heading_format.specs.Heading.{bit, stateNumber, state_of, layout_of, progressOf, layoutNumbers, progressNumbers, written}
-use Rattle.storage.proofs.Filling.{Filling, filling-done, array-done}
-use Rattle.layout.proofs.Sums.{padded-at, length-padded}
-use Rattle.heading_format.specs.Parts.{levelsAt, order_at, sparseAt, diagonalAt, progressAt, stepsLeftAt, stagesAt, mostTargets, progressEnd, unusedNumbers, headingLength}
-use Rattle.layout.proofs.Made.{layoutWith}
-use Rattle.heading_format.proofs.Heading.{progressWith}
+use Rattle.heading_format.specs.Heading.{bit, state_number, state_of, layout_of, progress_of, layout_numbers, progress_numbers, written}
+use Rattle.storage.proofs.Filling.{Filling, filling_done, array_done}
+use Rattle.layout.proofs.Sums.{padded_at, length_padded}
+use Rattle.heading_format.specs.Parts.{levels_at, order_at, sparse_at, diagonal_at, progress_at, steps_left_at, stages_at, most_targets, progress_end, unused_numbers, heading_length}
+use Rattle.layout.proofs.Made.{layout_with}
+use Rattle.heading_format.proofs.Heading.{progress_with}
 
 -- ---- reading
 
@@ -31,72 +31,72 @@ behind h at x = get_or h (at + x) 0
 -- an array of n numbers, all read
 pub read_all : (h : List ℕ) (at : ℕ) {n : ℕ} {w r : List ℕ} {j : ℕ} → Filling (behind h at) 0 n w r j → n ≤ j → length w ≡ n → at + n ≤ length h → r ≡ take n (drop at h)
 read_all h at {n} e g q l =
-    array-done e g q ∙ sym (take-tab 0 n (behind h at) (drop at h) (omega (arith, length-drop at h)) (λ i b. get_or-drop at h i 0))
+    array_done e g q ∙ sym (take_tab 0 n (behind h at) (drop at h) (omega (arith, length-drop at h)) (λ i b. get_or-drop at h i 0))
 
 -- a number past 1 is read as finished
-pub state-else : (v : ℕ) → (v ≡ 0 → ⊥) → (v ≡ 1 → ⊥) → Finished ≡ state_of v
-state-else zero a b = absurd (a refl)
-state-else (suc zero) a b = absurd (b refl)
-state-else (suc (suc v)) a b = refl
+pub state_else : (v : ℕ) → (v ≡ 0 → ⊥) → (v ≡ 1 → ⊥) → Finished ≡ state_of v
+state_else zero a b = absurd (a refl)
+state_else (suc zero) a b = absurd (b refl)
+state_else (suc (suc v)) a b = refl
 
 -- a layout and a progress, made of the numbers that were read
-pub layout-read : (h : List ℕ) {n p q k s d : ℕ} {m order : List ℕ} → m ≡ take 8 (drop levelsAt h) → order ≡ take 8 (drop order_at h) → n ≡ get_or h 0 0 → p ≡ get_or h 1 0 → q ≡ get_or h 2 0 → k ≡ get_or h 3 0
-    → s ≡ get_or h sparseAt 0 → d ≡ get_or h diagonalAt 0 → ◌≡◌ {A = Layout} (layoutWith n p q k m order (eqb s 1) (eqb d 1)) (layout_of h)
+pub layout_read : (h : List ℕ) {n p q k s d : ℕ} {m order : List ℕ} → m ≡ take 8 (drop levels_at h) → order ≡ take 8 (drop order_at h) → n ≡ get_or h 0 0 → p ≡ get_or h 1 0 → q ≡ get_or h 2 0 → k ≡ get_or h 3 0
+    → s ≡ get_or h sparse_at 0 → d ≡ get_or h diagonal_at 0 → ◌≡◌ {A = Layout} (layout_with n p q k m order (eqb s 1) (eqb d 1)) (layout_of h)
 unfolding layout_of
-layout-read h a b c d e f g i = rw (a, b, c, d, e, f, g, i)
+layout_read h a b c d e f g i = rw (a, b, c, d, e, f, g, i)
 
-pub progress-read : (h : List ℕ) {s : State} {v left : ℕ} {stages : List ℕ} → v ≡ get_or h progressAt 0 → s ≡ state_of v → stages ≡ take mostTargets (drop stagesAt h) → left ≡ get_or h stepsLeftAt 0
-    → ◌≡◌ {A = Progress} (progressWith s left stages) (progressOf h)
-unfolding progressOf
-progress-read h a b c d = rw (b, a, c, d)
+pub progress_read : (h : List ℕ) {s : State} {v left : ℕ} {stages : List ℕ} → v ≡ get_or h progress_at 0 → s ≡ state_of v → stages ≡ take most_targets (drop stages_at h) → left ≡ get_or h steps_left_at 0
+    → ◌≡◌ {A = Progress} (progress_with s left stages) (progress_of h)
+unfolding progress_of
+progress_read h a b c d = rw (b, a, c, d)
 
 -- ---- writing
 
 -- one number
 pub stored_one : (w : List ℕ) (at v : ℕ) → at < length w → set w at v ≡ store at (v ∷ []) w
 stored_one w at v h =
-    simp (store-nil, add-zero) at (store-one at [] w (omega arith) v (omega arith))
+    simp (store_nil, add-zero) at (store_one at [] w (omega arith) v (omega arith))
 
 -- the first n numbers of l
 abbrev pub each : List ℕ → ℕ → ℕ
 each l x = get_or l x 0
 
 -- all of them
-pub stored-all : (l : List ℕ) {at n : ℕ} {w r : List ℕ} {j : ℕ} → Filling (each l) at n w r j → n ≤ j → r ≡ store at (padded n l) w
-stored-all l {at} {n} {w} e g =
-    filling-done e g
+pub stored_all : (l : List ℕ) {at n : ℕ} {w r : List ℕ} {j : ℕ} → Filling (each l) at n w r j → n ≤ j → r ≡ store at (padded n l) w
+stored_all l {at} {n} {w} e g =
+    filling_done e g
     ∙ ap (λ (x : List ℕ). store at x w)
-    (sym (take-tab 0 n (each l) (padded n l) (omega (arith, length-padded n l)) (λ i b. padded-at n l i b)) ∙ take_all n (padded n l) (omega (arith, length-padded n l)))
+    (sym (take_tab 0 n (each l) (padded n l) (omega (arith, length_padded n l)) (λ i b. padded_at n l i b)) ∙ take_all n (padded n l) (omega (arith, length_padded n l)))
 
-long-layout : (y : Layout) → progressAt ≡ length (layoutNumbers y)
-unfolding layoutNumbers padded
-long-layout y = refl
+long_layout : (y : Layout) → progress_at ≡ length (layout_numbers y)
+unfolding layout_numbers padded
+long_layout y = refl
 
-long-both : (y : Layout) (g : Progress) → progressEnd ≡ length (layoutNumbers y ++ progressNumbers g)
-unfolding layoutNumbers progressNumbers padded
-long-both y g = refl
+long_both : (y : Layout) (g : Progress) → progress_end ≡ length (layout_numbers y ++ progress_numbers g)
+unfolding layout_numbers progress_numbers padded
+long_both y g = refl
 
 -- b written right behind a: both are written as one
 then : (w : List ℕ) (off p : ℕ) (a b : List ℕ) → p ≡ off + length a → p ≤ length w → store p b (store off a w) ≡ store off (a ++ b) w
-then w off p a b z h = rw z (store-more off a w (omega arith) b)
+then w off p a b z h = rw z (store_more off a w (omega arith) b)
 
 module _ (w : List ℕ) {w₁ w₂ w₃ w₄ : List ℕ} where
   -- the counts, one by one
-  pub counts-stored : (n p q k : ℕ) → w₄ ≡ store 3 (k ∷ []) w₃ → w₃ ≡ store 2 (q ∷ []) w₂ → w₂ ≡ store 1 (p ∷ []) w₁ → w₁ ≡ store 0 (n ∷ []) w → 4 ≤ length w
+  pub counts_stored : (n p q k : ℕ) → w₄ ≡ store 3 (k ∷ []) w₃ → w₃ ≡ store 2 (q ∷ []) w₂ → w₂ ≡ store 1 (p ∷ []) w₁ → w₁ ≡ store 0 (n ∷ []) w → 4 ≤ length w
       → w₄ ≡ store 0 (n ∷ p ∷ q ∷ k ∷ []) w
-  counts-stored n p q k e₄ e₃ e₂ e₁ h =
+  counts_stored n p q k e₄ e₃ e₂ e₁ h =
       rw (e₄, e₃, e₂, e₁, then w 0 1 (n ∷ []) (p ∷ []) refl (omega arith), then w 0 2 (n ∷ p ∷ []) (q ∷ []) refl (omega arith))
       (then w 0 3 (n ∷ p ∷ q ∷ []) (k ∷ []) refl (omega arith))
 
   -- the layout: counts, levels, sheet indexes, flags
-  pub layout-stored : (y : Layout) → w₄ ≡ store sparseAt (bit y.sparse ∷ bit y.diagonal ∷ []) w₃ → w₃ ≡ store order_at (padded 8 y.order) w₂ → w₂ ≡ store levelsAt (padded 8 y.m) w₁
-      → w₁ ≡ store 0 (y.n ∷ y.p ∷ y.q ∷ y.k ∷ []) w → headingLength ≤ length w → w₄ ≡ store 0 (layoutNumbers y) w
-  unfolding layoutNumbers padded
-  layout-stored y e₄ e₃ e₂ e₁ h =
+  pub layout_stored : (y : Layout) → w₄ ≡ store sparse_at (bit y.sparse ∷ bit y.diagonal ∷ []) w₃ → w₃ ≡ store order_at (padded 8 y.order) w₂ → w₂ ≡ store levels_at (padded 8 y.m) w₁
+      → w₁ ≡ store 0 (y.n ∷ y.p ∷ y.q ∷ y.k ∷ []) w → heading_length ≤ length w → w₄ ≡ store 0 (layout_numbers y) w
+  unfolding layout_numbers padded
+  layout_stored y e₄ e₃ e₂ e₁ h =
       rw (e₄, e₃, e₂, e₁)
-      (ap (λ (x : List ℕ). store sparseAt flags (store order_at order x)) (then w 0 levelsAt counts m refl (omega arith))
-      ∙ ap (λ (x : List ℕ). store sparseAt flags x) (then w 0 order_at (counts ++ m) order refl (omega arith))
-      ∙ then w 0 sparseAt (counts ++ m ++ order) flags refl (omega arith))
+      (ap (λ (x : List ℕ). store sparse_at flags (store order_at order x)) (then w 0 levels_at counts m refl (omega arith))
+      ∙ ap (λ (x : List ℕ). store sparse_at flags x) (then w 0 order_at (counts ++ m) order refl (omega arith))
+      ∙ then w 0 sparse_at (counts ++ m ++ order) flags refl (omega arith))
     where
       counts : List ℕ
       counts = y.n ∷ y.p ∷ y.q ∷ y.k ∷ []
@@ -111,23 +111,23 @@ module _ (w : List ℕ) {w₁ w₂ w₃ w₄ : List ℕ} where
       flags = bit y.sparse ∷ bit y.diagonal ∷ []
 
 -- the flags
-pub flags-stored : (w : List ℕ) {w₁ w₂ : List ℕ} {a b : ℕ} (s d : ℕ) → w₂ ≡ store diagonalAt (b ∷ []) w₁ → w₁ ≡ store sparseAt (a ∷ []) w → a ≡ s → b ≡ d → progressAt ≤ length w → w₂ ≡ store sparseAt (s ∷ d ∷ []) w
-flags-stored w s d e₂ e₁ a b h = rw (e₂, e₁, a, b) (then w sparseAt diagonalAt (s ∷ []) (d ∷ []) refl (omega arith))
+pub flags_stored : (w : List ℕ) {w₁ w₂ : List ℕ} {a b : ℕ} (s d : ℕ) → w₂ ≡ store diagonal_at (b ∷ []) w₁ → w₁ ≡ store sparse_at (a ∷ []) w → a ≡ s → b ≡ d → progress_at ≤ length w → w₂ ≡ store sparse_at (s ∷ d ∷ []) w
+flags_stored w s d e₂ e₁ a b h = rw (e₂, e₁, a, b) (then w sparse_at diagonal_at (s ∷ []) (d ∷ []) refl (omega arith))
 
 module _ (w : List ℕ) {w₁ w₂ w₃ : List ℕ} where
   -- the progress: state, steps left, stages
-  pub progress-stored : {a : ℕ} (g : Progress) → w₃ ≡ store stagesAt (padded mostTargets g.stages) w₂ → w₂ ≡ store stepsLeftAt (g.left ∷ []) w₁ → w₁ ≡ store progressAt (a ∷ []) w → a ≡ stateNumber g.state
-      → headingLength ≤ length w → w₃ ≡ store progressAt (progressNumbers g) w
-  unfolding progressNumbers
-  progress-stored g e₃ e₂ e₁ a h =
-      rw (e₃, e₂, e₁, a, then w progressAt stepsLeftAt (stateNumber g.state ∷ []) (g.left ∷ []) refl (omega arith))
-      (then w progressAt stagesAt (stateNumber g.state ∷ g.left ∷ []) (padded mostTargets g.stages) refl (omega arith))
+  pub progress_stored : {a : ℕ} (g : Progress) → w₃ ≡ store stages_at (padded most_targets g.stages) w₂ → w₂ ≡ store steps_left_at (g.left ∷ []) w₁ → w₁ ≡ store progress_at (a ∷ []) w → a ≡ state_number g.state
+      → heading_length ≤ length w → w₃ ≡ store progress_at (progress_numbers g) w
+  unfolding progress_numbers
+  progress_stored g e₃ e₂ e₁ a h =
+      rw (e₃, e₂, e₁, a, then w progress_at steps_left_at (state_number g.state ∷ []) (g.left ∷ []) refl (omega arith))
+      (then w progress_at stages_at (state_number g.state ∷ g.left ∷ []) (padded most_targets g.stages) refl (omega arith))
 
   -- the whole heading: layout, progress, zeros
-  pub all-stored : (y : Layout) (g : Progress) → w₃ ≡ store progressEnd (padded unusedNumbers (replicate unusedNumbers 0)) w₂ → w₂ ≡ store progressAt (progressNumbers g) w₁ → w₁ ≡ store 0 (layoutNumbers y) w → headingLength ≤ length w
+  pub all_stored : (y : Layout) (g : Progress) → w₃ ≡ store progress_end (padded unused_numbers (replicate unused_numbers 0)) w₂ → w₂ ≡ store progress_at (progress_numbers g) w₁ → w₁ ≡ store 0 (layout_numbers y) w → heading_length ≤ length w
       → w₃ ≡ store 0 (written y g) w
   unfolding written padded
-  all-stored y g e₃ e₂ e₁ h =
+  all_stored y g e₃ e₂ e₁ h =
       rw (e₃, e₂, e₁)
-      (ap (λ (x : List ℕ). store progressEnd (replicate unusedNumbers 0) x) (then w 0 progressAt (layoutNumbers y) (progressNumbers g) (long-layout y) (omega arith))
-      ∙ then w 0 progressEnd (layoutNumbers y ++ progressNumbers g) (replicate unusedNumbers 0) (long-both y g) (omega arith))
+      (ap (λ (x : List ℕ). store progress_end (replicate unused_numbers 0) x) (then w 0 progress_at (layout_numbers y) (progress_numbers g) (long_layout y) (omega arith))
+      ∙ then w 0 progress_end (layout_numbers y ++ progress_numbers g) (replicate unused_numbers 0) (long_both y g) (omega arith))

@@ -1,6 +1,6 @@
 // Progress none (document 01, Record 5): what load and a new response leave, and what the steps of an update begin from.
 ghost use Rattle.std.specs.Prelude.{◌≡◌, ◌≤◌, length};
-ghost use Rattle.step_order.specs.Steps.{rustOrder};
+ghost use Rattle.step_order.specs.Steps.{rust_order};
 ghost use Rattle.heading_format.specs.Heading.{idle};
 
 use heading_format::{Progress, State};
@@ -8,7 +8,7 @@ use heading_format::{Progress, State};
 // How many steps an update of k blocks has (Record 4).
 pub fn step_count(k: u64) -> u64
     requires { k ≤ 8 }
-    ensures { result ≡ length (rustOrder k) }
+    ensures { result ≡ length (rust_order k) }
 {
     (k + 1) * (k + 2) * (k + 3) / 6
 }

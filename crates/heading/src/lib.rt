@@ -4,8 +4,8 @@ pub mod idle_progress;
 pub mod writer;
 
 ghost use Rattle.std.specs.Prelude.{◌≡◌, ◌+◌, ◌<◌, ◌≤◌, length, get_or, take, drop};
-ghost use Rattle.heading_format.specs.Heading.{state_of, layout_of, progressOf};
-ghost use Rattle.heading_format.specs.Parts.{stagesAt, mostTargets, progressEnd, headingLength};
+ghost use Rattle.heading_format.specs.Heading.{state_of, layout_of, progress_of};
+ghost use Rattle.heading_format.specs.Parts.{stages_at, most_targets, progress_end, heading_length};
 
 use heading_format::{Progress, State, parts};
 use layout::Layout;
@@ -50,8 +50,8 @@ fn eight(heading: &[u32], at: usize) -> [u64; 8]
 
 // The stages of the target blocks.
 fn stages(heading: &[u32]) -> [u64; parts::MOST_TARGETS]
-    requires { progressEnd ≤ length heading.now }
-    ensures { result ≡ take mostTargets (drop stagesAt heading.now) }
+    requires { progress_end ≤ length heading.now }
+    ensures { result ≡ take most_targets (drop stages_at heading.now) }
 {
     let mut r = [0u64; parts::MOST_TARGETS];
     fill(heading, parts::STAGES_AT, &mut r);
@@ -71,7 +71,7 @@ fn state(v: u64) -> State
 
 // The layout that a heading tells.
 pub fn layout(heading: &[u32]) -> Layout
-    requires { headingLength ≤ length heading.now }
+    requires { heading_length ≤ length heading.now }
     ensures { result ≡ layout_of heading.now }
 {
     let m = eight(heading, parts::LEVELS_AT);
@@ -90,8 +90,8 @@ pub fn layout(heading: &[u32]) -> Layout
 
 // The progress that a heading tells.
 pub fn progress(heading: &[u32]) -> Progress
-    requires { headingLength ≤ length heading.now }
-    ensures { result ≡ progressOf heading.now }
+    requires { heading_length ≤ length heading.now }
+    ensures { result ≡ progress_of heading.now }
 {
     let state = state(number(heading, parts::PROGRESS_AT));
     let stages = stages(heading);

@@ -2,9 +2,9 @@
 ghost use Rattle.std.specs.Prelude.{◌≡◌, [], ◌∷◌, ℕ, ◌+◌, ◌<◌, ◌≤◌, length, get_or};
 ghost use Rattle.storage.specs.Part.{store};
 ghost use Rattle.layout.specs.Blocks.{padded};
-ghost use Rattle.heading_format.specs.Heading.{bit, stateNumber, layoutNumbers, progressNumbers, written};
+ghost use Rattle.heading_format.specs.Heading.{bit, state_number, layout_numbers, progress_numbers, written};
 ghost use Rattle.heading.specs.writer.Small.{SmallLayout, SmallProgress};
-ghost use Rattle.heading_format.specs.Parts.{sparseAt, progressAt, headingLength};
+ghost use Rattle.heading_format.specs.Parts.{sparse_at, progress_at, heading_length};
 
 use heading_format::{Progress, State, parts};
 use layout::Layout;
@@ -26,7 +26,7 @@ fn flag(b: bool) -> u64
 
 // The number that a state is written as.
 fn state_number(s: State) -> u64
-    ensures { (result ≡ stateNumber s) × (result < 4294967296) }
+    ensures { (result ≡ state_number s) × (result < 4294967296) }
 {
     match s {
         State::Idle => 0,
@@ -68,8 +68,8 @@ fn write_counts(heading: &mut [u32], n: u64, p: u64, q: u64, k: u64)
 
 // Writes how the blocks are stored.
 fn write_flags(heading: &mut [u32], sparse: bool, diagonal: bool)
-    requires { progressAt ≤ length heading.old }
-    ensures { heading.new ≡ store sparseAt (bit sparse ∷ bit diagonal ∷ []) heading.old }
+    requires { progress_at ≤ length heading.old }
+    ensures { heading.new ≡ store sparse_at (bit sparse ∷ bit diagonal ∷ []) heading.old }
 {
     put(heading, parts::SPARSE_AT, flag(sparse));
     put(heading, parts::DIAGONAL_AT, flag(diagonal));
@@ -77,8 +77,8 @@ fn write_flags(heading: &mut [u32], sparse: bool, diagonal: bool)
 
 // Writes a layout.
 fn write_layout(heading: &mut [u32], layout: Layout)
-    requires { (headingLength ≤ length heading.old) × SmallLayout layout }
-    ensures { heading.new ≡ store 0 (layoutNumbers layout) heading.old }
+    requires { (heading_length ≤ length heading.old) × SmallLayout layout }
+    ensures { heading.new ≡ store 0 (layout_numbers layout) heading.old }
 {
     write_counts(heading, layout.n, layout.p, layout.q, layout.k);
     let m = layout.m;
@@ -90,8 +90,8 @@ fn write_layout(heading: &mut [u32], layout: Layout)
 
 // Writes a progress, and nothing else.
 pub fn write_progress(heading: &mut [u32], progress: Progress)
-    requires { (headingLength ≤ length heading.old) × SmallProgress progress }
-    ensures { heading.new ≡ store progressAt (progressNumbers progress) heading.old }
+    requires { (heading_length ≤ length heading.old) × SmallProgress progress }
+    ensures { heading.new ≡ store progress_at (progress_numbers progress) heading.old }
 {
     let state = progress.state;
     put(heading, parts::PROGRESS_AT, state_number(state));
@@ -102,7 +102,7 @@ pub fn write_progress(heading: &mut [u32], progress: Progress)
 
 // Writes all parts of a heading.
 pub fn write(heading: &mut [u32], layout: Layout, progress: Progress)
-    requires { (headingLength ≤ length heading.old) × SmallLayout layout × SmallProgress progress }
+    requires { (heading_length ≤ length heading.old) × SmallLayout layout × SmallProgress progress }
     ensures { heading.new ≡ store 0 (written layout progress) heading.old }
 {
     write_layout(heading, layout);

@@ -3,7 +3,7 @@
 ghost use Rattle.std.specs.Prelude.{◌≡◌, ◌<◌, ◌≤◌};
 ghost use Rattle.layout.specs.Blocks.{sum};
 ghost use Rattle.layout.specs.Shapes.{levels};
-ghost use Rattle.heading_format.specs.Heading.{within, every, validPair, validLayout};
+ghost use Rattle.heading_format.specs.Heading.{within, every, valid_pair, valid_layout};
 ghost use Rattle.heading_check.specs.layout_check.Ranged.{Ranged};
 
 use crate::{counts_check, order_check};
@@ -45,7 +45,7 @@ fn total(layout: Layout) -> u64
 // Whether the gate lets a pair be held as it is.
 fn pair_passes(layout: Layout, i: u64, j: u64) -> bool
     requires { Ranged layout × (i < layout.k) × (j < i) }
-    ensures { result ≡ validPair layout i j }
+    ensures { result ≡ valid_pair layout i j }
 {
     let rows = order_check::level(layout, i);
     let cols = order_check::level(layout, j);
@@ -61,7 +61,7 @@ fn pair_passes(layout: Layout, i: u64, j: u64) -> bool
 // The pairs of block i with those before it.
 fn row_passes(layout: Layout, i: u64) -> bool
     requires { Ranged layout × (i < layout.k) }
-    ensures { result ≡ every (λ j. validPair layout i j) i }
+    ensures { result ≡ every (λ j. valid_pair layout i j) i }
 {
     let mut j: u64 = 0;
     while j < i {
@@ -77,7 +77,7 @@ fn row_passes(layout: Layout, i: u64) -> bool
 // All pairs.
 fn pairs_pass(layout: Layout) -> bool
     requires { Ranged layout }
-    ensures { result ≡ every (λ i. every (λ j. validPair layout i j) i) layout.k }
+    ensures { result ≡ every (λ i. every (λ j. valid_pair layout i j) i) layout.k }
 {
     let k = layout.k;
     let mut i: u64 = 0;
@@ -93,7 +93,7 @@ fn pairs_pass(layout: Layout) -> bool
 
 // Whether a layout is valid.
 pub fn is_valid_layout(layout: Layout) -> bool
-    ensures { result ≡ validLayout layout }
+    ensures { result ≡ valid_layout layout }
 {
     if counts_check::has_counts(layout) {
         if has_levels(layout) {

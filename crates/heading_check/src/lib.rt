@@ -1,4 +1,4 @@
-// Refusal 20 (document 01): whether a heading and a list of doubles are a workspace, for any numbers whatever. What is asked is `validHeading` of the
+// Refusal 20 (document 01): whether a heading and a list of doubles are a workspace, for any numbers whatever. What is asked is `valid_heading` of the
 // crate heading_format, specs/Heading.antt.
 mod counts_check;
 mod forerunner_check;
@@ -9,13 +9,13 @@ mod room_check;
 pub mod stage_check;
 
 ghost use Rattle.std.specs.Prelude.{◌≡◌, ◌<◌};
-ghost use Rattle.heading_format.specs.Heading.{validHeading};
+ghost use Rattle.heading_format.specs.Heading.{valid_heading};
 
 use heading_format::parts;
 
 // Whether the heading and a list of this many doubles are a workspace.
 pub fn is_valid_heading(heading: &[u32], doubles: usize) -> bool
-    ensures { result ≡ validHeading heading.now doubles }
+    ensures { result ≡ valid_heading heading.now doubles }
 {
     if parts::HEADING_LENGTH <= heading.len() {
         if room_check::has_flags(heading) {

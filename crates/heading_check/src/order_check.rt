@@ -2,7 +2,7 @@
 ghost use Rattle.std.specs.Prelude.{◌≡◌, ℕ, ◌<◌, ◌≤◌, eqb, get_or, set, take};
 ghost use Rattle.layout.specs.Blocks.{sorted};
 ghost use Rattle.layout.specs.Shapes.{levels};
-ghost use Rattle.heading_format.specs.Heading.{every, same, sheetLevels};
+ghost use Rattle.heading_format.specs.Heading.{every, same, sheet_levels};
 
 use layout::Layout;
 use layout_gate::block_order;
@@ -40,7 +40,7 @@ fn put(s: [u64; 8], i: u64, v: u64) -> [u64; 8]
 // The levels of the blocks by sheet index.
 fn by_sheet(layout: Layout) -> [u64; 8]
     requires { layout.k ≤ 8 }
-    ensures { (i : ℕ) → i < 8 → get_or result i 0 ≡ sheetLevels layout layout.k i }
+    ensures { (i : ℕ) → i < 8 → get_or result i 0 ≡ sheet_levels layout layout.k i }
 {
     let k = layout.k;
     let mut r = [0u64; 8];
@@ -72,7 +72,7 @@ fn agree(a: [u64; 8], b: [u64; 8], k: u64) -> bool
 // Whether the blocks stand in sorted order.
 pub fn is_sorted(layout: Layout) -> bool
     requires { layout.k ≤ 8 }
-    ensures { result ≡ same (take layout.k layout.order) (sorted (sheetLevels layout layout.k) layout.k) }
+    ensures { result ≡ same (take layout.k layout.order) (sorted (sheet_levels layout layout.k) layout.k) }
 {
     let m = by_sheet(layout);
     let s = block_order::sorted(m, layout.k);

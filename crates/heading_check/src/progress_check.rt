@@ -2,8 +2,8 @@
 // counted right, no step done before its forerunners, and the state as the steps left say. What is valid is defined in the crate
 // heading_format, specs/Heading.antt.
 ghost use Rattle.std.specs.Prelude.{◌≡◌, ◌-◌, ◌<◌, ◌≤◌, length};
-ghost use Rattle.heading_format.specs.Heading.{validState, validProgress, progressOf};
-ghost use Rattle.heading_format.specs.Parts.{headingLength};
+ghost use Rattle.heading_format.specs.Heading.{valid_state, valid_progress, progress_of};
+ghost use Rattle.heading_format.specs.Parts.{heading_length};
 
 use crate::{forerunner_check, stage_check};
 use heading::idle_progress;
@@ -11,7 +11,7 @@ use heading_format::State;
 
 // Whether a state has this many steps left of all.
 fn is_valid_state(s: State, left: u64, all: u64) -> bool
-    ensures { result ≡ validState s left all }
+    ensures { result ≡ valid_state s left all }
 {
     match s {
         State::Idle => left == all,
@@ -22,8 +22,8 @@ fn is_valid_state(s: State, left: u64, all: u64) -> bool
 
 // Whether the progress that a heading of k blocks tells is valid.
 pub fn is_valid_progress(heading: &[u32], k: u64) -> bool
-    requires { (headingLength ≤ length heading.now) × (k ≤ 8) }
-    ensures { result ≡ validProgress k (progressOf heading.now) }
+    requires { (heading_length ≤ length heading.now) × (k ≤ 8) }
+    ensures { result ≡ valid_progress k (progress_of heading.now) }
 {
     if stage_check::is_bounded(heading, k) {
         let w = forerunner_check::walk_all(heading, k);

@@ -1,8 +1,8 @@
 // Parts of number 20: flags of a heading, and room for what it says.
 ghost use Rattle.std.specs.Prelude.{◌≡◌, true, not, ◌&&◌, ◌||◌, ◌+◌, ◌<◌, ◌≤◌, leb, ltb, length, get_or};
-ghost use Rattle.layout.specs.Shapes.{levels, doublesNeeded};
-ghost use Rattle.heading_format.specs.Heading.{every, entryRow, validLayout, numbersNeeded};
-ghost use Rattle.heading_format.specs.Parts.{sparseAt, diagonalAt, progressAt, headingLength};
+ghost use Rattle.layout.specs.Shapes.{levels, doubles_needed};
+ghost use Rattle.heading_format.specs.Heading.{every, entry_row, valid_layout, numbers_needed};
+ghost use Rattle.heading_format.specs.Parts.{sparse_at, diagonal_at, progress_at, heading_length};
 
 use crate::order_check::level;
 use block_places::places;
@@ -19,16 +19,16 @@ fn at_most(heading: &[u32], at: usize, most: u32) -> bool
 
 // Whether the row of a sparse column's entry is below a bound.
 fn row_below(heading: &[u32], c: u64, rows: u64) -> bool
-    requires { (headingLength + c < length heading.now) × (rows ≤ 65535) }
-    ensures { result ≡ ltb (entryRow heading.now c) rows }
+    requires { (heading_length + c < length heading.now) × (rows ≤ 65535) }
+    ensures { result ≡ ltb (entry_row heading.now c) rows }
 {
     heading[(parts::HEADING_LENGTH as u64 + c) as usize] < (rows as u32)
 }
 
 // Whether the rows of all sparse columns' entries are.
 fn rows_below(heading: &[u32], cols: u64, rows: u64) -> bool
-    requires { (headingLength + cols ≤ length heading.now) × (rows ≤ 65535) }
-    ensures { result ≡ every (λ c. ltb (entryRow heading.now c) rows) cols }
+    requires { (heading_length + cols ≤ length heading.now) × (rows ≤ 65535) }
+    ensures { result ≡ every (λ c. ltb (entry_row heading.now c) rows) cols }
 {
     let mut c: u64 = 0;
     while c < cols {
@@ -43,8 +43,8 @@ fn rows_below(heading: &[u32], cols: u64, rows: u64) -> bool
 
 // Whether the numbers and the doubles are as many as a valid layout needs, and the rows of a sparse pair are rows of it.
 pub fn has_room(heading: &[u32], layout: Layout, doubles: usize) -> bool
-    requires { validLayout layout ≡ true }
-    ensures { result ≡ (leb (numbersNeeded layout) (length heading.now) && leb (doublesNeeded layout) doubles && (not layout.sparse || every (λ c. ltb (entryRow heading.now c) (levels layout 1)) (levels layout 0))) }
+    requires { valid_layout layout ≡ true }
+    ensures { result ≡ (leb (numbers_needed layout) (length heading.now) && leb (doubles_needed layout) doubles && (not layout.sparse || every (λ c. ltb (entry_row heading.now c) (levels layout 1)) (levels layout 0))) }
 {
     let room = places::doubles_needed(layout) <= doubles;
     if layout.sparse {
@@ -59,8 +59,8 @@ pub fn has_room(heading: &[u32], layout: Layout, doubles: usize) -> bool
 
 // Whether the flags and the state have numbers of theirs.
 pub fn has_flags(heading: &[u32]) -> bool
-    requires { headingLength ≤ length heading.now }
-    ensures { result ≡ (leb (get_or heading.now sparseAt 0) 1 && leb (get_or heading.now diagonalAt 0) 1 && leb (get_or heading.now progressAt 0) 2) }
+    requires { heading_length ≤ length heading.now }
+    ensures { result ≡ (leb (get_or heading.now sparse_at 0) 1 && leb (get_or heading.now diagonal_at 0) 1 && leb (get_or heading.now progress_at 0) 2) }
 {
     at_most(heading, parts::SPARSE_AT, 1)
         & at_most(heading, parts::DIAGONAL_AT, 1)

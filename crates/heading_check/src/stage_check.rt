@@ -3,8 +3,8 @@ ghost use Rattle.std.specs.Prelude.{◌≡◌, cond, true, suc, ◌+◌, ◌-◌
 ghost use Rattle.storage.specs.Runs.{start, triangle};
 ghost use Rattle.step_order.specs.Steps.{S};
 ghost use Rattle.heading_format.specs.Heading.{every};
-ghost use Rattle.heading_check.specs.stage_check.Walk.{stepWith, stepped, stagesIn};
-ghost use Rattle.heading_format.specs.Parts.{headingLength};
+ghost use Rattle.heading_check.specs.stage_check.Walk.{step_with, stepped, stages_in};
+ghost use Rattle.heading_format.specs.Parts.{heading_length};
 
 use heading_format::parts;
 
@@ -32,8 +32,8 @@ fn targets_before(i: u64) -> u64
 
 // The stage of target (i, j).
 pub fn stage(heading: &[u32], i: u64, j: u64) -> u64
-    requires { (headingLength ≤ length heading.now) × (j ≤ i) × (i ≤ 8) }
-    ensures { result ≡ stagesIn heading.now i j }
+    requires { (heading_length ≤ length heading.now) × (j ≤ i) × (i ≤ 8) }
+    ensures { result ≡ stages_in heading.now i j }
 {
     let at = parts::STAGES_AT as u64 + targets_before(i) + j;
     wide(heading[at as usize])
@@ -41,8 +41,8 @@ pub fn stage(heading: &[u32], i: u64, j: u64) -> u64
 
 // No target of row i is past its last step.
 fn row_bounded(heading: &[u32], i: u64) -> bool
-    requires { (headingLength ≤ length heading.now) × (i ≤ 8) }
-    ensures { result ≡ every (λ j. leb (stagesIn heading.now i j) (suc j)) (suc i) }
+    requires { (heading_length ≤ length heading.now) × (i ≤ 8) }
+    ensures { result ≡ every (λ j. leb (stages_in heading.now i j) (suc j)) (suc i) }
 {
     let mut j: u64 = 0;
     while j < i + 1 {
@@ -57,8 +57,8 @@ fn row_bounded(heading: &[u32], i: u64) -> bool
 
 // No target is.
 pub fn is_bounded(heading: &[u32], k: u64) -> bool
-    requires { (headingLength ≤ length heading.now) × (k ≤ 8) }
-    ensures { result ≡ every (λ i. every (λ j. leb (stagesIn heading.now i j) (suc j)) (suc i)) (suc k) }
+    requires { (heading_length ≤ length heading.now) × (k ≤ 8) }
+    ensures { result ≡ every (λ i. every (λ j. leb (stages_in heading.now i j) (suc j)) (suc i)) (suc k) }
 {
     let mut i: u64 = 0;
     while i < k + 1 {
@@ -81,7 +81,7 @@ fn undone(done: bool) -> u64
 // A step more.
 pub fn count_step(w: Walk, done: bool, ready: bool) -> Walk
     requires { w.left ≤ 5000 }
-    ensures { (result ≡ stepWith w done ready) × (result.left ≤ w.left + 1) }
+    ensures { (result ≡ step_with w done ready) × (result.left ≤ w.left + 1) }
 {
     Walk {
         left: w.left + undone(done),
@@ -91,8 +91,8 @@ pub fn count_step(w: Walk, done: bool, ready: bool) -> Walk
 
 // S(i,j,x): after it in its target come others, so those before it are done with it; what is left to see is T(i,x) and T(j,x).
 pub fn subtraction(heading: &[u32], w: Walk, i: u64, j: u64, x: u64) -> Walk
-    requires { (headingLength ≤ length heading.now) × (x < j) × (j ≤ i) × (i ≤ 8) × (w.left ≤ 5000) }
-    ensures { (result ≡ stepped (stagesIn heading.now) w (S i j x)) × (result.left ≤ w.left + 1) }
+    requires { (heading_length ≤ length heading.now) × (x < j) × (j ≤ i) × (i ≤ 8) × (w.left ≤ 5000) }
+    ensures { (result ≡ stepped (stages_in heading.now) w (S i j x)) × (result.left ≤ w.left + 1) }
 {
     let s = stage(heading, i, j);
     let a = stage(heading, i, x);

@@ -7,132 +7,132 @@ use native.Mathlib.Omega.{arith}
 use lib.ListN.{length, get_or, take, replicate}
 use lib.Ieee.{le, div, of_int, of_bits}
 use Rattle.storage.specs.Runs.{start}
-use Rattle.step_order.specs.Steps.{rustOrder}
+use Rattle.step_order.specs.Steps.{rust_order}
 use Rattle.layout.specs.declared.Layout.{Layout}
 use Rattle.heading_format.specs.declared.Progress.{Progress}
 use Rattle.layout.specs.Blocks.{insert, sorted, sum, padded}
 use Rattle.layout.specs.Gate.{pair_of}
-use Rattle.heading_format.specs.Heading.{layoutNumbers, progressNumbers, written, layout_of, progressOf, entryRow, every, same, sheetLevels, validLayout, validProgress, idle, validHeading}
-use Rattle.layout.specs.Shapes.{shape, loadedShape, factors, across, pairs, targets, cells_of, sum_at, crossCells, factorCells, doublesNeeded, triangleEnd}
+use Rattle.heading_format.specs.Heading.{layout_numbers, progress_numbers, written, layout_of, progress_of, entry_row, every, same, sheet_levels, valid_layout, valid_progress, idle, valid_heading}
+use Rattle.layout.specs.Shapes.{shape, loaded_shape, factors, across, pairs, targets, cells_of, sum_at, cross_cells, factor_cells, doubles_needed, triangle_end}
 use Rattle.layout.proofs.Controls.{two}
-use Rattle.heading_format.proofs.Heading.{rows_back, never-20, sparse-row-refused, idle-valid}
-use Rattle.heading_format.specs.Parts.{mostTargets, unusedNumbers}
-use Rattle.layout.proofs.Made.{layoutWith}
+use Rattle.heading_format.proofs.Heading.{rows_back, never_20, sparse_row_refused, idle_valid}
+use Rattle.heading_format.specs.Parts.{most_targets, unused_numbers}
+use Rattle.layout.proofs.Made.{layout_with}
 
 -- the row of the second sparse column, whatever the progress
-pub second-row : (g : Progress) → entryRow (written (two false) g ++ (7 ∷ 8 ∷ [])) 1 ≡ 8
-unfolding written layoutNumbers progressNumbers padded
-second-row g = refl
+pub second_row : (g : Progress) → entry_row (written (two false) g ++ (7 ∷ 8 ∷ [])) 1 ≡ 8
+unfolding written layout_numbers progress_numbers padded
+second_row g = refl
 
 -- both layouts are valid
-pub valid-two : (validLayout (two false) ≡ true) × (validLayout (two true) ≡ true)
-unfolding validLayout every same sheetLevels sorted insert sum pair_of
-valid-two = (refl, refl)
+pub valid_two : (valid_layout (two false) ≡ true) × (valid_layout (two true) ≡ true)
+unfolding valid_layout every same sheet_levels sorted insert sum pair_of
+valid_two = (refl, refl)
 
 -- a layout whose blocks are not sorted is not, nor one that says another q
-pub invalid : (validLayout (layoutWith 9 1 5 2 (2 ∷ 3 ∷ replicate 6 0) (0 ∷ 1 ∷ replicate 6 0) false false) ≡ false)
-    × (validLayout (layoutWith 9 1 6 2 (3 ∷ 2 ∷ replicate 6 0) (0 ∷ 1 ∷ replicate 6 0) false false) ≡ false)
-unfolding validLayout every same sheetLevels sorted insert sum pair_of
+pub invalid : (valid_layout (layout_with 9 1 5 2 (2 ∷ 3 ∷ replicate 6 0) (0 ∷ 1 ∷ replicate 6 0) false false) ≡ false)
+    × (valid_layout (layout_with 9 1 6 2 (3 ∷ 2 ∷ replicate 6 0) (0 ∷ 1 ∷ replicate 6 0) false false) ≡ false)
+unfolding valid_layout every same sheet_levels sorted insert sum pair_of
 invalid = (refl, refl)
 
 -- ---- number 20 at numbers of two blocks, written out
 
 -- the steps C(0), T(1,0), S(1,1,0), C(1), T(2,0), S(2,1,0), T(2,1), S(2,2,0), S(2,2,1), C(2), by the stages of (0,0), (1,0), (1,1), (2,0), (2,1), (2,2)
 abbrev undone : List ℕ
-undone = replicate mostTargets 0
+undone = replicate most_targets 0
 
-abbrev firstDone : List ℕ
-firstDone = 1 ∷ replicate 44 0
+abbrev first_done : List ℕ
+first_done = 1 ∷ replicate 44 0
 
-abbrev allDone : List ℕ
-allDone = (1 ∷ 1 ∷ 2 ∷ 1 ∷ 2 ∷ 3 ∷ []) ++ replicate 39 0
+abbrev all_done : List ℕ
+all_done = (1 ∷ 1 ∷ 2 ∷ 1 ∷ 2 ∷ 3 ∷ []) ++ replicate 39 0
 
 -- the counts n, p, q, k and the levels of two blocks that keep sheet order, neither sparse nor diagonal
 abbrev counts : ℕ → ℕ → ℕ → ℕ → ℕ → ℕ → List ℕ
 counts n p q k a b = (n ∷ p ∷ q ∷ k ∷ a ∷ b ∷ []) ++ replicate 6 0 ++ (0 ∷ 1 ∷ []) ++ replicate 8 0
 
 abbrev heading : List ℕ → ℕ → ℕ → List ℕ → List ℕ
-heading l state left stages = l ++ (state ∷ left ∷ []) ++ stages ++ replicate unusedNumbers 0
+heading l state left stages = l ++ (state ∷ left ∷ []) ++ stages ++ replicate unused_numbers 0
 
 -- those of the layout `two`
 abbrev fair : List ℕ
 fair = counts 9 1 5 2 3 2
 
 -- none, under way with no step and with one step done, finished
-pub accepted : (validHeading (heading fair 0 10 undone) 52 ≡ true) × (validHeading (heading fair 1 10 undone) 52 ≡ true) × (validHeading (heading fair 1 9 firstDone) 52 ≡ true)
-    × (validHeading (heading fair 2 0 allDone) 52 ≡ true)
-unfolding validHeading layout_of progressOf validLayout validProgress rustOrder every same sheetLevels sorted insert sum pair_of sum_at triangleEnd targets factors pairs across cells_of shape loadedShape start
+pub accepted : (valid_heading (heading fair 0 10 undone) 52 ≡ true) × (valid_heading (heading fair 1 10 undone) 52 ≡ true) × (valid_heading (heading fair 1 9 first_done) 52 ≡ true)
+    × (valid_heading (heading fair 2 0 all_done) 52 ≡ true)
+unfolding valid_heading layout_of progress_of valid_layout valid_progress rust_order every same sheet_levels sorted insert sum pair_of sum_at triangle_end targets factors pairs across cells_of shape loaded_shape start
 accepted = (refl, refl, refl, refl)
 
 -- T(1,0) done and C(0) not
-pub no-forerunner : validHeading (heading fair 1 9 (0 ∷ 1 ∷ replicate 43 0)) 52 ≡ false
-unfolding validHeading layout_of progressOf validLayout validProgress rustOrder every same sheetLevels sorted insert sum pair_of sum_at triangleEnd targets factors pairs across cells_of shape loadedShape start
-no-forerunner = refl
+pub no_forerunner : valid_heading (heading fair 1 9 (0 ∷ 1 ∷ replicate 43 0)) 52 ≡ false
+unfolding valid_heading layout_of progress_of valid_layout valid_progress rust_order every same sheet_levels sorted insert sum pair_of sum_at triangle_end targets factors pairs across cells_of shape loaded_shape start
+no_forerunner = refl
 
 -- none with a step done; finished with steps left; a fourth state
-pub other-state : (validHeading (heading fair 0 9 firstDone) 52 ≡ false) × (validHeading (heading fair 2 9 firstDone) 52 ≡ false) × (validHeading (heading fair 3 0 allDone) 52 ≡ false)
-unfolding validHeading layout_of progressOf validLayout validProgress rustOrder every same sheetLevels sorted insert sum pair_of sum_at triangleEnd targets factors pairs across cells_of shape loadedShape start
-other-state = (refl, refl, refl)
+pub other_state : (valid_heading (heading fair 0 9 first_done) 52 ≡ false) × (valid_heading (heading fair 2 9 first_done) 52 ≡ false) × (valid_heading (heading fair 3 0 all_done) 52 ≡ false)
+unfolding valid_heading layout_of progress_of valid_layout valid_progress rust_order every same sheet_levels sorted insert sum pair_of sum_at triangle_end targets factors pairs across cells_of shape loaded_shape start
+other_state = (refl, refl, refl)
 
 -- (0,0) past its last step; a step left too many
-pub other-steps : (validHeading (heading fair 2 0 ((2 ∷ 1 ∷ 2 ∷ 1 ∷ 2 ∷ 3 ∷ []) ++ replicate 39 0)) 52 ≡ false) × (validHeading (heading fair 1 10 firstDone) 52 ≡ false)
-unfolding validHeading layout_of progressOf validLayout validProgress rustOrder every same sheetLevels sorted insert sum pair_of sum_at triangleEnd targets factors pairs across cells_of shape loadedShape start
-other-steps = (refl, refl)
+pub other_steps : (valid_heading (heading fair 2 0 ((2 ∷ 1 ∷ 2 ∷ 1 ∷ 2 ∷ 3 ∷ []) ++ replicate 39 0)) 52 ≡ false) × (valid_heading (heading fair 1 10 first_done) 52 ≡ false)
+unfolding valid_heading layout_of progress_of valid_layout valid_progress rust_order every same sheet_levels sorted insert sum pair_of sum_at triangle_end targets factors pairs across cells_of shape loaded_shape start
+other_steps = (refl, refl)
 
 -- a double too few; a number too few
-pub too_short : (validHeading (heading fair 1 9 firstDone) 51 ≡ false) × (validHeading (take 127 (heading fair 1 9 firstDone)) 52 ≡ false)
-unfolding validHeading layout_of progressOf validLayout validProgress rustOrder every same sheetLevels sorted insert sum pair_of sum_at triangleEnd targets factors pairs across cells_of shape loadedShape start
+pub too_short : (valid_heading (heading fair 1 9 first_done) 51 ≡ false) × (valid_heading (take 127 (heading fair 1 9 first_done)) 52 ≡ false)
+unfolding valid_heading layout_of progress_of valid_layout valid_progress rust_order every same sheet_levels sorted insert sum pair_of sum_at triangle_end targets factors pairs across cells_of shape loaded_shape start
 too_short = (refl, refl)
 
 -- q not the sum; blocks not sorted
-pub other-blocks : (validHeading (heading (counts 9 1 6 2 3 2) 1 9 firstDone) 100 ≡ false) × (validHeading (heading (counts 9 1 5 2 2 3) 1 9 firstDone) 100 ≡ false)
-unfolding validHeading layout_of progressOf validLayout validProgress rustOrder every same sheetLevels sorted insert sum pair_of sum_at triangleEnd targets factors pairs across cells_of shape loadedShape start
-other-blocks = (refl, refl)
+pub other_blocks : (valid_heading (heading (counts 9 1 6 2 3 2) 1 9 first_done) 100 ≡ false) × (valid_heading (heading (counts 9 1 5 2 2 3) 1 9 first_done) 100 ≡ false)
+unfolding valid_heading layout_of progress_of valid_layout valid_progress rust_order every same sheet_levels sorted insert sum pair_of sum_at triangle_end targets factors pairs across cells_of shape loaded_shape start
+other_blocks = (refl, refl)
 
 -- n = 0; p = 0; k = 0
-pub zero-counts : (validHeading (heading (counts 0 1 5 2 3 2) 1 9 firstDone) 100 ≡ false) × (validHeading (heading (counts 9 0 5 2 3 2) 1 9 firstDone) 100 ≡ false)
-    × (validHeading (heading (counts 9 1 0 0 0 0) 1 1 undone) 100 ≡ false)
-unfolding validHeading layout_of progressOf validLayout validProgress rustOrder every same sheetLevels sorted insert sum pair_of sum_at triangleEnd targets factors pairs across cells_of shape loadedShape start
-zero-counts = (refl, refl, refl)
+pub zero_counts : (valid_heading (heading (counts 0 1 5 2 3 2) 1 9 first_done) 100 ≡ false) × (valid_heading (heading (counts 9 0 5 2 3 2) 1 9 first_done) 100 ≡ false)
+    × (valid_heading (heading (counts 9 1 0 0 0 0) 1 1 undone) 100 ≡ false)
+unfolding valid_heading layout_of progress_of valid_layout valid_progress rust_order every same sheet_levels sorted insert sum pair_of sum_at triangle_end targets factors pairs across cells_of shape loaded_shape start
+zero_counts = (refl, refl, refl)
 
 -- ---- a sparse pair of 3 × 33,334 cells
 
 abbrev flagged : Bool → Bool → Layout
 flagged sparse diagonal =
-    layoutWith 40000 1 33337 2 (33334 ∷ 3 ∷ replicate 6 0) (0 ∷ 1 ∷ replicate 6 0) sparse diagonal
+    layout_with 40000 1 33337 2 (33334 ∷ 3 ∷ replicate 6 0) (0 ∷ 1 ∷ replicate 6 0) sparse diagonal
 
 abbrev thinned : Layout
 thinned = flagged true true
 
 abbrev small : Layout
-small = layoutWith 9 1 5 2 (3 ∷ 2 ∷ replicate 6 0) (0 ∷ 1 ∷ replicate 6 0) true true
+small = layout_with 9 1 5 2 (3 ∷ 2 ∷ replicate 6 0) (0 ∷ 1 ∷ replicate 6 0) true true
 
-pub valid-thinned : validLayout thinned ≡ true
-unfolding validLayout every same sheetLevels sorted insert sum pair_of le div of_int of_bits
-valid-thinned = refl
+pub valid_thinned : valid_layout thinned ≡ true
+unfolding valid_layout every same sheet_levels sorted insert sum pair_of le div of_int of_bits
+valid_thinned = refl
 
 -- the same pair said to be dense, or its block 1 said to be a triangle; a pair of six cells said to be sparse
-pub other-pair : (validLayout (flagged false true) ≡ false) × (validLayout (flagged true false) ≡ false) × (validLayout small ≡ false)
-unfolding validLayout every same sheetLevels sorted insert sum pair_of le div of_int of_bits
-other-pair = (refl, refl, refl)
+pub other_pair : (valid_layout (flagged false true) ≡ false) × (valid_layout (flagged true false) ≡ false) × (valid_layout small ≡ false)
+unfolding valid_layout every same sheet_levels sorted insert sum pair_of le div of_int of_bits
+other_pair = (refl, refl, refl)
 
 -- X is 33,334 and D is 33,337
-pub thinned-doubles : doublesNeeded thinned ≡ 266699
-unfolding sum_at triangleEnd crossCells factorCells targets factors pairs across cells_of shape loadedShape start
-thinned-doubles = refl
+pub thinned_doubles : doubles_needed thinned ≡ 266699
+unfolding sum_at triangle_end cross_cells factor_cells targets factors pairs across cells_of shape loaded_shape start
+thinned_doubles = refl
 
 -- its heading is accepted with 33,334 rows below 3 behind it, and refused with any other row
 module _ (rows : List ℕ) where
-  pub sparse-accepted : length rows ≡ 33334 → ((c : ℕ) → c < 33334 → get_or rows c 0 < 3) → validHeading (written thinned (idle 2) ++ rows) 266699 ≡ true
-  sparse-accepted e h =
-      never-20 thinned (idle 2) rows 266699 valid-thinned (idle-valid 2 (omega arith)) refl refl refl (λ s. (omega arith, h)) (omega (arith, thinned-doubles))
+  pub sparse_accepted : length rows ≡ 33334 → ((c : ℕ) → c < 33334 → get_or rows c 0 < 3) → valid_heading (written thinned (idle 2) ++ rows) 266699 ≡ true
+  sparse_accepted e h =
+      never_20 thinned (idle 2) rows 266699 valid_thinned (idle_valid 2 (omega arith)) refl refl refl (λ s. (omega arith, h)) (omega (arith, thinned_doubles))
 
-  pub sparse-refused : (c : ℕ) → c < 33334 → 3 ≤ get_or rows c 0 → validHeading (written thinned (idle 2) ++ rows) 266699 ≡ false
-  unfolding layout_of written layoutNumbers progressNumbers padded
-  sparse-refused c l h =
-      sparse-row-refused (written thinned (idle 2) ++ rows) 266699 c refl l (rw (rows_back thinned (idle 2) rows c) h)
+  pub sparse_refused : (c : ℕ) → c < 33334 → 3 ≤ get_or rows c 0 → valid_heading (written thinned (idle 2) ++ rows) 266699 ≡ false
+  unfolding layout_of written layout_numbers progress_numbers padded
+  sparse_refused c l h =
+      sparse_row_refused (written thinned (idle 2) ++ rows) 266699 c refl l (rw (rows_back thinned (idle 2) rows c) h)
 
 -- a row too few
-pub sparse-short : validHeading (written thinned (idle 2) ++ replicate 33333 2) 266699 ≡ false
-unfolding validHeading layout_of progressOf written layoutNumbers progressNumbers padded validLayout validProgress rustOrder every same sheetLevels sorted insert sum pair_of start le div of_int of_bits
-sparse-short = refl
+pub sparse_short : valid_heading (written thinned (idle 2) ++ replicate 33333 2) 266699 ≡ false
+unfolding valid_heading layout_of progress_of written layout_numbers progress_numbers padded valid_layout valid_progress rust_order every same sheet_levels sorted insert sum pair_of start le div of_int of_bits
+sparse_short = refl

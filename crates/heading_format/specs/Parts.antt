@@ -3,41 +3,41 @@
 use Rattle.std.specs.Prelude.{ℕ, ◌+◌, ◌-◌}
 
 -- ---- the layout: n p q k, the first four numbers; levels, then sheet index, of eight sorted blocks; whether the pair is sparse, and block 1 diagonal
-abbrev pub levelsAt : ℕ
-levelsAt = 4
+abbrev pub levels_at : ℕ
+levels_at = 4
 
 abbrev pub order_at : ℕ
-order_at = levelsAt + 8
+order_at = levels_at + 8
 
-abbrev pub sparseAt : ℕ
-sparseAt = order_at + 8
+abbrev pub sparse_at : ℕ
+sparse_at = order_at + 8
 
-abbrev pub diagonalAt : ℕ
-diagonalAt = sparseAt + 1
+abbrev pub diagonal_at : ℕ
+diagonal_at = sparse_at + 1
 
 -- ---- the progress: its state, the steps left, and the stage of each of so many targets at most
-abbrev pub progressAt : ℕ
-progressAt = diagonalAt + 1
+abbrev pub progress_at : ℕ
+progress_at = diagonal_at + 1
 
-abbrev pub stepsLeftAt : ℕ
-stepsLeftAt = progressAt + 1
+abbrev pub steps_left_at : ℕ
+steps_left_at = progress_at + 1
 
-abbrev pub stagesAt : ℕ
-stagesAt = stepsLeftAt + 1
+abbrev pub stages_at : ℕ
+stages_at = steps_left_at + 1
 
-abbrev pub mostTargets : ℕ
-mostTargets = 45
+abbrev pub most_targets : ℕ
+most_targets = 45
 
-abbrev pub progressEnd : ℕ
-progressEnd = stagesAt + mostTargets
+abbrev pub progress_end : ℕ
+progress_end = stages_at + most_targets
 
 -- ---- numbers without a use: load leaves them 0, and 20 does not look at them
-abbrev pub unusedAt : ℕ
-unusedAt = progressEnd
+abbrev pub unused_at : ℕ
+unused_at = progress_end
 
 -- ---- all of these (document 01, Record 2); behind them stand the rows of a sparse pair's entries
-abbrev pub headingLength : ℕ
-headingLength = 128
+abbrev pub heading_length : ℕ
+heading_length = 128
 
-abbrev pub unusedNumbers : ℕ
-unusedNumbers = headingLength - unusedAt
+abbrev pub unused_numbers : ℕ
+unused_numbers = heading_length - unused_at

@@ -3,7 +3,7 @@
 ghost use Rattle.std.specs.Prelude.{◌≡◌, ◌<◌, ◌≤◌};
 ghost use Rattle.heading_format.specs.Heading.{undone};
 ghost use Rattle.heading_format.specs.Marked.{marked};
-ghost use Rattle.heading_format.specs.Parts.{mostTargets};
+ghost use Rattle.heading_format.specs.Parts.{most_targets};
 
 pub mod parts;
 
@@ -26,7 +26,7 @@ pub struct Progress {
 impl Progress {
     // One step of a target done: its stage, by the target's place among all; one step left fewer, and finished with the last.
     pub fn mark(self, place: usize, stage: u64) -> Progress
-        requires { (place < mostTargets) × (1 ≤ self.left) }
+        requires { (place < most_targets) × (1 ≤ self.left) }
         ensures { result ≡ marked self place stage }
     {
         let mut stages = self.stages;

@@ -1,13 +1,13 @@
 // The kernels under C's conventions, for bench/kernels.rs: each is its kernel, with the kernel's contract.
 ghost use Rattle.std.specs.Prelude.{◌≡◌, ◌⊎◌, ◌+◌, ◌≤◌, length};
 ghost use Rattle.storage.specs.Runs.{start, triangle};
-ghost use Rattle.block_runs.specs.blocks.Blocks.{EachShape, rowFrom, RowsBelow};
-ghost use Rattle.storage.specs.Placed.{block_of, asColumns, asTriangle, asDiagonal, asEntries, Lies, Product, Squares};
-ghost use Rattle.schur.specs.Schur.{subtractedDense, subtractedRank, subtractedLast, subtractedEntries};
-ghost use Rattle.cross_block.specs.Blocks.{scaledTwice, ByFactor, dividedColumns, solvedRows};
-ghost use Rattle.schur.specs.rank_diagonal.Diagonal.{subtractedDiagonal};
-ghost use Rattle.cross_matvec.specs.Products.{HasRows, Sides, row_in, subtractedProduct, subtractedProductT, subtractedSparseProduct, subtractedSparseProductT};
-ghost use Rattle.re_lower.specs.Lower.{logsOfTriangle, logsOfDiagonal, rowSolved, backSolved};
+ghost use Rattle.block_runs.specs.blocks.Blocks.{EachShape, row_from, RowsBelow};
+ghost use Rattle.storage.specs.Placed.{block_of, as_columns, as_triangle, as_diagonal, as_entries, Lies, Product, Squares};
+ghost use Rattle.schur.specs.Schur.{subtracted_dense, subtracted_rank, subtracted_last, subtracted_entries};
+ghost use Rattle.cross_block.specs.Blocks.{scaled_twice, ByFactor, divided_columns, solved_rows};
+ghost use Rattle.schur.specs.rank_diagonal.Diagonal.{subtracted_diagonal};
+ghost use Rattle.cross_matvec.specs.Products.{HasRows, Sides, row_in, subtracted_product, subtracted_product_t, subtracted_sparse_product, subtracted_sparse_product_t};
+ghost use Rattle.re_lower.specs.Lower.{logs_of_triangle, logs_of_diagonal, row_solved, back_solved};
 ghost use Rattle.kernels_c.specs.Answers.{number_of, TriangleAnswered, DiagonalAnswered};
 
 use cross_block::{divide_columns, scaling};
@@ -29,8 +29,8 @@ pub extern "C" fn husk_subtract_dense(
     b: usize,
     inner: usize,
 )
-    requires { (rows ≤ 316) × Product (length doubles.old) asColumns asColumns (block_of off rows cols) (block_of a rows inner) (block_of b cols inner) }
-    ensures { doubles.new ≡ subtractedDense (block_of off rows cols) (block_of a rows inner) (block_of b cols inner) doubles.old }
+    requires { (rows ≤ 316) × Product (length doubles.old) as_columns as_columns (block_of off rows cols) (block_of a rows inner) (block_of b cols inner) }
+    ensures { doubles.new ≡ subtracted_dense (block_of off rows cols) (block_of a rows inner) (block_of b cols inner) doubles.old }
 {
     schur_dense::subtract_dense(
         doubles,
@@ -61,8 +61,8 @@ pub extern "C" fn husk_rank_sub(
     a: usize,
     inner: usize,
 )
-    requires { (rows ≤ 316) × Product (length doubles.old) asTriangle asColumns (block_of off rows rows) (block_of a rows inner) (block_of a rows inner) }
-    ensures { doubles.new ≡ subtractedRank (block_of off rows rows) (block_of a rows inner) doubles.old }
+    requires { (rows ≤ 316) × Product (length doubles.old) as_triangle as_columns (block_of off rows rows) (block_of a rows inner) (block_of a rows inner) }
+    ensures { doubles.new ≡ subtracted_rank (block_of off rows rows) (block_of a rows inner) doubles.old }
 {
     dense_triangle::rank_sub(
         doubles,
@@ -88,8 +88,8 @@ pub extern "C" fn husk_subtract_last(
     a: usize,
     inner: usize,
 )
-    requires { (rows ≤ 316) × Product (length doubles.old) asTriangle asColumns (block_of off rows rows) (block_of a rows inner) (block_of a rows inner) }
-    ensures { doubles.new ≡ subtractedLast (block_of off rows rows) (block_of a rows inner) doubles.old }
+    requires { (rows ≤ 316) × Product (length doubles.old) as_triangle as_columns (block_of off rows rows) (block_of a rows inner) (block_of a rows inner) }
+    ensures { doubles.new ≡ subtracted_last (block_of off rows rows) (block_of a rows inner) doubles.old }
 {
     last_triangle::subtract_last(
         doubles,
@@ -119,8 +119,8 @@ pub extern "C" fn husk_subtract_sparse(
     heading: &[u32],
     first: usize,
 )
-    requires { (rows ≤ 316) × Product (length doubles.old) asColumns (asEntries (rowFrom heading.now first)) (block_of off rows cols) (block_of a rows inner) (block_of v cols inner) × (first + inner ≤ length heading.now) × RowsBelow heading.now first inner cols }
-    ensures { doubles.new ≡ subtractedEntries (rowFrom heading.now first) (block_of off rows cols) (block_of a rows inner) (block_of v cols inner) doubles.old }
+    requires { (rows ≤ 316) × Product (length doubles.old) as_columns (as_entries (row_from heading.now first)) (block_of off rows cols) (block_of a rows inner) (block_of v cols inner) × (first + inner ≤ length heading.now) × RowsBelow heading.now first inner cols }
+    ensures { doubles.new ≡ subtracted_entries (row_from heading.now first) (block_of off rows cols) (block_of a rows inner) (block_of v cols inner) doubles.old }
 {
     sparse_schur::subtract_sparse(
         doubles,
@@ -153,8 +153,8 @@ pub extern "C" fn husk_divide_columns(
     cols: usize,
     pivots: usize,
 )
-    requires { ByFactor (length doubles.old) asDiagonal (block_of off rows cols) (block_of pivots cols cols) }
-    ensures { doubles.new ≡ dividedColumns (block_of off rows cols) (block_of pivots cols cols) doubles.old }
+    requires { ByFactor (length doubles.old) as_diagonal (block_of off rows cols) (block_of pivots cols cols) }
+    ensures { doubles.new ≡ divided_columns (block_of off rows cols) (block_of pivots cols cols) doubles.old }
 {
     divide_columns::divide_columns(
         doubles,
@@ -180,8 +180,8 @@ pub extern "C" fn husk_solve_rows(
     cols: usize,
     l: usize,
 )
-    requires { (rows ≤ 316) × ByFactor (length doubles.old) asTriangle (block_of off rows cols) (block_of l cols cols) }
-    ensures { doubles.new ≡ solvedRows (block_of off rows cols) (block_of l cols cols) doubles.old }
+    requires { (rows ≤ 316) × ByFactor (length doubles.old) as_triangle (block_of off rows cols) (block_of l cols cols) }
+    ensures { doubles.new ≡ solved_rows (block_of off rows cols) (block_of l cols cols) doubles.old }
 {
     cross_block::solve_rows(
         doubles,
@@ -210,7 +210,7 @@ pub extern "C" fn husk_scale_twice(
 )
     requires n_in_bounds { (off + n ≤ length doubles.old) × (src + n ≤ length doubles.old) }
     requires fact { (off + n ≤ src) ⊎ (src + n ≤ off) }
-    ensures { EachShape n (λ s. doubles.new ≡ scaledTwice s off src column row doubles.old) }
+    ensures { EachShape n (λ s. doubles.new ≡ scaled_twice s off src column row doubles.old) }
 {
     scaling::scale_twice(doubles, off, src, n, column, row);
 }
@@ -225,8 +225,8 @@ pub extern "C" fn husk_rank_sub_diagonal(
     inner: usize,
     src: usize,
 )
-    requires { (n ≤ 316) × Squares (length doubles.old) asColumns (block_of off n n) (block_of a n inner) src }
-    ensures { doubles.new ≡ subtractedDiagonal asColumns (block_of off n n) (block_of a n inner) src doubles.old }
+    requires { (n ≤ 316) × Squares (length doubles.old) as_columns (block_of off n n) (block_of a n inner) src }
+    ensures { doubles.new ≡ subtracted_diagonal as_columns (block_of off n n) (block_of a n inner) src doubles.old }
 {
     rank_diagonal::rank_sub_diagonal(
         doubles,
@@ -256,8 +256,8 @@ pub extern "C" fn husk_rank_sub_diagonal_sparse(
     heading: &[u32],
     first: usize,
 )
-    requires { Squares (length doubles.old) (asEntries (rowFrom heading.now first)) (block_of off n n) (block_of a n inner) src × (first + inner ≤ length heading.now) }
-    ensures { doubles.new ≡ subtractedDiagonal (asEntries (rowFrom heading.now first)) (block_of off n n) (block_of a n inner) src doubles.old }
+    requires { Squares (length doubles.old) (as_entries (row_from heading.now first)) (block_of off n n) (block_of a n inner) src × (first + inner ≤ length heading.now) }
+    ensures { doubles.new ≡ subtracted_diagonal (as_entries (row_from heading.now first)) (block_of off n n) (block_of a n inner) src doubles.old }
 {
     rank_diagonal_sparse::rank_sub_diagonal_sparse(
         doubles,
@@ -288,8 +288,8 @@ pub extern "C" fn husk_matvec_sub(
     doubles: &[f64],
     a: usize,
 )
-    requires { (rows ≤ 316) × Sides (length v.old) off z (block_of a rows cols) × Lies (length doubles.now) (asColumns (block_of a rows cols)) }
-    ensures { v.new ≡ subtractedProduct off z (block_of a rows cols) doubles.now v.old }
+    requires { (rows ≤ 316) × Sides (length v.old) off z (block_of a rows cols) × Lies (length doubles.now) (as_columns (block_of a rows cols)) }
+    ensures { v.new ≡ subtracted_product off z (block_of a rows cols) doubles.now v.old }
 {
     cross_matvec::matvec_sub(v, off, z, doubles, Block { at: a, rows, cols });
 }
@@ -305,8 +305,8 @@ pub extern "C" fn husk_matvec_t_sub(
     doubles: &[f64],
     a: usize,
 )
-    requires { Sides (length v.old) z off (block_of a rows cols) × Lies (length doubles.now) (asColumns (block_of a rows cols)) }
-    ensures { v.new ≡ subtractedProductT off z (block_of a rows cols) doubles.now v.old }
+    requires { Sides (length v.old) z off (block_of a rows cols) × Lies (length doubles.now) (as_columns (block_of a rows cols)) }
+    ensures { v.new ≡ subtracted_product_t off z (block_of a rows cols) doubles.now v.old }
 {
     matvec_t::matvec_t_sub(v, off, z, doubles, Block { at: a, rows, cols });
 }
@@ -323,8 +323,8 @@ pub extern "C" fn husk_sparse_matvec_sub(
     x: usize,
     places: &[u32],
 )
-    requires { Sides (length v.old) off z (block_of x rows cols) × Lies (length doubles.now) (asEntries (row_in places.now) (block_of x rows cols)) × HasRows places.now (block_of x rows cols) }
-    ensures { v.new ≡ subtractedSparseProduct (row_in places.now) off z (block_of x rows cols) doubles.now v.old }
+    requires { Sides (length v.old) off z (block_of x rows cols) × Lies (length doubles.now) (as_entries (row_in places.now) (block_of x rows cols)) × HasRows places.now (block_of x rows cols) }
+    ensures { v.new ≡ subtracted_sparse_product (row_in places.now) off z (block_of x rows cols) doubles.now v.old }
 {
     sparse_matvec::sparse_matvec_sub(v, off, z, doubles, Block { at: x, rows, cols }, places);
 }
@@ -341,8 +341,8 @@ pub extern "C" fn husk_sparse_matvec_t_sub(
     x: usize,
     places: &[u32],
 )
-    requires { Sides (length v.old) z off (block_of x rows cols) × Lies (length doubles.now) (asEntries (row_in places.now) (block_of x rows cols)) × HasRows places.now (block_of x rows cols) }
-    ensures { v.new ≡ subtractedSparseProductT (row_in places.now) off z (block_of x rows cols) doubles.now v.old }
+    requires { Sides (length v.old) z off (block_of x rows cols) × Lies (length doubles.now) (as_entries (row_in places.now) (block_of x rows cols)) × HasRows places.now (block_of x rows cols) }
+    ensures { v.new ≡ subtracted_sparse_product_t (row_in places.now) off z (block_of x rows cols) doubles.now v.old }
 {
     sparse_matvec_t::sparse_matvec_t_sub(v, off, z, doubles, Block { at: x, rows, cols }, places);
 }
@@ -381,7 +381,7 @@ pub extern "C" fn husk_chol_diagonal(t: &mut [f64], n: usize) -> usize
 #[unsafe(no_mangle)]
 pub extern "C" fn husk_log_pivots(t: &[f64], n: usize, s: f64) -> f64
     requires { start triangle n ≤ length t.now }
-    ensures { result ≡ logsOfTriangle t.now n s }
+    ensures { result ≡ logs_of_triangle t.now n s }
 {
     pivot_logs::log_pivots(t, n, s)
 }
@@ -390,7 +390,7 @@ pub extern "C" fn husk_log_pivots(t: &[f64], n: usize, s: f64) -> f64
 #[unsafe(no_mangle)]
 pub extern "C" fn husk_log_diagonal(t: &[f64], n: usize, s: f64) -> f64
     requires { n ≤ length t.now }
-    ensures { result ≡ logsOfDiagonal t.now n s }
+    ensures { result ≡ logs_of_diagonal t.now n s }
 {
     pivot_logs::log_diagonal(t, n, s)
 }
@@ -399,7 +399,7 @@ pub extern "C" fn husk_log_diagonal(t: &[f64], n: usize, s: f64) -> f64
 #[unsafe(no_mangle)]
 pub extern "C" fn husk_solve_row(t: &mut [f64], l: &[f64], n: usize)
     requires { (n ≤ length t.old) × (start triangle n ≤ length l.now) }
-    ensures { t.new ≡ rowSolved t.old l.now n }
+    ensures { t.new ≡ row_solved t.old l.now n }
 {
     substitution::solve_row(t, l, n);
 }
@@ -408,7 +408,7 @@ pub extern "C" fn husk_solve_row(t: &mut [f64], l: &[f64], n: usize)
 #[unsafe(no_mangle)]
 pub extern "C" fn husk_backward(t: &mut [f64], l: &[f64], n: usize)
     requires { (n ≤ length t.old) × (start triangle n ≤ length l.now) }
-    ensures { t.new ≡ backSolved t.old l.now n }
+    ensures { t.new ≡ back_solved t.old l.now n }
 {
     back_substitution::backward(t, l, n);
 }

@@ -12,7 +12,7 @@ use Rattle.layout.specs.Blocks.{insert, sorted}
 use Rattle.layout.specs.Gate.{thin, pair_of}
 use Rattle.layout.specs.Shapes.{
   shape,
-  loadedShape,
+  loaded_shape,
   Target,
   factors,
   across,
@@ -20,17 +20,17 @@ use Rattle.layout.specs.Shapes.{
   targets,
   cells_of,
   before,
-  loadedLength,
-  loadedAt,
-  workingAt,
+  loaded_length,
+  loaded_at,
+  working_at,
   sum_at,
-  crossCells,
-  factorCells,
-  doublesNeeded,
-  doublesFormula,
-  triangleEnd,
+  cross_cells,
+  factor_cells,
+  doubles_needed,
+  doubles_formula,
+  triangle_end,
 }
-use Rattle.layout.proofs.Made.{layoutWith}
+use Rattle.layout.proofs.Made.{layout_with}
 
 -- f of each block of a list
 abbrev each : (Target → ℕ) → List Target → List ℕ
@@ -38,70 +38,70 @@ each f [] = []
 each f (t ∷ l) = f t ∷ each f l
 
 -- 100,000 cells are dense, whatever the entries
-pub at-most-dense : (oneEach : Bool) (entries : ℕ) → pair_of 2 2 50000 oneEach entries ≡ Dense
+pub at_most_dense : (one_each : Bool) (entries : ℕ) → pair_of 2 2 50000 one_each entries ≡ Dense
 unfolding pair_of
-at-most-dense oneEach entries = refl
+at_most_dense one_each entries = refl
 
 -- 100,002 cells of which half are entries
-pub too-full : pair_of 2 2 50001 true 50001 ≡ Refused 11
+pub too_full : pair_of 2 2 50001 true 50001 ≡ Refused 11
 unfolding pair_of le div of_int of_bits
-too-full = refl
+too_full = refl
 
 -- 100,002 cells of which a third are entries
-pub thin-pair : pair_of 2 3 33334 true 33334 ≡ Sparse
+pub thin_pair : pair_of 2 3 33334 true 33334 ≡ Sparse
 unfolding pair_of le div of_int of_bits
-thin-pair = refl
+thin_pair = refl
 
 -- the same among three blocks
-pub three-blocks : pair_of 3 3 33334 true 33334 ≡ Refused 10
+pub three_blocks : pair_of 3 3 33334 true 33334 ≡ Refused 10
 unfolding pair_of
-three-blocks = refl
+three_blocks = refl
 
 -- the same with a column of more or fewer entries
-pub not-one-each : pair_of 2 3 33334 false 33334 ≡ Refused 11
+pub not_one_each : pair_of 2 3 33334 false 33334 ≡ Refused 11
 unfolding pair_of
-not-one-each = refl
+not_one_each = refl
 
-pub square : (oneEach : Bool) (entries : ℕ) → pair_of 2 316 316 oneEach entries ≡ Dense
+pub square : (one_each : Bool) (entries : ℕ) → pair_of 2 316 316 one_each entries ≡ Dense
 unfolding pair_of
-square oneEach entries = refl
+square one_each entries = refl
 
 -- 7 / 20 is the double 0.35 itself
-pub thin-seven : thin 7 20 ≡ true
+pub thin_seven : thin 7 20 ≡ true
 unfolding le div of_int of_bits
-thin-seven = refl
+thin_seven = refl
 
-pub thin-more : thin 36 100 ≡ false
+pub thin_more : thin 36 100 ≡ false
 unfolding le div of_int of_bits
-thin-more = refl
+thin_more = refl
 
 -- levels 2, 5, 2, 5: the larger first, and equal ones in sheet order
-pub order-of-four : sorted (λ i. get_or (2 ∷ 5 ∷ 2 ∷ 5 ∷ []) i 0) 4 ≡ 1 ∷ 3 ∷ 0 ∷ 2 ∷ []
+pub order_of_four : sorted (λ i. get_or (2 ∷ 5 ∷ 2 ∷ 5 ∷ []) i 0) 4 ≡ 1 ∷ 3 ∷ 0 ∷ 2 ∷ []
 unfolding sorted insert
-order-of-four = refl
+order_of_four = refl
 
 -- one block of one level and one fixed effect
 abbrev one : Layout
-one = layoutWith 3 1 1 1 (1 ∷ replicate 7 0) (replicate 8 0) false false
+one = layout_with 3 1 1 1 (1 ∷ replicate 7 0) (replicate 8 0) false false
 
-pub fourteen : (doublesNeeded one ≡ 14) × (doublesFormula one ≡ 14)
-unfolding sum_at triangleEnd crossCells factorCells targets factors pairs across cells_of shape loadedShape start
+pub fourteen : (doubles_needed one ≡ 14) × (doubles_formula one ≡ 14)
+unfolding sum_at triangle_end cross_cells factor_cells targets factors pairs across cells_of shape loaded_shape start
 fourteen = (refl, refl)
 
 -- three and two levels and one fixed effect: five diagonals, six cells of the pair, ten of the fixed rows and three of the last triangle are loaded
 abbrev pub two : Bool → Layout
-two diagonal = layoutWith 9 1 5 2 (3 ∷ 2 ∷ replicate 6 0) (0 ∷ 1 ∷ replicate 6 0) false diagonal
+two diagonal = layout_with 9 1 5 2 (3 ∷ 2 ∷ replicate 6 0) (0 ∷ 1 ∷ replicate 6 0) false diagonal
 
-pub fifty-two : (doublesNeeded (two false) ≡ 52) × (doublesFormula (two false) ≡ 52) × (doublesNeeded (two true) ≡ 51) × (doublesFormula (two true) ≡ 51)
-unfolding sum_at triangleEnd crossCells factorCells targets factors pairs across cells_of shape loadedShape start
-fifty-two = (refl, refl, refl, refl)
+pub fifty_two : (doubles_needed (two false) ≡ 52) × (doubles_formula (two false) ≡ 52) × (doubles_needed (two true) ≡ 51) × (doubles_formula (two true) ≡ 51)
+unfolding sum_at triangle_end cross_cells factor_cells targets factors pairs across cells_of shape loaded_shape start
+fifty_two = (refl, refl, refl, refl)
 
 -- where its blocks are loaded: the factors, the pair, the fixed rows, the last triangle
-pub loaded-places : each (λ t. loadedAt (two false) t.row t.col) (targets 2) ≡ 0 ∷ 3 ∷ 5 ∷ 11 ∷ 17 ∷ 21 ∷ []
-unfolding loadedAt targets factors pairs across before shape loadedShape start
-loaded-places = refl
+pub loaded_places : each (λ t. loaded_at (two false) t.row t.col) (targets 2) ≡ 0 ∷ 3 ∷ 5 ∷ 11 ∷ 17 ∷ 21 ∷ []
+unfolding loaded_at targets factors pairs across before shape loaded_shape start
+loaded_places = refl
 
 -- and where they work, behind two doubles of theta
-pub working-places : each (λ t. workingAt (two false) t.row t.col) (targets 2) ≡ 26 ∷ 29 ∷ 32 ∷ 38 ∷ 44 ∷ 48 ∷ []
-unfolding workingAt triangleEnd targets factors pairs across cells_of before shape loadedShape start
-working-places = refl
+pub working_places : each (λ t. working_at (two false) t.row t.col) (targets 2) ≡ 26 ∷ 29 ∷ 32 ∷ 38 ∷ 44 ∷ 48 ∷ []
+unfolding working_at triangle_end targets factors pairs across cells_of before shape loaded_shape start
+working_places = refl

@@ -4,6 +4,6 @@ use mathlib.Core.Bool.{Bool}
 use mathlib.Core.List.{List}
 use Rattle.layout.specs.declared.Layout.{Layout}
 
-abbrev pub layoutWith : (n p q k : ℕ) (m order : List ℕ) (sparse diagonal : Bool) → Layout
-layoutWith n p q k m order sparse diagonal =
+abbrev pub layout_with : (n p q k : ℕ) (m order : List ℕ) (sparse diagonal : Bool) → Layout
+layout_with n p q k m order sparse diagonal =
     record { n = n; p = p; q = q; k = k; m = m; order = order; sparse = sparse; diagonal = diagonal }

@@ -13,9 +13,9 @@ use Rattle.layout.specs.Blocks.{insert, sorted, sum, each, padded}
 
 -- ---- sums
 
-pub sum-none : (f : ℕ → ℕ) → 0 ≡ sum f 0
+pub sum_none : (f : ℕ → ℕ) → 0 ≡ sum f 0
 unfolding sum
-sum-none f = refl
+sum_none f = refl
 
 pub sum_more : (f : ℕ → ℕ) (n : ℕ) → sum f (n + 1) ≡ sum f n + f n
 unfolding sum
@@ -26,23 +26,23 @@ unfolding sum
 sum_same f g zero h = refl
 sum_same f g (suc n) h = ap₂ (λ (a b : ℕ). a + b) (sum_same f g n (λ i b. h i (omega arith))) (h n (omega arith))
 
-pub sum-front : (f : ℕ → ℕ) (n : ℕ) → sum f (suc n) ≡ f 0 + sum (λ i. f (suc i)) n
+pub sum_front : (f : ℕ → ℕ) (n : ℕ) → sum f (suc n) ≡ f 0 + sum (λ i. f (suc i)) n
 unfolding sum
-sum-front f zero = omega arith
-sum-front f (suc n) = omega (arith, sum-front f n)
+sum_front f zero = omega arith
+sum_front f (suc n) = omega (arith, sum_front f n)
 
 -- a sum of small numbers is small
-pub sum-small : (f : ℕ → ℕ) (b n : ℕ) → ((i : ℕ) → i < n → f i ≤ b) → sum f n ≤ n * b
+pub sum_small : (f : ℕ → ℕ) (b n : ℕ) → ((i : ℕ) → i < n → f i ≤ b) → sum f n ≤ n * b
 unfolding sum
-sum-small f b zero h = omega arith
-sum-small f b (suc n) h = omega (arith, sum-small f b n (λ i g. h i (omega arith)), h n (omega arith))
+sum_small f b zero h = omega arith
+sum_small f b (suc n) h = omega (arith, sum_small f b n (λ i g. h i (omega arith)), h n (omega arith))
 
 -- a sum of more is no less
-pub sum-le : (f : ℕ → ℕ) (a b : ℕ) → a ≤ b → sum f a ≤ sum f b
+pub sum_le : (f : ℕ → ℕ) (a b : ℕ) → a ≤ b → sum f a ≤ sum f b
 unfolding sum
-sum-le f a zero h = let e : a ≡ 0 = omega arith in rw e (omega arith)
-sum-le f a (suc b) h =
-    by_cases (dec_lt b a) (λ l. let e : a ≡ suc b = omega arith in rw e (omega arith)) (λ l. omega (arith, sum-le f a b (omega arith)))
+sum_le f a zero h = let e : a ≡ 0 = omega arith in rw e (omega arith)
+sum_le f a (suc b) h =
+    by_cases (dec_lt b a) (λ l. let e : a ≡ suc b = omega arith in rw e (omega arith)) (λ l. omega (arith, sum_le f a b (omega arith)))
 
 -- the sum of f over a list
 abbrev pub over : (ℕ → ℕ) → List ℕ → ℕ
@@ -52,44 +52,44 @@ over f (s ∷ l) = f s + over f l
 pub sum_over : (f : ℕ → ℕ) (l : List ℕ) → sum (λ i. f (get_or l i 0)) (length l) ≡ over f l
 unfolding sum
 sum_over f [] = refl
-sum_over f (s ∷ l) = sum-front (λ i. f (get_or (s ∷ l) i 0)) (length l) ∙ ap (λ (a : ℕ). f s + a) (sum_over f l)
+sum_over f (s ∷ l) = sum_front (λ i. f (get_or (s ∷ l) i 0)) (length l) ∙ ap (λ (a : ℕ). f s + a) (sum_over f l)
 
-over-insert : (m f : ℕ → ℕ) (i : ℕ) (l : List ℕ) → over f (insert m i l) ≡ f i + over f l
+over_insert : (m f : ℕ → ℕ) (i : ℕ) (l : List ℕ) → over f (insert m i l) ≡ f i + over f l
 unfolding insert
-over-insert m f i [] = refl
-over-insert m f i (s ∷ l) = step (over-insert m f i l) (ltb (m s) (m i))
+over_insert m f i [] = refl
+over_insert m f i (s ∷ l) = step (over_insert m f i l) (ltb (m s) (m i))
   where
     step : over f (insert m i l) ≡ f i + over f l → (b : Bool) → over f (cond b (i ∷ s ∷ l) (s ∷ insert m i l)) ≡ f i + (f s + over f l)
     step e true = refl
     step e false = omega (arith, e)
 
 -- sorted or not, the sum is one
-pub over-sorted : (m f : ℕ → ℕ) (k : ℕ) → over f (sorted m k) ≡ sum f k
+pub over_sorted : (m f : ℕ → ℕ) (k : ℕ) → over f (sorted m k) ≡ sum f k
 unfolding sorted sum
-over-sorted m f zero = refl
-over-sorted m f (suc k) = omega (arith, over-insert m f k (sorted m k), over-sorted m f k)
+over_sorted m f zero = refl
+over_sorted m f (suc k) = omega (arith, over_insert m f k (sorted m k), over_sorted m f k)
 
 -- ---- a list with zeros behind it
 
-pub padded-at : (n : ℕ) (l : List ℕ) (i : ℕ) → i < n → get_or (padded n l) i 0 ≡ get_or l i 0
+pub padded_at : (n : ℕ) (l : List ℕ) (i : ℕ) → i < n → get_or (padded n l) i 0 ≡ get_or l i 0
 unfolding padded
-padded-at zero l i h = absurd (omega arith)
-padded-at (suc n) l zero h = refl
-padded-at (suc n) [] (suc i) h = padded-at n [] i (omega arith)
-padded-at (suc n) (x ∷ l) (suc i) h = padded-at n l i (omega arith)
+padded_at zero l i h = absurd (omega arith)
+padded_at (suc n) l zero h = refl
+padded_at (suc n) [] (suc i) h = padded_at n [] i (omega arith)
+padded_at (suc n) (x ∷ l) (suc i) h = padded_at n l i (omega arith)
 
-pub length-padded : (n : ℕ) (l : List ℕ) → length (padded n l) ≡ n
+pub length_padded : (n : ℕ) (l : List ℕ) → length (padded n l) ≡ n
 unfolding padded
-length-padded zero l = refl
-length-padded (suc n) [] = ap suc (length-padded n [])
-length-padded (suc n) (x ∷ l) = ap suc (length-padded n l)
+length_padded zero l = refl
+length_padded (suc n) [] = ap suc (length_padded n [])
+length_padded (suc n) (x ∷ l) = ap suc (length_padded n l)
 
 -- ---- f of each number of a list
 
-pub length-each : (f : ℕ → ℕ) (l : List ℕ) → length (each f l) ≡ length l
+pub length_each : (f : ℕ → ℕ) (l : List ℕ) → length (each f l) ≡ length l
 unfolding each
-length-each f [] = refl
-length-each f (x ∷ l) = ap suc (length-each f l)
+length_each f [] = refl
+length_each f (x ∷ l) = ap suc (length_each f l)
 
 pub each_at : (f : ℕ → ℕ) (l : List ℕ) (i : ℕ) → i < length l → get_or (each f l) i 0 ≡ f (get_or l i 0)
 unfolding each

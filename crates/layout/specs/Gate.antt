@@ -9,13 +9,13 @@ use Rattle.layout.specs.declared.Pair.TheVariants.{Dense, Sparse, Refused}
 abbrev pub thin : ℕ → ℕ → Bool
 thin entries cells = Ieee.le (Ieee.div binary64 (Ieee.of_int binary64 (pos entries)) (Ieee.of_int binary64 (pos cells))) (Ieee.of_bits binary64 0x3fd6666666666666)
 
--- A pair of rows × cols cells among k blocks; oneEach says that each column has exactly one entry, entries is how many entries the pair has.
+-- A pair of rows × cols cells among k blocks; one_each says that each column has exactly one entry, entries is how many entries the pair has.
 -- Up to 100,000 cells it is dense. Above that it is refused with 10 where k > 2, and with 11 unless each column has one entry and the
 -- pair is thin; it is then sparse.
 unfoldable pub pair_of : ℕ → ℕ → ℕ → Bool → ℕ → Pair
-pair_of k rows cols oneEach entries =
-    cond (leb (rows * cols) 100000) Dense (cond (ltb 2 k) (Refused 10) (cond (oneEach && thin entries (rows * cols)) Sparse (Refused 11)))
+pair_of k rows cols one_each entries =
+    cond (leb (rows * cols) 100000) Dense (cond (ltb 2 k) (Refused 10) (cond (one_each && thin entries (rows * cols)) Sparse (Refused 11)))
 
 -- with k = 2 and one entry in each column, block 1 is diagonal
-abbrev pub diagonalOf : ℕ → Bool → Bool
-diagonalOf k oneEach = eqb k 2 && oneEach
+abbrev pub diagonal_of : ℕ → Bool → Bool
+diagonal_of k one_each = eqb k 2 && one_each

@@ -12,7 +12,7 @@ pub struct Layout {
     pub order: [u64; 8],
     // The one pair is stored sparse.
     pub sparse: bool,
-    // Factor 1 is a diagonal; who asks for a factor's kind asks `factorKind` (specs/Shapes.antt).
+    // Factor 1 is a diagonal; who asks for a factor's kind asks `factor_kind` (specs/Shapes.antt).
     pub diagonal: bool,
 }
 

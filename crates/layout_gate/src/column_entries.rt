@@ -1,11 +1,11 @@
 // Whether each level of one block has exactly one entry with the levels of another (document 01, Record 2, the gate for k = 2), read from the zz
 // lines.
 ghost use Rattle.std.specs.Prelude.{◌≡◌, ◌&&◌, ◌+◌, ◌<◌, ◌^◌};
-ghost use Rattle.sheet.specs.Line.{zzTag, pairLine};
-ghost use Rattle.sheet.specs.Sheet.{Sheet, accepted, readSheet};
+ghost use Rattle.sheet.specs.Line.{zz_tag, pair_line};
+ghost use Rattle.sheet.specs.Sheet.{Sheet, accepted, read_sheet};
 ghost use Rattle.heading_format.specs.Heading.{bit};
 ghost use Rattle.sheet_checks.specs.levels.Held.{Holds};
-ghost use Rattle.layout_gate.specs.column_entries.Columns.{inRun, eachOne, in_turn, entries_at};
+ghost use Rattle.layout_gate.specs.column_entries.Columns.{in_run, each_one, in_turn, entries_at};
 
 use sheet::{Line, Starts};
 use sheet_checks::levels;
@@ -14,7 +14,7 @@ use sheet_reader::pair_line;
 // Whether x is one of the n numbers from a on.
 fn in_run(a: u64, n: u64, x: u64) -> bool
     requires { a + n < 2 ^ 64 }
-    ensures { result ≡ inRun a n x }
+    ensures { result ≡ in_run a n x }
 {
     (a <= x) & (x < a + n)
 }
@@ -22,7 +22,7 @@ fn in_run(a: u64, n: u64, x: u64) -> bool
 // 1 where column and row are those of the pair, else 0.
 fn in_pair(col: u64, row: u64, from: u64, cols: u64, at: u64, rows: u64) -> u64
     requires { (from + cols < 2 ^ 64) × (at + rows < 2 ^ 64) }
-    ensures { result ≡ bit (inRun from cols col && inRun at rows row) }
+    ensures { result ≡ bit (in_run from cols col && in_run at rows row) }
 {
     if in_run(from, cols, col) & in_run(at, rows, row) {
         return 1;
@@ -32,7 +32,7 @@ fn in_pair(col: u64, row: u64, from: u64, cols: u64, at: u64, rows: u64) -> u64
 
 // The zz line at a position.
 fn entry_line(bytes: &[u8], at: usize) -> Line
-    ensures { result ≡ pairLine zzTag bytes.now at }
+    ensures { result ≡ pair_line zz_tag bytes.now at }
 {
     pair_line::pair_line(b"zz\t", bytes, at)
 }
@@ -61,7 +61,7 @@ fn in_turn(bytes: &[u8], start: usize, n: u64, from: u64, cols: u64, at: u64, ro
 // Whether each of the columns from `from` on, `cols` of them, has exactly one entry in the rows from `at` on, `rows` of them.
 pub fn one_each(bytes: &[u8], starts: Starts, from: u64, cols: u64, at: u64, rows: u64) -> bool
     requires { Holds bytes.now starts × (from + cols < 2 ^ 64) × (at + rows < 2 ^ 64) }
-    ensures { (sheet : Sheet) → readSheet bytes.now ≡ accepted sheet starts → result ≡ eachOne from cols at rows sheet.zz }
+    ensures { (sheet : Sheet) → read_sheet bytes.now ≡ accepted sheet starts → result ≡ each_one from cols at rows sheet.zz }
 {
     in_turn(
         bytes,

@@ -2,7 +2,7 @@
 ghost use Rattle.std.specs.Prelude.{◌≡◌, ℕ, ◌<◌, ◌≤◌};
 ghost use Rattle.sheet.specs.Sheet.{Sheet};
 ghost use Rattle.layout.specs.Shapes.{levels, pairs};
-ghost use Rattle.workspace.specs.Loaded.{firstRefusedPair, layoutOfSheet};
+ghost use Rattle.workspace.specs.Loaded.{first_refused_pair, layout_of_sheet};
 ghost use Rattle.layout_gate.specs.gate_search.Search.{answer_of, number_of, verdict};
 
 use crate::pair_gate;
@@ -35,7 +35,7 @@ fn verdict(layout: Layout, j: u64, jj: u64) -> u64
 // the gate asks.
 pub fn first_refused_pair(layout: Layout) -> Refusal
     requires { (layout.k ≤ 8) × ((i : ℕ) → i < 8 → levels layout i ≤ 65535) }
-    ensures { (sheet : Sheet) → layout ≡ layoutOfSheet sheet → result ≡ answer_of (firstRefusedPair sheet layout (pairs layout.k)) }
+    ensures { (sheet : Sheet) → layout ≡ layout_of_sheet sheet → result ≡ answer_of (first_refused_pair sheet layout (pairs layout.k)) }
 {
     let mut found = Refusal {
         number: 0,

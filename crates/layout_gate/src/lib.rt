@@ -7,13 +7,13 @@ pub mod gate_search;
 pub mod pair_gate;
 
 ghost use Rattle.std.specs.Prelude.{◌≡◌, ◌&&◌, ℕ, ◌<◌, ◌≤◌, eqb, get_or};
-ghost use Rattle.sheet.specs.Sheet.{Sheet, accepted, readSheet};
-ghost use Rattle.sheet.specs.Fault.{faultNumber};
+ghost use Rattle.sheet.specs.Sheet.{Sheet, accepted, read_sheet};
+ghost use Rattle.sheet.specs.Fault.{fault_number};
 ghost use Rattle.layout.specs.Blocks.{sorted, each, padded};
 ghost use Rattle.layout.specs.Gate.{pair_of};
-ghost use Rattle.heading_format.specs.Heading.{isSparse};
+ghost use Rattle.heading_format.specs.Heading.{is_sparse};
 ghost use Rattle.sheet_checks.specs.levels.Held.{Holds};
-ghost use Rattle.workspace.specs.Loaded.{layoutOfSheet};
+ghost use Rattle.workspace.specs.Loaded.{layout_of_sheet};
 ghost use Rattle.layout_gate.specs.Ordered.{Ordered};
 
 use layout::{Layout, Pair};
@@ -38,7 +38,7 @@ fn sorted_levels(m: [u64; 8], order: [u64; 8], k: u64) -> [u64; 8]
 // With k = 2, whether each level of the larger block has exactly one entry with the other: block 1 is then diagonal.
 fn is_diagonal(bytes: &[u8], starts: Starts, m: [u64; 8], order: [u64; 8]) -> bool
     requires { Holds bytes.now starts × Ordered bytes.now starts m order }
-    ensures { (sheet : Sheet) → readSheet bytes.now ≡ accepted sheet starts → result ≡ (layoutOfSheet sheet).diagonal }
+    ensures { (sheet : Sheet) → read_sheet bytes.now ≡ accepted sheet starts → result ≡ (layout_of_sheet sheet).diagonal }
 {
     if starts.counts.k != 2 {
         return false;
@@ -57,7 +57,7 @@ fn is_diagonal(bytes: &[u8], starts: Starts, m: [u64; 8], order: [u64; 8]) -> bo
 
 // Whether the gate has a pair stored sparse.
 fn is_sparse(p: Pair) -> bool
-    ensures { result ≡ isSparse p }
+    ensures { result ≡ is_sparse p }
 {
     match p {
         Pair::Dense => false,
@@ -69,7 +69,7 @@ fn is_sparse(p: Pair) -> bool
 // With k = 2, whether the one pair is stored sparse.
 fn one_sparse(k: u64, m: [u64; 8], diagonal: bool) -> bool
     requires { (i : ℕ) → i < 8 → get_or m i 0 ≤ 65535 }
-    ensures { result ≡ eqb k 2 && isSparse (pair_of k (get_or m 1 0) (get_or m 0 0) diagonal (get_or m 0 0)) }
+    ensures { result ≡ eqb k 2 && is_sparse (pair_of k (get_or m 1 0) (get_or m 0 0) diagonal (get_or m 0 0)) }
 {
     if k != 2 {
         return false;
@@ -79,8 +79,8 @@ fn one_sparse(k: u64, m: [u64; 8], diagonal: bool) -> bool
 
 // The layout of a sheet that 5 to 9 do not refuse.
 pub fn layout_of_sheet(bytes: &[u8], starts: Starts) -> Layout
-    requires { (sheet : Sheet) × (readSheet bytes.now ≡ accepted sheet starts) × (faultNumber sheet ≡ 0) }
-    ensures { (sheet : Sheet) → readSheet bytes.now ≡ accepted sheet starts → result ≡ layoutOfSheet sheet }
+    requires { (sheet : Sheet) × (read_sheet bytes.now ≡ accepted sheet starts) × (fault_number sheet ≡ 0) }
+    ensures { (sheet : Sheet) → read_sheet bytes.now ≡ accepted sheet starts → result ≡ layout_of_sheet sheet }
 {
     let c = starts.counts;
     let m = levels::levels(bytes, starts);

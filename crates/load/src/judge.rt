@@ -1,9 +1,9 @@
 // Judging a sheet before anything is written (document 01, "Refused because of the input"): the first of its refusals 1 to 11, or what it is written by.
 ghost use Rattle.std.specs.Prelude.{◌≡◌, ◌<◌};
-ghost use Rattle.sheet.specs.Sheet.{Sheet, accepted, readSheet};
-ghost use Rattle.sheet.specs.Fault.{faultNumber};
+ghost use Rattle.sheet.specs.Sheet.{Sheet, accepted, read_sheet};
+ghost use Rattle.sheet.specs.Fault.{fault_number};
 ghost use Rattle.refusal.specs.Numbers.{refusal};
-ghost use Rattle.load.specs.judge.Judged.{refused, asJudged, judgedSheet, judgedOf};
+ghost use Rattle.load.specs.judge.Judged.{refused, as_judged, judged_sheet, judged_of};
 
 use layout::Layout;
 use layout_gate::gate_search;
@@ -21,8 +21,8 @@ pub struct Judgement {
 
 // A sheet that 1 to 9 do not refuse: 10 and 11.
 pub fn judge_sheet(bytes: &[u8], starts: Starts) -> Judgement
-    requires { (sheet : Sheet) × (readSheet bytes.now ≡ accepted sheet starts) × (faultNumber sheet ≡ 0) }
-    ensures { (sheet : Sheet) → readSheet bytes.now ≡ accepted sheet starts → asJudged result ≡ judgedSheet sheet starts }
+    requires { (sheet : Sheet) × (read_sheet bytes.now ≡ accepted sheet starts) × (fault_number sheet ≡ 0) }
+    ensures { (sheet : Sheet) → read_sheet bytes.now ≡ accepted sheet starts → as_judged result ≡ judged_sheet sheet starts }
 {
     let layout = layout_gate::layout_of_sheet(bytes, starts);
     Judgement {
@@ -35,7 +35,7 @@ pub fn judge_sheet(bytes: &[u8], starts: Starts) -> Judgement
 // A refusal by number and line.
 fn refused(number: u64, line: u64) -> Judgement
     requires { 0 < number }
-    ensures { asJudged result ≡ refused (refusal number line 0) }
+    ensures { as_judged result ≡ refused (refusal number line 0) }
 {
     Judgement {
         refusal: Refusal {
@@ -76,7 +76,7 @@ fn refused(number: u64, line: u64) -> Judgement
 
 // Any bytes: 1 to 9 as the reader answers them, or the sheet goes on.
 pub fn judge(bytes: &[u8]) -> Judgement
-    ensures { asJudged result ≡ judgedOf bytes.now }
+    ensures { as_judged result ≡ judged_of bytes.now }
 {
     let r = sheet_checks::read_and_check(bytes);
     match r {

@@ -6,12 +6,12 @@ pub mod room;
 mod write_loaded;
 
 ghost use Rattle.std.specs.Prelude.{◌≡◌};
-ghost use Rattle.sheet.specs.Sheet.{Sheet, accepted, readSheet};
-ghost use Rattle.sheet.specs.Fault.{faultNumber};
+ghost use Rattle.sheet.specs.Sheet.{Sheet, accepted, read_sheet};
+ghost use Rattle.sheet.specs.Fault.{fault_number};
 ghost use Rattle.refusal.specs.Numbers.{meaning};
 ghost use Rattle.workspace.specs.Answers.{workspace};
-ghost use Rattle.workspace.specs.Load.{loadSheet, load_of};
-ghost use Rattle.load.specs.room.Needs.{needsMeaning, needsOf};
+ghost use Rattle.workspace.specs.Load.{load_sheet, load_of};
+ghost use Rattle.load.specs.room.Needs.{needs_meaning, needs_of};
 
 use refusal::Answer;
 use room::Needs;
@@ -19,8 +19,8 @@ use sheet::Starts;
 
 // A sheet that 1 to 9 do not refuse: 10 and 11, then 12, or it is loaded.
 pub fn load_sheet(bytes: &[u8], starts: Starts, heading: &mut [u32], doubles: &mut [f64]) -> Answer
-    requires { (sheet : Sheet) × (readSheet bytes.now ≡ accepted sheet starts) × (faultNumber sheet ≡ 0) }
-    ensures { (sheet : Sheet) → readSheet bytes.now ≡ accepted sheet starts → record { answer = result; left = workspace heading.new doubles.new } ≡ loadSheet sheet heading.old doubles.old }
+    requires { (sheet : Sheet) × (read_sheet bytes.now ≡ accepted sheet starts) × (fault_number sheet ≡ 0) }
+    ensures { (sheet : Sheet) → read_sheet bytes.now ≡ accepted sheet starts → record { answer = result; left = workspace heading.new doubles.new } ≡ load_sheet sheet heading.old doubles.old }
 {
     let j = judge::judge_sheet(bytes, starts);
     let d = j.refusal;
@@ -44,7 +44,7 @@ pub fn load(bytes: &[u8], heading: &mut [u32], doubles: &mut [f64]) -> Answer
 
 // How long the lists have to be that load is lent with these bytes; or 1 to 11, which load refuses them with whatever it is lent.
 pub fn needs(bytes: &[u8]) -> Needs
-    ensures { needsMeaning result ≡ needsMeaning (needsOf bytes.now) }
+    ensures { needs_meaning result ≡ needs_meaning (needs_of bytes.now) }
 {
     let j = judge::judge(bytes);
     let r = j.refusal;

@@ -1,8 +1,8 @@
 // How long a workspace is that holds a layout (document 01, Record 2 and number 12).
 ghost use Rattle.std.specs.Prelude.{◌≡◌, true};
-ghost use Rattle.heading_format.specs.Heading.{validLayout, numbersNeeded};
-ghost use Rattle.workspace.specs.Load.{hasRoom};
-ghost use Rattle.load.specs.room.Needs.{roomOf};
+ghost use Rattle.heading_format.specs.Heading.{valid_layout, numbers_needed};
+ghost use Rattle.workspace.specs.Load.{has_room};
+ghost use Rattle.load.specs.room.Needs.{room_of};
 
 use block_places::places;
 use heading_format::parts;
@@ -25,8 +25,8 @@ pub enum Needs {
 
 // How many numbers a workspace has: the heading, and one for each column of a sparse pair.
 fn numbers_needed(layout: Layout) -> u64
-    requires { validLayout layout ≡ true }
-    ensures { result ≡ numbersNeeded layout }
+    requires { valid_layout layout ≡ true }
+    ensures { result ≡ numbers_needed layout }
 {
     if layout.sparse {
         return parts::HEADING_LENGTH as u64 + layout.m[0];
@@ -36,8 +36,8 @@ fn numbers_needed(layout: Layout) -> u64
 
 // The room that a layout needs.
 pub fn room_of(layout: Layout) -> Room
-    requires { validLayout layout ≡ true }
-    ensures { result ≡ roomOf layout }
+    requires { valid_layout layout ≡ true }
+    ensures { result ≡ room_of layout }
 {
     Room {
         doubles: places::doubles_needed(layout) as u64,
@@ -47,8 +47,8 @@ pub fn room_of(layout: Layout) -> Room
 
 // Whether both lists are long enough (12).
 pub fn has_room(layout: Layout, heading: &[u32], w: &[f64]) -> bool
-    requires { validLayout layout ≡ true }
-    ensures { result ≡ hasRoom layout heading.now w.now }
+    requires { valid_layout layout ≡ true }
+    ensures { result ≡ has_room layout heading.now w.now }
 {
     let room = room_of(layout);
     let numbers = room.numbers <= heading.len() as u64;

@@ -2,11 +2,11 @@
 ghost use Rattle.std.specs.Prelude.{◌≡◌, ◌≤◌, length};
 ghost use Rattle.std.proofs.Math.Option.{none};
 ghost use Rattle.storage.specs.Part.{store};
-ghost use Rattle.sheet.specs.Sheet.{Sheet, accepted, readSheet};
-ghost use Rattle.layout.specs.Shapes.{doublesNeeded};
-ghost use Rattle.heading_format.specs.Heading.{numbersNeeded};
+ghost use Rattle.sheet.specs.Sheet.{Sheet, accepted, read_sheet};
+ghost use Rattle.layout.specs.Shapes.{doubles_needed};
+ghost use Rattle.heading_format.specs.Heading.{numbers_needed};
 ghost use Rattle.workspace.specs.Answers.{workspace};
-ghost use Rattle.workspace.specs.Load.{headingOf, doublesOf, afterGate};
+ghost use Rattle.workspace.specs.Load.{heading_of, doubles_of, after_gate};
 ghost use Rattle.load_numbers.specs.sheet_words.Ready.{Ready};
 
 use crate::room;
@@ -18,8 +18,8 @@ use sheet::Starts;
 
 // The heading of a sheet just loaded.
 fn write_heading(bytes: &[u8], starts: Starts, layout: Layout, heading: &mut [u32])
-    requires { Ready bytes.now starts layout × (numbersNeeded layout ≤ length heading.old) }
-    ensures { (sheet : Sheet) → readSheet bytes.now ≡ accepted sheet starts → heading.new ≡ store 0 (headingOf sheet layout) heading.old }
+    requires { Ready bytes.now starts layout × (numbers_needed layout ≤ length heading.old) }
+    ensures { (sheet : Sheet) → read_sheet bytes.now ≡ accepted sheet starts → heading.new ≡ store 0 (heading_of sheet layout) heading.old }
 {
     writer::write(heading, layout, idle_progress::idle(layout.k));
     load_numbers::load_entry_rows(bytes, starts, layout, heading);
@@ -33,8 +33,8 @@ fn write_sheet(
     heading: &mut [u32],
     doubles: &mut [f64],
 )
-    requires { Ready bytes.now starts layout × (numbersNeeded layout ≤ length heading.old) × (doublesNeeded layout ≤ length doubles.old) }
-    ensures { (sheet : Sheet) → readSheet bytes.now ≡ accepted sheet starts → (heading.new ≡ store 0 (headingOf sheet layout) heading.old) × (doubles.new ≡ store 0 (doublesOf sheet layout) doubles.old) }
+    requires { Ready bytes.now starts layout × (numbers_needed layout ≤ length heading.old) × (doubles_needed layout ≤ length doubles.old) }
+    ensures { (sheet : Sheet) → read_sheet bytes.now ≡ accepted sheet starts → (heading.new ≡ store 0 (heading_of sheet layout) heading.old) × (doubles.new ≡ store 0 (doubles_of sheet layout) doubles.old) }
 {
     write_heading(bytes, starts, layout, heading);
     sheet_words::load_numbers(bytes, starts, layout, doubles);
@@ -49,7 +49,7 @@ pub fn load_judged(
     doubles: &mut [f64],
 ) -> Answer
     requires { Ready bytes.now starts layout }
-    ensures { (sheet : Sheet) → readSheet bytes.now ≡ accepted sheet starts → record { answer = result; left = workspace heading.new doubles.new } ≡ afterGate none sheet layout heading.old doubles.old }
+    ensures { (sheet : Sheet) → read_sheet bytes.now ≡ accepted sheet starts → record { answer = result; left = workspace heading.new doubles.new } ≡ after_gate none sheet layout heading.old doubles.old }
 {
     if !room::has_room(layout, heading, doubles) {
         return Answer::Refused(Refusal {

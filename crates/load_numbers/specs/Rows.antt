@@ -4,16 +4,16 @@ use Rattle.sheet.specs.declared.Line.{Line}
 use Rattle.sheet.specs.Field.{nowhere}
 use Rattle.layout.specs.declared.Layout.{Layout}
 use Rattle.layout.specs.Blocks.{sum}
-use Rattle.heading_format.specs.Heading.{sheetLevels}
-use Rattle.workspace.specs.Loaded.{rowStart}
-use Rattle.block_places.specs.sheet_rows.Blocks.{blockOfRow}
-use Rattle.heading_format.specs.Parts.{headingLength}
+use Rattle.heading_format.specs.Heading.{sheet_levels}
+use Rattle.workspace.specs.Loaded.{row_start}
+use Rattle.block_places.specs.sheet_rows.Blocks.{block_of_row}
+use Rattle.heading_format.specs.Parts.{heading_length}
 
 -- an entry whose column is in block 0 and whose row is in block 1
-unfoldable pub rowPlace : Layout → ℕ → ℕ → ℕ
-unfolding blockOfRow sum sheetLevels
-rowPlace y col row = cond (eqb (blockOfRow y y.k col) 0 && eqb (blockOfRow y y.k row) 1) (headingLength + (col - rowStart y 0)) nowhere
+unfoldable pub row_place : Layout → ℕ → ℕ → ℕ
+unfolding block_of_row sum sheet_levels
+row_place y col row = cond (eqb (block_of_row y y.k col) 0 && eqb (block_of_row y y.k row) 1) (heading_length + (col - row_start y 0)) nowhere
 
 -- its row, counted in block 1; any other entry is put nowhere
-abbrev pub putRow : Layout → ℕ → Line → List ℕ → List ℕ
-putRow y i l h = set h (rowPlace y l.first l.second) (l.second - rowStart y 1)
+abbrev pub put_row : Layout → ℕ → Line → List ℕ → List ℕ
+put_row y i l h = set h (row_place y l.first l.second) (l.second - row_start y 1)

@@ -9,16 +9,16 @@ pub mod word_address;
 ghost use Rattle.std.specs.Prelude.{◌≡◌, true, [], ◌+◌, ◌≤◌, ◌<◌, length};
 ghost use Rattle.storage.specs.Runs.{tab};
 ghost use Rattle.storage.specs.Part.{store};
-ghost use Rattle.sheet.specs.Line.{zzTag, pairLine};
-ghost use Rattle.sheet.specs.Sheet.{Sheet, accepted, readSheet};
+ghost use Rattle.sheet.specs.Line.{zz_tag, pair_line};
+ghost use Rattle.sheet.specs.Sheet.{Sheet, accepted, read_sheet};
 ghost use Rattle.layout.specs.Shapes.{pick, levels};
-ghost use Rattle.heading_format.specs.Heading.{validLayout, numbersNeeded};
-ghost use Rattle.workspace.specs.Loaded.{entryRowIn};
+ghost use Rattle.heading_format.specs.Heading.{valid_layout, numbers_needed};
+ghost use Rattle.workspace.specs.Loaded.{entry_row_in};
 ghost use Rattle.block_places.specs.sheet_rows.Blocks.{FirstRows, Maps};
 ghost use Rattle.load_numbers.specs.word_address.Spread.{spread};
 ghost use Rattle.load_numbers.specs.sheet_words.Ready.{Ready};
-ghost use Rattle.load_numbers.specs.Rows.{putRow};
-ghost use Rattle.heading_format.specs.Parts.{headingLength};
+ghost use Rattle.load_numbers.specs.Rows.{put_row};
+ghost use Rattle.heading_format.specs.Parts.{heading_length};
 
 use block_places::row_map;
 use block_places::sheet_rows::Map;
@@ -36,8 +36,8 @@ fn put_row<'a>(
     l: Line,
     heading: &mut [u32],
 )
-    requires { (validLayout layout ≡ true) × (counts.now ≡ layout.m) × FirstRows layout first.now × (1 < layout.k) × (headingLength + levels layout 0 ≤ length heading.old) }
-    ensures { heading.new ≡ putRow layout 0 l heading.old }
+    requires { (valid_layout layout ≡ true) × (counts.now ≡ layout.m) × FirstRows layout first.now × (1 < layout.k) × (heading_length + levels layout 0 ≤ length heading.old) }
+    ensures { heading.new ≡ put_row layout 0 l heading.old }
 {
     if row_map::block_of(layout, counts, first, l.first) != 0 {
         return;
@@ -52,15 +52,15 @@ fn put_row<'a>(
 
 // The zz line at a position.
 fn entry_at(bytes: &[u8], at: usize) -> Line
-    ensures { result ≡ pairLine zzTag bytes.now at }
+    ensures { result ≡ pair_line zz_tag bytes.now at }
 {
     pair_line::pair_line(b"zz\t", bytes, at)
 }
 
 // The rows of the entries of `count` zz lines from `at` on.
 fn put_rows(bytes: &[u8], at: usize, count: u64, layout: Layout, m: Map, heading: &mut [u32])
-    requires { (validLayout layout ≡ true) × Maps layout m × (1 < layout.k) × (headingLength + levels layout 0 ≤ length heading.old) }
-    ensures { heading.new ≡ spread (putRow layout) (pairLine zzTag bytes.now) count 0 at heading.old }
+    requires { (valid_layout layout ≡ true) × Maps layout m × (1 < layout.k) × (heading_length + levels layout 0 ≤ length heading.old) }
+    ensures { heading.new ≡ spread (put_row layout) (pair_line zz_tag bytes.now) count 0 at heading.old }
 {
     let mut p = at;
     let mut left = count;
@@ -74,8 +74,8 @@ fn put_rows(bytes: &[u8], at: usize, count: u64, layout: Layout, m: Map, heading
 
 // Behind the heading's numbers the row of each sparse column's entry; nothing where the pair is dense.
 pub fn load_entry_rows(bytes: &[u8], starts: Starts, layout: Layout, heading: &mut [u32])
-    requires { Ready bytes.now starts layout × (numbersNeeded layout ≤ length heading.old) }
-    ensures { (sheet : Sheet) → readSheet bytes.now ≡ accepted sheet starts → heading.new ≡ store headingLength (pick layout.sparse (tab (levels layout 0) (entryRowIn sheet layout)) []) heading.old }
+    requires { Ready bytes.now starts layout × (numbers_needed layout ≤ length heading.old) }
+    ensures { (sheet : Sheet) → read_sheet bytes.now ≡ accepted sheet starts → heading.new ≡ store heading_length (pick layout.sparse (tab (levels layout 0) (entry_row_in sheet layout)) []) heading.old }
 {
     if layout.sparse {
         let m = row_map::map_of(layout);

@@ -2,12 +2,12 @@
 // sheet goes into its place. Definitions are in the crate workspace, specs/Loaded.antt, and in specs/word_address/Spread.antt.
 ghost use Rattle.std.specs.Prelude.{◌≡◌, ◌≤◌, length};
 ghost use Rattle.storage.specs.Part.{store};
-ghost use Rattle.sheet.specs.Sheet.{Sheet, accepted, readSheet};
-ghost use Rattle.layout.specs.Shapes.{doublesNeeded};
-ghost use Rattle.workspace.specs.Load.{doublesOf};
+ghost use Rattle.sheet.specs.Sheet.{Sheet, accepted, read_sheet};
+ghost use Rattle.layout.specs.Shapes.{doubles_needed};
+ghost use Rattle.workspace.specs.Load.{doubles_of};
 ghost use Rattle.block_places.specs.sheet_rows.Blocks.{Maps};
 ghost use Rattle.load_numbers.specs.sheet_words.Ready.{Ready};
-ghost use Rattle.load_numbers.specs.sheet_words.Runs.{firstRuns, lastRuns};
+ghost use Rattle.load_numbers.specs.sheet_words.Runs.{first_runs, last_runs};
 
 use crate::word_address::Run;
 use crate::{clear_doubles, store_words};
@@ -20,7 +20,7 @@ use sheet_checks::levels;
 // Z'Z, Z'X and Z'y.
 fn first_runs(bytes: &[u8], starts: Starts, layout: Layout, m: Map, doubles: &mut [f64])
     requires { Ready bytes.now starts layout × Maps layout m }
-    ensures { (sheet : Sheet) → readSheet bytes.now ≡ accepted sheet starts → doubles.new ≡ firstRuns bytes.now sheet starts layout doubles.old }
+    ensures { (sheet : Sheet) → read_sheet bytes.now ≡ accepted sheet starts → doubles.new ≡ first_runs bytes.now sheet starts layout doubles.old }
 {
     store_words::scatter(
         Run::Zz,
@@ -48,7 +48,7 @@ fn first_runs(bytes: &[u8], starts: Starts, layout: Layout, m: Map, doubles: &mu
 // X'X, X'y and y'y: the last triangle in its order.
 fn last_runs(bytes: &[u8], starts: Starts, layout: Layout, m: Map, doubles: &mut [f64])
     requires { Ready bytes.now starts layout × Maps layout m }
-    ensures { (sheet : Sheet) → readSheet bytes.now ≡ accepted sheet starts → doubles.new ≡ lastRuns bytes.now sheet starts layout doubles.old }
+    ensures { (sheet : Sheet) → read_sheet bytes.now ≡ accepted sheet starts → doubles.new ≡ last_runs bytes.now sheet starts layout doubles.old }
 {
     let triangle = layout.p * (layout.p + 1) / 2;
     store_words::scatter(Run::Xx, bytes, starts.xx, 0, triangle, layout, m, doubles);
@@ -76,8 +76,8 @@ fn last_runs(bytes: &[u8], starts: Starts, layout: Layout, m: Map, doubles: &mut
 
 // The loaded numbers, and every working double +0.0.
 pub fn load_numbers(bytes: &[u8], starts: Starts, layout: Layout, doubles: &mut [f64])
-    requires { Ready bytes.now starts layout × (doublesNeeded layout ≤ length doubles.old) }
-    ensures { (sheet : Sheet) → readSheet bytes.now ≡ accepted sheet starts → doubles.new ≡ store 0 (doublesOf sheet layout) doubles.old }
+    requires { Ready bytes.now starts layout × (doubles_needed layout ≤ length doubles.old) }
+    ensures { (sheet : Sheet) → read_sheet bytes.now ≡ accepted sheet starts → doubles.new ≡ store 0 (doubles_of sheet layout) doubles.old }
 {
     let m = row_map::map_of(layout);
     clear_doubles::clear_all(layout, doubles);

@@ -1,10 +1,10 @@
 // Puts the words of a run of a sheet's lines into their places (document 01, Record 3). Definitions are in specs/word_address/Spread.antt.
 ghost use Rattle.std.specs.Prelude.{◌≡◌, true, ◌+◌, ◌≤◌, set};
 ghost use Rattle.sheet.specs.Field.{is_finite};
-ghost use Rattle.heading_format.specs.Heading.{validLayout};
+ghost use Rattle.heading_format.specs.Heading.{valid_layout};
 ghost use Rattle.workspace.specs.Loaded.{double};
 ghost use Rattle.block_places.specs.sheet_rows.Blocks.{Maps};
-ghost use Rattle.load_numbers.specs.word_address.Spread.{line_of, EachLine, FiniteWord, spread, putWord};
+ghost use Rattle.load_numbers.specs.word_address.Spread.{line_of, EachLine, FiniteWord, spread, put_word};
 
 use crate::word_address::Run;
 use crate::{line_address, word_address};
@@ -39,8 +39,8 @@ pub fn scatter(
     m: Map,
     doubles: &mut [f64],
 )
-    requires { (validLayout layout ≡ true) × Maps layout m × (from + count ≤ 1099511627776) × EachLine FiniteWord (line_of run bytes.now) count at }
-    ensures { doubles.new ≡ spread (putWord run layout) (line_of run bytes.now) count from at doubles.old }
+    requires { (valid_layout layout ≡ true) × Maps layout m × (from + count ≤ 1099511627776) × EachLine FiniteWord (line_of run bytes.now) count at }
+    ensures { doubles.new ≡ spread (put_word run layout) (line_of run bytes.now) count from at doubles.old }
 {
     let mut p = at;
     let mut i = from;

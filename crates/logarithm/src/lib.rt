@@ -9,8 +9,8 @@ mod split;
 ghost use Rattle.std.specs.Prelude.{◌≡◌, ◌+◌, ◌*◌, ◌^◌};
 ghost use Rattle.float_bits.specs.double.Parts.{InPlace};
 ghost use Rattle.logarithm.specs.exact_log.Log.{apart, centre};
-ghost use Rattle.logarithm.specs.fixed_point.Units.{chosen, ratio, seriesPart, lnParts};
-ghost use Rattle.logarithm.specs.Ln.{lnOf};
+ghost use Rattle.logarithm.specs.fixed_point.Units.{chosen, ratio, series_part, ln_parts};
+ghost use Rattle.logarithm.specs.Ln.{ln_of};
 
 use float_bits::double::{Kind, Parts};
 use float_bits::{double, wide_product};
@@ -29,8 +29,8 @@ fn ratio_of(p: Parts) -> u64
 
 // The logarithm of the double above 0 with these parts, given the sum s of its series.
 fn from_series(p: Parts, s: u64) -> f64
-    requires { InPlace p × (2 * s ≡ seriesPart chosen p.significand (centre p.significand)) }
-    ensures { result ≡ lnParts chosen p }
+    requires { InPlace p × (2 * s ≡ series_part chosen p.significand (centre p.significand)) }
+    ensures { result ≡ ln_parts chosen p }
 {
     let m = p.significand;
     let t = p.exponent;
@@ -41,14 +41,14 @@ fn from_series(p: Parts, s: u64) -> f64
 // The logarithm of the double above 0 with these parts.
 fn of_parts(p: Parts) -> f64
     requires { InPlace p }
-    ensures { result ≡ lnParts chosen p }
+    ensures { result ≡ ln_parts chosen p }
 {
     from_series(p, series::artanh_series(ratio_of(p)))
 }
 
 // The natural logarithm, to the bit as specs/Ln.antt has it, by kinds, and specs/fixed_point/Units.antt for a double above 0.
 pub fn ln(x: f64) -> f64
-    ensures { result ≡ lnOf x }
+    ensures { result ≡ ln_of x }
 {
     match double::classify(x) {
         Kind::Positive(p) => of_parts(p),

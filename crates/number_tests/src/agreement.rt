@@ -1,6 +1,6 @@
 // Whether an answer agrees with a listed one: it lies between two words, NaN being one value.
 ghost use Rattle.std.specs.Prelude.{◌≡◌, ◌<◌};
-ghost use Rattle.float_bits.specs.words.Words.{agreesOf};
+ghost use Rattle.float_bits.specs.words.Words.{agrees_of};
 ghost use Rattle.float_bits.specs.words.Words.{rank as rank_of};
 
 use float_bits::words;
@@ -18,7 +18,7 @@ fn rank(w: u64) -> u64
 
 // Whether a result lies from lower to upper.
 pub fn agrees(lower: u64, upper: u64, r: f64) -> bool
-    ensures { result ≡ agreesOf lower upper r }
+    ensures { result ≡ agrees_of lower upper r }
 {
     let w = rank(words::word_of(r));
     (rank(lower) <= w) & (w <= rank(upper))

@@ -15,55 +15,55 @@ use Rattle.profile.specs.declared.DevianceAnswer.TheVariants.{Given, Refused}
 use Rattle.profile.specs.declared.Solution.{Solution}
 use Rattle.profile.specs.declared.Solve.{Solve}
 use Rattle.profile.specs.declared.Solve.TheVariants.{Solved, Refused as Unsolved}
-use Rattle.profile.specs.Deviance.{DevianceMeaning, devianceMeaning, largest, Profiled}
-use Rattle.profile.specs.Finish.{SolveMeaning, solveMeaning}
+use Rattle.profile.specs.Deviance.{DevianceMeaning, deviance_meaning, largest, Profiled}
+use Rattle.profile.specs.Finish.{SolveMeaning, solve_meaning}
 
 -- ---- the answer that means this: a value; else "no scale"; else a refused pivot, where the Rust has a value
-abbrev answerBy : Option Float → Bool → Option Float → Refusal → DevianceAnswer
-answerBy (some v) scale rust f = Given (Value v)
-answerBy none true rust f = Given NoScale
-answerBy none false (some x) f = Given (Pivot f.first f.second)
-answerBy none false none f = Refused f
+abbrev answer_by : Option Float → Bool → Option Float → Refusal → DevianceAnswer
+answer_by (some v) scale rust f = Given (Value v)
+answer_by none true rust f = Given NoScale
+answer_by none false (some x) f = Given (Pivot f.first f.second)
+answer_by none false none f = Refused f
 
 abbrev answer_of : DevianceMeaning → DevianceAnswer
-answer_of m = answerBy m.value m.noScale m.rust m.refusal
+answer_of m = answer_by m.value m.no_scale m.rust m.refusal
 
-answer_back : (a : DevianceAnswer) → answer_of (devianceMeaning a) ≡ a
+answer_back : (a : DevianceAnswer) → answer_of (deviance_meaning a) ≡ a
 answer_back (Given (Value v)) = refl
 answer_back (Given (Pivot j r)) = refl
 answer_back (Given NoScale) = refl
 answer_back (Refused r) = refl
 
-pub deviance-meaning-injective : (a b : DevianceAnswer) → devianceMeaning a ≡ devianceMeaning b → a ≡ b
-deviance-meaning-injective a b e = sym (answer_back a) ∙ ap answer_of e ∙ answer_back b
+pub deviance_meaning_injective : (a b : DevianceAnswer) → deviance_meaning a ≡ deviance_meaning b → a ≡ b
+deviance_meaning_injective a b e = sym (answer_back a) ∙ ap answer_of e ∙ answer_back b
 
 -- what `profile_deviance` is promised to answer and to leave, and its outcome
 module _ (a : DevianceAnswer) (v : Workspace) (o : Profiled) where
-  pub profiled-means : record { answer = a; left = v } ≡ o → (devianceMeaning a ≡ devianceMeaning o.answer) × (v ≡ o.left)
-  profiled-means e = (ap (λ (x : Profiled). devianceMeaning x.answer) e, ap (λ (x : Profiled). x.left) e)
+  pub profiled_means : record { answer = a; left = v } ≡ o → (deviance_meaning a ≡ deviance_meaning o.answer) × (v ≡ o.left)
+  profiled_means e = (ap (λ (x : Profiled). deviance_meaning x.answer) e, ap (λ (x : Profiled). x.left) e)
 
-abbrev solveBy : Option Solution → Refusal → Solve
-solveBy (some s) f = Solved s
-solveBy none f = Unsolved f
+abbrev solve_by : Option Solution → Refusal → Solve
+solve_by (some s) f = Solved s
+solve_by none f = Unsolved f
 
-abbrev solveOf : SolveMeaning → Solve
-solveOf m = solveBy m.solution m.refusal
+abbrev solve_of : SolveMeaning → Solve
+solve_of m = solve_by m.solution m.refusal
 
-solve-back : (s : Solve) → solveOf (solveMeaning s) ≡ s
-solve-back (Solved s) = refl
-solve-back (Unsolved r) = refl
+solve_back : (s : Solve) → solve_of (solve_meaning s) ≡ s
+solve_back (Solved s) = refl
+solve_back (Unsolved r) = refl
 
-pub solve-meaning-injective : (a b : Solve) → solveMeaning a ≡ solveMeaning b → a ≡ b
-solve-meaning-injective a b e = sym (solve-back a) ∙ ap solveOf e ∙ solve-back b
+pub solve_meaning_injective : (a b : Solve) → solve_meaning a ≡ solve_meaning b → a ≡ b
+solve_meaning_injective a b e = sym (solve_back a) ∙ ap solve_of e ∙ solve_back b
 
 -- ---- a refused pivot is number 26 with its block and row, and the Rust's value is `f64::MAX`, as of "no scale"
-pivot-means : ((devianceMeaning (Given (Pivot 2 1))).refusal ≡ refusal 26 2 1) × ((devianceMeaning (Given (Pivot 2 1))).rust ≡ some largest)
-pivot-means = (refl, refl)
+pivot_means : ((deviance_meaning (Given (Pivot 2 1))).refusal ≡ refusal 26 2 1) × ((deviance_meaning (Given (Pivot 2 1))).rust ≡ some largest)
+pivot_means = (refl, refl)
 
-no-scale-means : ((devianceMeaning (Given NoScale)).refusal ≡ refusal 0 0 0) × ((devianceMeaning (Given NoScale)).rust ≡ some largest)
-no-scale-means = (refl, refl)
+no_scale_means : ((deviance_meaning (Given NoScale)).refusal ≡ refusal 0 0 0) × ((deviance_meaning (Given NoScale)).rust ≡ some largest)
+no_scale_means = (refl, refl)
 
 -- 2^1024 - 2^971
-largest-is : largest ≡ fin false 9007199254740991 (pos 971)
+largest_is : largest ≡ fin false 9007199254740991 (pos 971)
 unfolding Ieee.of_bits
-largest-is = refl
+largest_is = refl

@@ -5,20 +5,20 @@ use Rattle.std.proofs.Math.ListN.{replicate}
 use Rattle.storage.specs.Runs.{tab}
 use Rattle.rules.specs.Arithmetic.{ieee}
 use Rattle.rules.specs.Sums.{dot}
-use Rattle.rules.specs.Cholesky.{at, forward, rows, cell_of as entry_of, radicand, finishPivots}
+use Rattle.rules.specs.Cholesky.{at, forward, rows, cell_of as entry_of, radicand, finish_pivots}
 use Rattle.rules.specs.Solves.{backward}
-use Rattle.rules.specs.Finish.{devianceOf, fixedCross, residual, offset_of}
+use Rattle.rules.specs.Finish.{deviance_of, fixed_cross, residual, offset_of}
 use Rattle.layout.specs.declared.Layout.{Layout}
 use Rattle.refusal.specs.declared.Refusal.{Refusal}
-use Rattle.refusal.specs.Numbers.{refusal, noRefusal}
-use Rattle.layout.specs.Shapes.{pick, blockRows, lastShape, responseRow, sheetIndex}
-use Rattle.heading_format.specs.Heading.{layout_of, progressOf, validHeading}
-use Rattle.workspace.specs.Memory.{cell_of, loadedBlock, thetaOf}
+use Rattle.refusal.specs.Numbers.{refusal, no_refusal}
+use Rattle.layout.specs.Shapes.{pick, block_rows, last_shape, response_row, sheet_index}
+use Rattle.heading_format.specs.Heading.{layout_of, progress_of, valid_heading}
+use Rattle.workspace.specs.Memory.{cell_of, loaded_block, theta_of}
 use Rattle.profile.specs.declared.Solution.{Solution}
 use Rattle.profile.specs.declared.Solve.{Solve}
 use Rattle.profile.specs.declared.Solve.TheVariants.{Solved, Refused}
-use Rattle.profile.specs.Deviance.{isFinished, freedom, logDeterminant}
-use Rattle.profile.specs.Solves.{blockIn, solvedFor, scaledRow}
+use Rattle.profile.specs.Deviance.{is_finished, freedom, log_determinant}
+use Rattle.profile.specs.Solves.{block_in, solved_for, scaled_row}
 
 -- WHAT AN ANSWER MEANS (document 01: "That definition gives this paper's number and values for each of the enum's cases"): number and places, 0 where it is a
 -- solution, and the two scalars of one.
@@ -26,20 +26,20 @@ pub record SolveMeaning : Type 0 where
   pub refusal : Refusal
   pub solution : Option Solution
 
-abbrev pub solveMeaning : Solve → SolveMeaning
-solveMeaning (Solved s) = record { refusal = noRefusal; solution = some s }
-solveMeaning (Refused r) = record { refusal = r; solution = none }
+abbrev pub solve_meaning : Solve → SolveMeaning
+solve_meaning (Solved s) = record { refusal = no_refusal; solution = some s }
+solve_meaning (Refused r) = record { refusal = r; solution = none }
 
 -- the sorted block that has sheet index i, among the first n
-unfoldable pub sortedIndex : Layout → ℕ → ℕ → ℕ
-sortedIndex y zero i = 0
-sortedIndex y (suc s) i = let rest = sortedIndex y s i in cond (eqb (sheetIndex y s) i) s rest
+unfoldable pub sorted_index : Layout → ℕ → ℕ → ℕ
+sorted_index y zero i = 0
+sorted_index y (suc s) i = let rest = sorted_index y s i in cond (eqb (sheet_index y s) i) s rest
 
 -- the first n blocks of the sheet, one after the other
-unfoldable pub inSheetOrder : Layout → List (List Float) → ℕ → List Float
-unfolding sortedIndex
-inSheetOrder y l zero = []
-inSheetOrder y l (suc i) = inSheetOrder y l i ++ blockIn l (sortedIndex y y.k i)
+unfoldable pub in_sheet_order : Layout → List (List Float) → ℕ → List Float
+unfolding sorted_index
+in_sheet_order y l zero = []
+in_sheet_order y l (suc i) = in_sheet_order y l i ++ block_in l (sorted_index y y.k i)
 
 -- the rows of a list of rows, one after the other
 unfoldable pub flattened : List (List Float) → List Float
@@ -47,84 +47,84 @@ flattened [] = []
 flattened (x ∷ l) = x ++ flattened l
 
 -- how long the lent result list is
-abbrev pub resultLength : Layout → ℕ
-resultLength y = y.p + 2 * y.q + y.p * (y.p + 1) / 2 + y.q * (y.p + 1)
+abbrev pub result_length : Layout → ℕ
+result_length y = y.p + 2 * y.q + y.p * (y.p + 1) / 2 + y.q * (y.p + 1)
 
 module _ (h : List ℕ) (w : List Float) where
   -- v and w of row r of block k, in sheet order
-  unfoldable pub vOf : ℕ → List Float
-  unfolding inSheetOrder scaledRow
-  vOf r = inSheetOrder (layout_of h) (scaledRow h w r) (layout_of h).k
+  unfoldable pub v_of : ℕ → List Float
+  unfolding in_sheet_order scaled_row
+  v_of r = in_sheet_order (layout_of h) (scaled_row h w r) (layout_of h).k
 
-  unfoldable pub wOf : ℕ → List Float
-  unfolding inSheetOrder solvedFor scaledRow
-  wOf r = inSheetOrder (layout_of h) (solvedFor h w (scaledRow h w r)) (layout_of h).k
+  unfoldable pub w_of : ℕ → List Float
+  unfolding in_sheet_order solved_for scaled_row
+  w_of r = in_sheet_order (layout_of h) (solved_for h w (scaled_row h w r)) (layout_of h).k
 
   -- theta of each sheet row
-  unfoldable pub thetaRows : List Float
-  unfolding inSheetOrder
-  thetaRows = let y = layout_of h in inSheetOrder y (tab y.k (λ j. replicate (blockRows y j) (thetaOf h w j))) y.k
+  unfoldable pub theta_rows : List Float
+  unfolding in_sheet_order
+  theta_rows = let y = layout_of h in in_sheet_order y (tab y.k (λ j. replicate (block_rows y j) (theta_of h w j))) y.k
 
   -- cell (i, j) of the loaded triangle: X'X, and X'y and y'y in the response's row
-  abbrev pub crossProduct : ℕ → ℕ → Float
-  crossProduct i j = cell_of (lastShape (layout_of h)) (loadedBlock h w (layout_of h).k (layout_of h).k) i j
+  abbrev pub cross_product : ℕ → ℕ → Float
+  cross_product i j = cell_of (last_shape (layout_of h)) (loaded_block h w (layout_of h).k (layout_of h).k) i j
 
   -- X'X - V'W, its factor L_X by rows, and the row of a pivot that is not above 0
-  unfoldable pub fixedTriangle : ℕ → ℕ → Float
-  unfolding vOf wOf
-  fixedTriangle i j = fixedCross ieee crossProduct (λ a x. at ieee (vOf a) x) (λ b x. at ieee (wOf b) x) (layout_of h).q i j
+  unfoldable pub fixed_triangle : ℕ → ℕ → Float
+  unfolding v_of w_of
+  fixed_triangle i j = fixed_cross ieee cross_product (λ a x. at ieee (v_of a) x) (λ b x. at ieee (w_of b) x) (layout_of h).q i j
 
-  unfoldable pub fixedFactor : List (List Float)
-  unfolding fixedTriangle
-  fixedFactor = rows ieee fixedTriangle (layout_of h).p
+  unfoldable pub fixed_factor : List (List Float)
+  unfolding fixed_triangle
+  fixed_factor = rows ieee fixed_triangle (layout_of h).p
 
-  unfoldable pub refusedRow : Option ℕ
-  unfolding fixedTriangle
-  refusedRow = finishPivots ieee (radicand ieee fixedTriangle) (layout_of h).p
+  unfoldable pub refused_row : Option ℕ
+  unfolding fixed_triangle
+  refused_row = finish_pivots ieee (radicand ieee fixed_triangle) (layout_of h).p
 
   -- the right side of beta, and beta: forward, then back substitution
-  unfoldable pub fixedRhs : ℕ → Float
-  unfolding vOf wOf
-  fixedRhs j = let y = layout_of h in ieee.minus (crossProduct (responseRow y) j) (dot ieee (at ieee (vOf j)) (at ieee (wOf (responseRow y))) y.q)
+  unfoldable pub fixed_rhs : ℕ → Float
+  unfolding v_of w_of
+  fixed_rhs j = let y = layout_of h in ieee.minus (cross_product (response_row y) j) (dot ieee (at ieee (v_of j)) (at ieee (w_of (response_row y))) y.q)
 
   unfoldable pub beta : List Float
-  unfolding fixedFactor fixedRhs
+  unfolding fixed_factor fixed_rhs
   beta =
       let p = (layout_of h).p in
-      let L = entry_of ieee fixedFactor in
-      backward ieee (at ieee (forward ieee fixedRhs L p)) L p p
+      let L = entry_of ieee fixed_factor in
+      backward ieee (at ieee (forward ieee fixed_rhs L p)) L p p
 
   -- sigma2 = r2 / d, not tested
   unfoldable pub sigma2 : Bool → Float
-  unfolding vOf wOf beta fixedRhs
+  unfolding v_of w_of beta fixed_rhs
   sigma2 reml =
       let y = layout_of h in
-      let r = responseRow y in
-      let r2 = residual ieee (crossProduct r r) (at ieee (vOf r)) (at ieee (wOf r)) y.q (at ieee beta) fixedRhs y.p in
+      let r = response_row y in
+      let r2 = residual ieee (cross_product r r) (at ieee (v_of r)) (at ieee (w_of r)) y.q (at ieee beta) fixed_rhs y.p in
       ieee.over r2 (freedom y reml)
 
-  unfoldable pub solutionOf : Bool → Solution
-  unfolding sigma2 fixedFactor
-  solutionOf reml =
+  unfoldable pub solution_of : Bool → Solution
+  unfolding sigma2 fixed_factor
+  solution_of reml =
       let y = layout_of h in
       record {
-        deviance = devianceOf ieee reml (freedom y reml) (sigma2 reml) (logDeterminant h w) (λ i. entry_of ieee fixedFactor i i) y.p;
+        deviance = deviance_of ieee reml (freedom y reml) (sigma2 reml) (log_determinant h w) (λ i. entry_of ieee fixed_factor i i) y.p;
         sigma2 = sigma2 reml;
       }
 
   -- u, and b = theta times u, by sheet rows
-  unfoldable pub uVector : List Float
-  unfolding wOf beta
-  uVector = let y = layout_of h in tab y.q (offset_of ieee (at ieee (wOf (responseRow y))) (λ j x. at ieee (wOf j) x) (at ieee beta) y.p)
+  unfoldable pub u_vector : List Float
+  unfolding w_of beta
+  u_vector = let y = layout_of h in tab y.q (offset_of ieee (at ieee (w_of (response_row y))) (λ j x. at ieee (w_of j) x) (at ieee beta) y.p)
 
-  unfoldable pub bVector : List Float
-  unfolding uVector thetaRows
-  bVector = tab (layout_of h).q (λ i. ieee.times (at ieee thetaRows i) (at ieee uVector i))
+  unfoldable pub b_vector : List Float
+  unfolding u_vector theta_rows
+  b_vector = tab (layout_of h).q (λ i. ieee.times (at ieee theta_rows i) (at ieee u_vector i))
 
   -- beta, b, u, L_X by rows, w of y, w of each column
-  unfoldable pub resultList : List Float
-  unfolding beta bVector uVector fixedFactor flattened wOf
-  resultList = let y = layout_of h in beta ++ bVector ++ uVector ++ flattened fixedFactor ++ wOf (responseRow y) ++ flattened (tab y.p wOf)
+  unfoldable pub result_list : List Float
+  unfolding beta b_vector u_vector fixed_factor flattened w_of
+  result_list = let y = layout_of h in beta ++ b_vector ++ u_vector ++ flattened fixed_factor ++ w_of (response_row y) ++ flattened (tab y.p w_of)
 
 -- an answer, and the result list that it leaves; the workspace is untouched
 pub record Solving : Type 0 where
@@ -135,17 +135,17 @@ abbrev pub refusing : ℕ → ℕ → List Float → Solving
 refusing n a r = record { answer = Refused (refusal n a 0); result = r }
 
 -- 27 leaves the whole result list +0.0
-abbrev pub onPivot : Option ℕ → ℕ → Solving → Solving
-onPivot none n good = good
-onPivot (some r) n good = refusing 27 r (replicate n ieee.zero)
+abbrev pub on_pivot : Option ℕ → ℕ → Solving → Solving
+on_pivot none n good = good
+on_pivot (some r) n good = refusing 27 r (replicate n ieee.zero)
 
 -- 20, 25, 13 (list 0, the result list), 27
-unfoldable pub solveOf : List ℕ → List Float → Bool → List Float → Solving
-unfolding validHeading refusedRow solutionOf resultList
-solveOf h w reml out =
-    pick (validHeading h (length w))
-    (pick (isFinished (progressOf h).state)
-    (pick (eqb (length out) (resultLength (layout_of h)))
-    (onPivot (refusedRow h w) (length out) (record { answer = Solved (solutionOf h w reml); result = resultList h w })) (refusing 13 0 out))
+unfoldable pub solve_of : List ℕ → List Float → Bool → List Float → Solving
+unfolding valid_heading refused_row solution_of result_list
+solve_of h w reml out =
+    pick (valid_heading h (length w))
+    (pick (is_finished (progress_of h).state)
+    (pick (eqb (length out) (result_length (layout_of h)))
+    (on_pivot (refused_row h w) (length out) (record { answer = Solved (solution_of h w reml); result = result_list h w })) (refusing 13 0 out))
     (refusing 25 0 out))
     (refusing 20 0 out)

@@ -1,11 +1,11 @@
 // Begin and the Rust's order to its end or its refused pivot (document 01, Record 5).
 ghost use Rattle.std.specs.Prelude.{◌≡◌, ◌≤◌, length};
-ghost use Rattle.step_order.specs.Steps.{rustOrder};
+ghost use Rattle.step_order.specs.Steps.{rust_order};
 ghost use Rattle.heading_format.specs.Heading.{layout_of};
 ghost use Rattle.workspace.specs.Answers.{workspace};
 ghost use Rattle.profile_deviance.specs.ready_step.ReadyInTurn.{ReadyInTurn};
-ghost use Rattle.profile_deviance.specs.full_update.Updating.{factored, updateOf};
-ghost use Rattle.heading_format.specs.Parts.{headingLength};
+ghost use Rattle.profile_deviance.specs.full_update.Updating.{factored, update_of};
+ghost use Rattle.heading_format.specs.Parts.{heading_length};
 ghost use Rattle.heading_format.specs.Fits.{Room};
 
 use crate::rust_order;
@@ -22,7 +22,7 @@ pub enum Updated {
 
 // The Rust's order on a workspace that is begun.
 fn factor(heading: &mut [u32], doubles: &mut [f64]) -> Updated
-    requires { (headingLength ≤ length heading.old) × Room (layout_of heading.old) (length doubles.old) × ReadyInTurn (workspace heading.old doubles.old) (rustOrder (layout_of heading.old).k) }
+    requires { (heading_length ≤ length heading.old) × Room (layout_of heading.old) (length doubles.old) × ReadyInTurn (workspace heading.old doubles.old) (rust_order (layout_of heading.old).k) }
     ensures { record { answer = result; left = workspace heading.new doubles.new } ≡ factored (workspace heading.old doubles.old) }
 {
     let layout = heading::layout(heading);
@@ -34,7 +34,7 @@ fn factor(heading: &mut [u32], doubles: &mut [f64]) -> Updated
 
 // Begin, and the Rust's order.
 pub fn update(heading: &mut [u32], doubles: &mut [f64], theta: &[f64]) -> Updated
-    ensures { record { answer = result; left = workspace heading.new doubles.new } ≡ updateOf heading.old doubles.old theta.now }
+    ensures { record { answer = result; left = workspace heading.new doubles.new } ≡ update_of heading.old doubles.old theta.now }
 {
     match begin::begin(heading, doubles, theta) {
         Answer::Accepted => factor(heading, doubles),

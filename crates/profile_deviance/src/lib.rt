@@ -1,5 +1,5 @@
 // The call `profile_deviance` (document 01, Record 6): begin, the steps in the Rust's order, and the deviance of the factor. Refused with 20, 13 or
-// 14; a refused pivot is its second answer. What it answers and leaves is `profileOf` of the crate profile, specs/Deviance.antt; what the update in
+// 14; a refused pivot is its second answer. What it answers and leaves is `profile_of` of the crate profile, specs/Deviance.antt; what the update in
 // it comes to, in specs/full_update/Updating.antt.
 pub mod full_update;
 pub mod ready_step;
@@ -7,7 +7,7 @@ pub mod rust_order;
 
 ghost use Rattle.std.specs.Prelude.{◌≡◌, false};
 ghost use Rattle.workspace.specs.Answers.{workspace};
-ghost use Rattle.profile.specs.Deviance.{devianceMeaning, profileOf};
+ghost use Rattle.profile.specs.Deviance.{deviance_meaning, profile_of};
 ghost use Rattle.profile_deviance.specs.full_update.Updating.{is_value, Without};
 
 use deviance::deviance_tail;
@@ -34,7 +34,7 @@ pub fn profile_deviance(
     theta: &[f64],
     reml: bool,
 ) -> DevianceAnswer
-    ensures { (devianceMeaning result ≡ devianceMeaning (profileOf heading.old doubles.old theta.now reml).answer) × (workspace heading.new doubles.new ≡ (profileOf heading.old doubles.old theta.now reml).left) }
+    ensures { (deviance_meaning result ≡ deviance_meaning (profile_of heading.old doubles.old theta.now reml).answer) × (workspace heading.new doubles.new ≡ (profile_of heading.old doubles.old theta.now reml).left) }
 {
     let u = full_update::update(heading, doubles, theta);
     let Updated::Value(logdet) = u else {

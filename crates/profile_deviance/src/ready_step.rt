@@ -1,7 +1,7 @@
 // One step of the Rust's order (document 01, Record 5), which is ready when its turn comes.
 ghost use Rattle.std.specs.Prelude.{◌∷◌, [], ◌≡◌, ◌-◌};
 ghost use Rattle.workspace.specs.Answers.{workspace};
-ghost use Rattle.update.specs.Names.{stepOfName};
+ghost use Rattle.update.specs.Names.{step_of_name};
 ghost use Rattle.profile_deviance.specs.ready_step.ReadyInTurn.{is_refused, ReadyInTurn, Ran};
 
 use refusal::Answer;
@@ -19,8 +19,8 @@ pub fn is_refused(a: Answer) -> bool
 
 // The step whose turn it is.
 pub fn apply(heading: &mut [u32], doubles: &mut [f64], name: StepName) -> Answer
-    requires { ReadyInTurn (workspace heading.old doubles.old) (stepOfName name ∷ []) }
-    ensures { Ran (workspace heading.old doubles.old) (stepOfName name ∷ []) (record { answer = result; left = workspace heading.new doubles.new }) }
+    requires { ReadyInTurn (workspace heading.old doubles.old) (step_of_name name ∷ []) }
+    ensures { Ran (workspace heading.old doubles.old) (step_of_name name ∷ []) (record { answer = result; left = workspace heading.new doubles.new }) }
 {
     step::apply_ready(heading, doubles, name)
 }

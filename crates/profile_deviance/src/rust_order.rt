@@ -2,7 +2,7 @@
 // none is asked for its forerunners, and the heading is not tested again. What a run comes to is defined in
 // specs/ready_step/ReadyInTurn.antt.
 ghost use Rattle.std.specs.Prelude.{◌∷◌, ◌++◌, [], suc, ◌-◌, ◌≤◌};
-ghost use Rattle.step_order.specs.Steps.{T, each, subtractions, columnSteps, rustOrder};
+ghost use Rattle.step_order.specs.Steps.{T, each, subtractions, column_steps, rust_order};
 ghost use Rattle.workspace.specs.Answers.{workspace};
 ghost use Rattle.profile_deviance.specs.ready_step.ReadyInTurn.{ReadyInTurn, Ran};
 
@@ -56,8 +56,8 @@ fn below(heading: &mut [u32], doubles: &mut [f64], j: u64, k: u64) -> Answer
 
 // Column j: the diagonal target, then those below it.
 fn column(heading: &mut [u32], doubles: &mut [f64], j: u64, k: u64) -> Answer
-    requires { (j ≤ k) × (k ≤ 8) × ReadyInTurn (workspace heading.old doubles.old) (columnSteps k j) }
-    ensures { Ran (workspace heading.old doubles.old) (columnSteps k j) (record { answer = result; left = workspace heading.new doubles.new }) }
+    requires { (j ≤ k) × (k ≤ 8) × ReadyInTurn (workspace heading.old doubles.old) (column_steps k j) }
+    ensures { Ran (workspace heading.old doubles.old) (column_steps k j) (record { answer = result; left = workspace heading.new doubles.new }) }
 {
     let a = subtract_all(heading, doubles, j, j);
     if ready_step::is_refused(a) {
@@ -72,8 +72,8 @@ fn column(heading: &mut [u32], doubles: &mut [f64], j: u64, k: u64) -> Answer
 
 // All columns.
 pub fn run(heading: &mut [u32], doubles: &mut [f64], k: u64) -> Answer
-    requires { (k ≤ 8) × ReadyInTurn (workspace heading.old doubles.old) (rustOrder k) }
-    ensures { Ran (workspace heading.old doubles.old) (rustOrder k) (record { answer = result; left = workspace heading.new doubles.new }) }
+    requires { (k ≤ 8) × ReadyInTurn (workspace heading.old doubles.old) (rust_order k) }
+    ensures { Ran (workspace heading.old doubles.old) (rust_order k) (record { answer = result; left = workspace heading.new doubles.new }) }
 {
     let mut j: u64 = 0;
     while j < k + 1 {

@@ -11,14 +11,14 @@ use borrow.Rule.Slice.PartMut.{put_mid}
 use Rattle.storage.specs.Shape.{packed, size_of, cell}
 use Rattle.storage.specs.Part.{part, store}
 use Rattle.storage.specs.Placed.{Placed}
-use Rattle.storage.proofs.Parts.{store-lent}
+use Rattle.storage.proofs.Parts.{store_lent}
 use Rattle.rules.specs.Arithmetic.{ieee}
-use Rattle.rules.specs.Sums.{logsFrom}
+use Rattle.rules.specs.Sums.{logs_from}
 use Rattle.rules.specs.Cholesky.{at}
 use Rattle.re_lower.specs.Lower.{answer_of}
 use Rattle.re_lower.specs.declared.Pivots.{Pivots}
 use Rattle.block_runs.specs.blocks.Blocks.{block, entry}
-use Rattle.re_factor.specs.Factor.{Factored, logsFirst}
+use Rattle.re_factor.specs.Factor.{Factored, logs_first}
 
 -- the lent cells, as a lend counts them
 abbrev pub between : ℕ → ℕ → List Float → List Float
@@ -29,8 +29,8 @@ module _ (w : List Float) (off k m : ℕ) (e : k ≡ m) where
   count = omega arith
 
   -- the lent part is the block of m doubles
-  is-part : between off k w ≡ part off m w
-  is-part = ap (λ (i : ℕ). part off i w) count
+  is_part : between off k w ≡ part off m w
+  is_part = ap (λ (i : ℕ). part off i w) count
 
   module _ (fits : off + m ≤ length w) (y : List Float) where
     -- f is what the call makes of the part
@@ -39,31 +39,31 @@ module _ (w : List Float) (off k m : ℕ) (e : k ≡ m) where
     lent f room q =
         let l : List Float = f (part off m w) in
         ap (λ (i : ℕ). put_mid off i w y) count
-        ∙ ap (put_mid off m w) (subst (λ (x : List Float). y ≡ store 0 (f x) x) is-part q)
-        ∙ store-lent w off m 0 l fits (omega arith)
+        ∙ ap (put_mid off m w) (subst (λ (x : List Float). y ≡ store 0 (f x) x) is_part q)
+        ∙ store_lent w off m 0 l fits (omega arith)
         ∙ ap (λ (i : ℕ). store i l w) (add-zero off)
 
     -- C: `first` is the row of the first refused pivot, `left` what stands there afterwards, both by the part
-    pub lent-factor : (first : List Float → Option ℕ) (left : List Float → Pivots → List Float) (p : Pivots)
+    pub lent_factor : (first : List Float → Option ℕ) (left : List Float → Pivots → List Float) (p : Pivots)
         → (p ≡ answer_of (first (part off m w)) → length (left (part off m w) p) ≤ m)
         → p ≡ answer_of (first (between off k w)) → y ≡ store 0 (left (between off k w) p) (between off k w)
         → Factored (first (part off m w)) (left (part off m w)) off w (put_mid off (off + k - off) w y) p
-    lent-factor first left p room a q =
-        let b : p ≡ answer_of (first (part off m w)) = subst (λ (x : List Float). p ≡ answer_of (first x)) is-part a in
+    lent_factor first left p room a q =
+        let b : p ≡ answer_of (first (part off m w)) = subst (λ (x : List Float). p ≡ answer_of (first x)) is_part a in
         record { answer = b; exit = lent (λ x. left x p) (room b) q }
 
 -- a solve: `rule` makes n entries of those that are lent and of the packed factor of n rows in the part that is lent of w
-pub lent-solve : (rule : (ℕ → Float) → (ℕ → ℕ → Float) → List Float) (n : ℕ) → ((b : ℕ → Float) (f : ℕ → ℕ → Float) → length (rule b f) ≡ n)
+pub lent_solve : (rule : (ℕ → Float) → (ℕ → ℕ → Float) → List Float) (n : ℕ) → ((b : ℕ → Float) (f : ℕ → ℕ → Float) → length (rule b f) ≡ n)
     → (v : List Float) (z : ℕ) → z + n ≤ length v → (w : List Float) (off k : ℕ) → k ≡ size_of (packed n)
     → (y : List Float) → y ≡ store 0 (rule (at ieee (between z n v)) (cell ieee.zero (packed n) (between off k w))) (between z n v)
     → put_mid z (z + n - z) v y ≡ store z (rule (entry z n v) (block off (packed n) w)) v
-lent-solve rule n many v z fits w off k e y q =
+lent_solve rule n many v z fits w off k e y q =
     let f : ℕ → ℕ → Float = cell ieee.zero (packed n) (between off k w) in
     lent v z n n refl fits y (λ x. rule (at ieee x) f) (omega (arith, many (at ieee (part z n v)) f)) q
-    ∙ ap (λ (x : List Float). store z (rule (entry z n v) (cell ieee.zero (packed n) x)) v) (is-part w off k (size_of (packed n)) e)
+    ∙ ap (λ (x : List Float). store z (rule (entry z n v) (cell ieee.zero (packed n) x)) v) (is_part w off k (size_of (packed n)) e)
 
 -- the logarithms of a block that is lent
-pub lent-logs : (p : Placed) (w : List Float) (k n : ℕ) (x v : Float) → k ≡ size_of p.shape
-    → v ≡ logsFrom ieee x (λ r. cell ieee.zero p.shape (between p.at k w) r r) n → v ≡ logsFirst p n x w
-lent-logs p w k n x v e q =
-    subst (λ (l : List Float). v ≡ logsFrom ieee x (λ r. cell ieee.zero p.shape l r r) n) (is-part w p.at k (size_of p.shape) e) q
+pub lent_logs : (p : Placed) (w : List Float) (k n : ℕ) (x v : Float) → k ≡ size_of p.shape
+    → v ≡ logs_from ieee x (λ r. cell ieee.zero p.shape (between p.at k w) r r) n → v ≡ logs_first p n x w
+lent_logs p w k n x v e q =
+    subst (λ (l : List Float). v ≡ logs_from ieee x (λ r. cell ieee.zero p.shape l r r) n) (is_part w p.at k (size_of p.shape) e) q

@@ -5,35 +5,35 @@ use Rattle.std.proofs.Math.Option.{Option}
 use Rattle.storage.specs.Runs.{tab}
 use Rattle.storage.specs.Part.{store}
 use Rattle.storage.specs.declared.Block.{Block}
-use Rattle.storage.specs.Placed.{Placed, block_of, asTriangle, asDiagonal, Lies, Apart, read, put}
+use Rattle.storage.specs.Placed.{Placed, block_of, as_triangle, as_diagonal, Lies, Apart, read, put}
 use Rattle.rules.specs.Arithmetic.{ieee}
-use Rattle.rules.specs.Begin.{diagonalCell}
-use Rattle.rules.specs.Cholesky.{forward, radicand, pivots, logsOfFirst, logsOfLater}
+use Rattle.rules.specs.Begin.{diagonal_cell}
+use Rattle.rules.specs.Cholesky.{forward, radicand, pivots, logs_of_first, logs_of_later}
 use Rattle.rules.specs.Solves.{backward}
-use Rattle.re_lower.specs.Lower.{answer_of, leftOfTriangle, leftOfDiagonal}
+use Rattle.re_lower.specs.Lower.{answer_of, left_of_triangle, left_of_diagonal}
 use Rattle.re_lower.specs.declared.Pivots.{Pivots}
 use Rattle.block_runs.specs.blocks.Blocks.{entry}
 
 -- pivot r of a block
-abbrev pub pivotAt : Placed → List Float → ℕ → Float
-pivotAt p w r = read p w r r
+abbrev pub pivot_at : Placed → List Float → ℕ → Float
+pivot_at p w r = read p w r r
 
 -- ---- Record 4, begin
 -- what was loaded for block b: its diagonal alone, from `src` on
-abbrev pub loadedOf : Block → ℕ → Placed
-loadedOf b src = asDiagonal (block_of src b.rows b.cols)
+abbrev pub loaded_of : Block → ℕ → Placed
+loaded_of b src = as_diagonal (block_of src b.rows b.cols)
 
 -- a block p and the loaded one d lie within n doubles, and apart
 abbrev pub Begins : ℕ → Placed → Placed → Type 0
 Begins n p d = Lies n p × Lies n d × Apart p d
 
 -- cell (r, c) is (t·t)·a + 1 on the diagonal, where a is loaded pivot r, and 0 beside it
-abbrev pub scaledCell : Placed → Float → List Float → ℕ → ℕ → Float
-scaledCell d t w r c = cond (eqb r c) (diagonalCell ieee t (pivotAt d w r)) ieee.zero
+abbrev pub scaled_cell : Placed → Float → List Float → ℕ → ℕ → Float
+scaled_cell d t w r c = cond (eqb r c) (diagonal_cell ieee t (pivot_at d w r)) ieee.zero
 
 -- block p, begun
 abbrev pub scaled : Placed → Placed → Float → List Float → List Float
-scaled p d t w = put p (scaledCell d t w) w
+scaled p d t w = put p (scaled_cell d t w) w
 
 -- ---- Record 4, C: the answer p for the first pivot that is refused, and the list w' where `left` stands at off for what stood there
 pub record Factored (first : Option ℕ) (left : Pivots → List Float) (off : ℕ) (w w' : List Float) (p : Pivots) : Type 0 where
@@ -43,26 +43,26 @@ pub record Factored (first : Option ℕ) (left : Pivots → List Float) (off : �
 -- C on a packed triangle, and on a diagonal
 abbrev pub TriangleFactored : Block → (w w' : List Float) → Pivots → Type 0
 TriangleFactored b w w' p =
-    Factored (pivots ieee (radicand ieee (read (asTriangle b) w)) b.rows) (leftOfTriangle (read (asTriangle b) w) b.rows) b.at w w' p
+    Factored (pivots ieee (radicand ieee (read (as_triangle b) w)) b.rows) (left_of_triangle (read (as_triangle b) w) b.rows) b.at w w' p
 
 abbrev pub DiagonalFactored : Block → (w w' : List Float) → Pivots → Type 0
 DiagonalFactored b w w' p =
-    Factored (pivots ieee (pivotAt (asDiagonal b) w) b.rows) (leftOfDiagonal (pivotAt (asDiagonal b) w) b.rows) b.at w w' p
+    Factored (pivots ieee (pivot_at (as_diagonal b) w) b.rows) (left_of_diagonal (pivot_at (as_diagonal b) w) b.rows) b.at w w' p
 
 -- ---- Record 4, the logarithms of n pivots: added one by one to x, as C(0) does; or summed from 0.0 and added at once, as a later C does
-abbrev pub logsFirst : Placed → ℕ → Float → List Float → Float
-logsFirst p n x w = logsOfFirst ieee x (pivotAt p w) n
+abbrev pub logs_first : Placed → ℕ → Float → List Float → Float
+logs_first p n x w = logs_of_first ieee x (pivot_at p w) n
 
-abbrev pub logsLater : Placed → ℕ → Float → List Float → Float
-logsLater p n x w = logsOfLater ieee x (pivotAt p w) n
+abbrev pub logs_later : Placed → ℕ → Float → List Float → Float
+logs_later p n x w = logs_of_later ieee x (pivot_at p w) n
 
 -- ---- Record 7: as many entries of v, from z on, as the factor b of w has rows, solved with it, forward and backward
-abbrev pub solvedForward : ℕ → Block → (w v : List Float) → List Float
-solvedForward z b w v = store z (forward ieee (entry z b.rows v) (read (asTriangle b) w) b.rows) v
+abbrev pub solved_forward : ℕ → Block → (w v : List Float) → List Float
+solved_forward z b w v = store z (forward ieee (entry z b.rows v) (read (as_triangle b) w) b.rows) v
 
-abbrev pub solvedBackward : ℕ → Block → (w v : List Float) → List Float
-solvedBackward z b w v = store z (backward ieee (entry z b.rows v) (read (asTriangle b) w) b.rows b.rows) v
+abbrev pub solved_backward : ℕ → Block → (w v : List Float) → List Float
+solved_backward z b w v = store z (backward ieee (entry z b.rows v) (read (as_triangle b) w) b.rows b.rows) v
 
 -- with a diagonal factor, either way: each entry divided by its pivot
 abbrev pub divided : ℕ → Block → (w v : List Float) → List Float
-divided z b w v = store z (tab b.rows (λ i. ieee.over (entry z b.rows v i) (pivotAt (asDiagonal b) w i))) v
+divided z b w v = store z (tab b.rows (λ i. ieee.over (entry z b.rows v i) (pivot_at (as_diagonal b) w i))) v

@@ -7,7 +7,7 @@ pub mod diagonal_init;
 pub mod triangle_init;
 
 ghost use Rattle.std.specs.Prelude.{◌≤◌, length};
-ghost use Rattle.storage.specs.Placed.{asTriangle, asDiagonal, Lies};
+ghost use Rattle.storage.specs.Placed.{as_triangle, as_diagonal, Lies};
 ghost use Rattle.re_factor.specs.Factor.{TriangleFactored, DiagonalFactored};
 
 use re_lower::{cholesky, diagonal_chol, triangle_cells};
@@ -15,7 +15,7 @@ use storage::Block;
 
 // C: the packed triangle b becomes its factor, unless a pivot is refused.
 pub fn chol(doubles: &mut [f64], b: Block) -> re_lower::Pivots
-    requires { (b.rows ≤ 316) × Lies (length doubles.old) (asTriangle b) }
+    requires { (b.rows ≤ 316) × Lies (length doubles.old) (as_triangle b) }
     ensures { TriangleFactored b doubles.old doubles.new result }
 {
     let at = b.at;
@@ -25,7 +25,7 @@ pub fn chol(doubles: &mut [f64], b: Block) -> re_lower::Pivots
 
 // C on a diagonal b: its cells become their roots, unless one is refused.
 pub fn chol_diagonal(doubles: &mut [f64], b: Block) -> re_lower::Pivots
-    requires { Lies (length doubles.old) (asDiagonal b) }
+    requires { Lies (length doubles.old) (as_diagonal b) }
     ensures { DiagonalFactored b doubles.old doubles.new result }
 {
     let at = b.at;

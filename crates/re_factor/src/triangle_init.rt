@@ -2,9 +2,9 @@
 ghost use Rattle.std.specs.Prelude.{◌≡◌, ◌+◌, ◌≤◌, length};
 ghost use Rattle.storage.specs.Runs.{tab};
 ghost use Rattle.storage.specs.Part.{store};
-ghost use Rattle.storage.specs.Placed.{asTriangle};
+ghost use Rattle.storage.specs.Placed.{as_triangle};
 ghost use Rattle.rules.specs.Arithmetic.{ieee};
-ghost use Rattle.re_factor.specs.Factor.{loadedOf, Begins, scaled};
+ghost use Rattle.re_factor.specs.Factor.{loaded_of, Begins, scaled};
 
 use storage::Block;
 
@@ -22,8 +22,8 @@ fn clear(doubles: &mut [f64], at: usize, n: usize)
 
 // Begin on a packed triangle b: (t·t)·a + 1 on the diagonal, where the pivots a were loaded from src on, and 0 beside it.
 pub fn init(doubles: &mut [f64], b: Block, src: usize, t: f64)
-    requires { Begins (length doubles.old) (asTriangle b) (loadedOf b src) }
-    ensures { doubles.new ≡ scaled (asTriangle b) (loadedOf b src) t doubles.old }
+    requires { Begins (length doubles.old) (as_triangle b) (loaded_of b src) }
+    ensures { doubles.new ≡ scaled (as_triangle b) (loaded_of b src) t doubles.old }
 {
     let mut r = 0;
     let mut at = b.at;

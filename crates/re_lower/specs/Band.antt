@@ -12,16 +12,16 @@ abbrev pub lane : List Float → ℕ → ℕ → Float
 lane x i c = at ieee x (4 * c + i)
 
 -- s less the first n products of row i of the band with the cells of l from `from` on, one by one
-abbrev pub laneChain : Float → List Float → ℕ → List Float → ℕ → ℕ → Float
-laneChain s x i l from n = chain ieee s (lane x i) (λ y. at ieee l (from + y)) n
+abbrev pub lane_chain : Float → List Float → ℕ → List Float → ℕ → ℕ → Float
+lane_chain s x i l from n = chain ieee s (lane x i) (λ y. at ieee l (from + y)) n
 
 -- cell c of row i, when those before it are solved: row c of the factor lies in l from `from` on
-abbrev pub nextCell : List Float → List Float → ℕ → ℕ → ℕ → Float
-nextCell x l from c i = ieee.over (laneChain (lane x i c) x i l from c) (at ieee l (from + c))
+abbrev pub next_cell : List Float → List Float → ℕ → ℕ → ℕ → Float
+next_cell x l from c i = ieee.over (lane_chain (lane x i c) x i l from c) (at ieee l (from + c))
 
 -- that cell of each of the four rows; all else as it was
-abbrev pub fourDone : List Float → List Float → ℕ → ℕ → List Float
-fourDone x l from c = store (4 * c) (tab 4 (nextCell x l from c)) x
+abbrev pub four_done : List Float → List Float → ℕ → ℕ → List Float
+four_done x l from c = store (4 * c) (tab 4 (next_cell x l from c)) x
 
 -- the first n cells of the four rows, solved with the packed factor l
 abbrev pub FourSolved : List Float → List Float → List Float → ℕ → Type 0
@@ -49,17 +49,17 @@ pub record NextBand (t x x' : List Float) (base r n b : ℕ) : Type 0 where
   pub ready : (w : List Float) → start triangle n ≤ length w → t ≡ store 0 (cells triangle r (factor ieee (lower w) r)) w → BandReady w x base n → BandReady w x' b n
 
 -- n cells of row i of the band x, in t from `from` on; all else as it was
-abbrev pub laneStored : List Float → List Float → ℕ → ℕ → ℕ → List Float
-laneStored t x from i n = store from (tab n (lane x i)) t
+abbrev pub lane_stored : List Float → List Float → ℕ → ℕ → ℕ → List Float
+lane_stored t x from i n = store from (tab n (lane x i)) t
 
 -- the first c cells of the row of t from `from` on, solved with the rows above it
-abbrev pub solvedTo : List Float → ℕ → ℕ → List Float
-solvedTo t from c = forward ieee (λ x. at ieee t (from + x)) (lower t) c
+abbrev pub solved_to : List Float → ℕ → ℕ → List Float
+solved_to t from c = forward ieee (λ x. at ieee t (from + x)) (lower t) c
 
 -- what row r, of which c cells were solved, is when all left of its pivot are: whatever list w it came from
 abbrev pub LeftOfPivotFrom : List Float → List Float → ℕ → ℕ → ℕ → Type 0
-LeftOfPivotFrom t t' from c r = (w : List Float) → length w ≡ length t → t ≡ store from (solvedTo w from c) w → t' ≡ store from (solvedTo w from r) w
+LeftOfPivotFrom t t' from c r = (w : List Float) → length w ≡ length t → t ≡ store from (solved_to w from c) w → t' ≡ store from (solved_to w from r) w
 
 -- the band from `base` on has the first cells of row r solved
 abbrev pub RowReady : List Float → List Float → ℕ → ℕ → ℕ → Type 0
-RowReady t x from base r = (c : ℕ) → c < base → lane x (r - base) c ≡ at ieee (solvedTo t from base) c
+RowReady t x from base r = (c : ℕ) → c < base → lane x (r - base) c ≡ at ieee (solved_to t from base) c

@@ -1,11 +1,11 @@
 -- What the calls on one block make of its list (document 01, Record 4, C, T and the logarithms): the rules of `rules` at the shapes of `storage`.
 use Rattle.std.specs.Prelude.{ℕ, suc, ◌+◌, ◌-◌, ◌≡◌, List, [], ◌∷◌, ◌++◌, Float}
 use Rattle.std.proofs.Math.Option.{Option, none, some}
-use Rattle.storage.specs.Shape.{packed, diagonal, fill, cell, placeOf}
+use Rattle.storage.specs.Shape.{packed, diagonal, fill, cell, place_of}
 use Rattle.storage.specs.Part.{store}
 use Rattle.rules.specs.Arithmetic.{ieee}
-use Rattle.rules.specs.Sums.{chain, logsFrom}
-use Rattle.rules.specs.Cholesky.{at, forward, leftOfPivot, factor, radicand, pivots}
+use Rattle.rules.specs.Sums.{chain, logs_from}
+use Rattle.rules.specs.Cholesky.{at, forward, left_of_pivot, factor, radicand, pivots}
 use Rattle.rules.specs.Solves.{backward}
 use Rattle.re_lower.specs.declared.Pivots.{Pivots}
 use Rattle.re_lower.specs.declared.Pivots.TheVariants.{Accepted, Refused}
@@ -15,8 +15,8 @@ abbrev pub lower : List Float → ℕ → ℕ → Float
 lower t r c = cell ieee.zero (packed r) t r c
 
 -- the list with v as its cell (r, c)
-abbrev pub withCell : List Float → ℕ → ℕ → Float → List Float
-withCell t r c v = store (placeOf (packed r) r c) (v ∷ []) t
+abbrev pub with_cell : List Float → ℕ → ℕ → Float → List Float
+with_cell t r c v = store (place_of (packed r) r c) (v ∷ []) t
 
 -- pivot r of the diagonal that a list begins with
 abbrev pub pivot : List Float → ℕ → Float
@@ -27,8 +27,8 @@ abbrev pub chained : Float → List Float → ℕ → List Float → ℕ → ℕ
 chained s t a l b n = chain ieee s (λ y. at ieee t (a + y)) (λ y. at ieee l (b + y)) n
 
 -- row r, from `from` on, left of its pivot, solved with the rows above it; all else as it was
-abbrev pub leftOfPivotDone : List Float → ℕ → ℕ → List Float
-leftOfPivotDone t from r = store from (forward ieee (λ c. at ieee t (from + c)) (lower t) r) t
+abbrev pub left_of_pivot_done : List Float → ℕ → ℕ → List Float
+left_of_pivot_done t from r = store from (forward ieee (λ c. at ieee t (from + c)) (lower t) r) t
 
 -- the answer for the first pivot that is refused, if there is one
 abbrev pub answer_of : Option ℕ → Pivots
@@ -36,40 +36,40 @@ answer_of none = Accepted
 answer_of (some r) = Refused r
 
 -- what C leaves where the triangle b of n rows stood: its factor; or the factor's rows before the refused one, and that row left of its pivot
-abbrev pub leftOfTriangle : (ℕ → ℕ → Float) → ℕ → Pivots → List Float
-leftOfTriangle b n Accepted = fill (packed n) (factor ieee b n)
-leftOfTriangle b n (Refused r) = fill (packed r) (factor ieee b r) ++ leftOfPivot ieee b (factor ieee b r) r
+abbrev pub left_of_triangle : (ℕ → ℕ → Float) → ℕ → Pivots → List Float
+left_of_triangle b n Accepted = fill (packed n) (factor ieee b n)
+left_of_triangle b n (Refused r) = fill (packed r) (factor ieee b r) ++ left_of_pivot ieee b (factor ieee b r) r
 
 -- C on the packed triangle of n rows that t begins with: the answer p and the list t' that is left. All behind the triangle is as it was.
 pub record TriangleDone (t t' : List Float) (n : ℕ) (p : Pivots) : Type 0 where
   pub answer : p ≡ answer_of (pivots ieee (radicand ieee (cell ieee.zero (packed n) t)) n)
-  pub left : t' ≡ store 0 (leftOfTriangle (cell ieee.zero (packed n) t) n p) t
+  pub left : t' ≡ store 0 (left_of_triangle (cell ieee.zero (packed n) t) n p) t
 
 -- what C leaves of a diagonal: its roots, or those before the refused one
-abbrev pub leftOfDiagonal : (ℕ → Float) → ℕ → Pivots → List Float
-leftOfDiagonal d n Accepted = fill (diagonal n) (λ r c. ieee.root (d r))
-leftOfDiagonal d n (Refused r) = fill (diagonal r) (λ q c. ieee.root (d q))
+abbrev pub left_of_diagonal : (ℕ → Float) → ℕ → Pivots → List Float
+left_of_diagonal d n Accepted = fill (diagonal n) (λ r c. ieee.root (d r))
+left_of_diagonal d n (Refused r) = fill (diagonal r) (λ q c. ieee.root (d q))
 
 -- C on the diagonal of n cells that t begins with
 pub record DiagonalDone (t t' : List Float) (n : ℕ) (p : Pivots) : Type 0 where
   pub answer : p ≡ answer_of (pivots ieee (λ r. cell ieee.zero (diagonal n) t r r) n)
-  pub left : t' ≡ store 0 (leftOfDiagonal (λ r. cell ieee.zero (diagonal n) t r r) n p) t
+  pub left : t' ≡ store 0 (left_of_diagonal (λ r. cell ieee.zero (diagonal n) t r r) n p) t
 
 -- s and the logarithms of n pivots, of a packed factor and of a diagonal
-abbrev pub logsOfTriangle : List Float → ℕ → Float → Float
-logsOfTriangle t n s = logsFrom ieee s (λ r. cell ieee.zero (packed n) t r r) n
+abbrev pub logs_of_triangle : List Float → ℕ → Float → Float
+logs_of_triangle t n s = logs_from ieee s (λ r. cell ieee.zero (packed n) t r r) n
 
-abbrev pub logsOfDiagonal : List Float → ℕ → Float → Float
-logsOfDiagonal t n s = logsFrom ieee s (λ r. cell ieee.zero (diagonal n) t r r) n
+abbrev pub logs_of_diagonal : List Float → ℕ → Float → Float
+logs_of_diagonal t n s = logs_from ieee s (λ r. cell ieee.zero (diagonal n) t r r) n
 
 -- the row of n cells that t begins with, solved with the packed factor l; all behind it as it was
-abbrev pub rowSolved : List Float → List Float → ℕ → List Float
-rowSolved t l n = store 0 (forward ieee (at ieee t) (cell ieee.zero (packed n) l) n) t
+abbrev pub row_solved : List Float → List Float → ℕ → List Float
+row_solved t l n = store 0 (forward ieee (at ieee t) (cell ieee.zero (packed n) l) n) t
 
 -- s less the products of column i of the packed factor l, below its pivot, with the cells of t from i + 1 to n - 1, one by one
-abbrev pub belowPivot : Float → List Float → List Float → ℕ → ℕ → Float
-belowPivot s l t i n = chain ieee s (λ x. lower l (i + suc x) i) (λ x. at ieee t (i + suc x)) (n - suc i)
+abbrev pub below_pivot : Float → List Float → List Float → ℕ → ℕ → Float
+below_pivot s l t i n = chain ieee s (λ x. lower l (i + suc x) i) (λ x. at ieee t (i + suc x)) (n - suc i)
 
 -- the n cells that t begins with, solved backward with the packed factor l (document 01, Record 7); all behind them as it was
-abbrev pub backSolved : List Float → List Float → ℕ → List Float
-backSolved t l n = store 0 (backward ieee (at ieee t) (cell ieee.zero (packed n) l) n n) t
+abbrev pub back_solved : List Float → List Float → ℕ → List Float
+back_solved t l n = store 0 (backward ieee (at ieee t) (cell ieee.zero (packed n) l) n n) t

@@ -1,7 +1,7 @@
 // A row of a band of four (document 01, Record 4: C), solved beside the triangle and put back at its turn.
 ghost use Rattle.std.specs.Prelude.{◌≡◌, ◌+◌, ◌*◌, ◌≤◌, ◌<◌, length};
 ghost use Rattle.storage.specs.Runs.{start, triangle};
-ghost use Rattle.re_lower.specs.Lower.{leftOfPivotDone};
+ghost use Rattle.re_lower.specs.Lower.{left_of_pivot_done};
 ghost use Rattle.re_lower.specs.Band.{LeftOfPivotFrom, RowReady};
 
 use crate::four_rows;
@@ -30,7 +30,7 @@ pub fn band_row(t: &mut [f64], x: &[f64], from: usize, base: usize, r: usize)
         × (0 < base → r < base + 4)
         × (4 * base ≤ length x.now)
         × RowReady t.old x.now from base r }
-    ensures { t.new ≡ leftOfPivotDone t.old from r }
+    ensures { t.new ≡ left_of_pivot_done t.old from r }
 {
     four_rows::put_row(t, x, from, r - base, base);
     row_left_of_pivot(t, from, base * (base + 1) / 2, base, r);

@@ -1,13 +1,13 @@
 // A band: up to four rows of a packed triangle side by side, so that their chains of subtractions overlap and their cells lie together.
 ghost use Rattle.std.specs.Prelude.{◌≡◌, ℕ, ◌+◌, ◌*◌, ◌≤◌, ◌<◌, length};
 ghost use Rattle.storage.specs.Runs.{start, triangle};
-ghost use Rattle.re_lower.specs.Band.{fourDone, FourSolved, Gathered, BandGathered, laneStored};
+ghost use Rattle.re_lower.specs.Band.{four_done, FourSolved, Gathered, BandGathered, lane_stored};
 
 // Cell c of the four rows of a band, by row c of the packed factor l, which lies from `from` on.
 // Four chains side by side: each waits for its own subtractions only, and their cells lie together.
 pub fn four_cells(x: &mut [f64], l: &[f64], from: usize, c: usize)
     requires { (4 * c + 4 ≤ length x.old) × (from + c < length l.now) }
-    ensures { x.new ≡ fourDone x.old l.now from c }
+    ensures { x.new ≡ four_done x.old l.now from c }
 {
     let k = 4 * c;
     let mut s0 = x[k];
@@ -81,7 +81,7 @@ pub fn band_rows(k: usize) -> usize
 // The first n cells of row i of a band go to t from `from` on.
 pub fn put_row(t: &mut [f64], x: &[f64], from: usize, i: usize, n: usize)
     requires { (0 < n → i < 4) × (4 * n ≤ length x.now) × (from + n ≤ length t.old) }
-    ensures { t.new ≡ laneStored t.old x.now from i n }
+    ensures { t.new ≡ lane_stored t.old x.now from i n }
 {
     let mut c = 0;
     while c < n {

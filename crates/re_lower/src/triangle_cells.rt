@@ -2,7 +2,7 @@
 // `ReLower`).
 ghost use Rattle.std.specs.Prelude.{◌≡◌, ◌+◌, ◌≤◌, ◌<◌, length};
 ghost use Rattle.storage.specs.Runs.{start, triangle};
-ghost use Rattle.re_lower.specs.Lower.{lower, withCell};
+ghost use Rattle.re_lower.specs.Lower.{lower, with_cell};
 
 // Where each row of a packed triangle starts: entry r is r (r + 1) / 2. A packed block has at most 316 rows.
 const STARTS: [usize; 317] = [
@@ -50,7 +50,7 @@ pub fn get(t: &[f64], r: usize, c: usize) -> f64
 // v goes to cell (r, c) of a packed triangle.
 pub fn set(t: &mut [f64], r: usize, c: usize, v: f64)
     requires { (c ≤ r) × (r ≤ 315) × (start triangle r + c < length t.old) }
-    ensures { t.new ≡ withCell t.old r c v }
+    ensures { t.new ≡ with_cell t.old r c v }
 {
     t[row_start(r) + c] = v;
 }

@@ -13,5 +13,5 @@ answer_back : (a : Answer) → answer_of (meaning a) ≡ a
 answer_back Accepted = refl
 answer_back (Refused r) = refl
 
-pub meaning-injective : (a b : Answer) → meaning a ≡ meaning b → a ≡ b
-meaning-injective a b e = sym (answer_back a) ∙ ap answer_of e ∙ answer_back b
+pub meaning_injective : (a b : Answer) → meaning a ≡ meaning b → a ≡ b
+meaning_injective a b e = sym (answer_back a) ∙ ap answer_of e ∙ answer_back b

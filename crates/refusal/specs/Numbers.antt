@@ -8,8 +8,8 @@ abbrev pub refusal : ℕ → ℕ → ℕ → Refusal
 refusal n a b = record { number = n; first = a; second = b }
 
 -- what is not refused has number 0
-abbrev pub noRefusal : Refusal
-noRefusal = refusal 0 0 0
+abbrev pub no_refusal : Refusal
+no_refusal = refusal 0 0 0
 
 abbrev pub refuse : ℕ → ℕ → ℕ → Answer
 refuse n a b = Refused (refusal n a b)
@@ -20,8 +20,8 @@ pub record Meaning : Type 0 where
   pub refusal : Refusal
 
 abbrev pub meaning : Answer → Meaning
-meaning Accepted = record { accepted = true; refusal = noRefusal }
+meaning Accepted = record { accepted = true; refusal = no_refusal }
 meaning (Refused r) = record { accepted = false; refusal = r }
 
-abbrev pub refusalOf : Answer → Refusal
-refusalOf a = (meaning a).refusal
+abbrev pub refusal_of : Answer → Refusal
+refusal_of a = (meaning a).refusal

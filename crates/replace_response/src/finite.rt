@@ -1,6 +1,6 @@
 // The test of a lent list of doubles (document 01, refusal 14): where its first infinity or NaN stands.
 ghost use Rattle.std.specs.Prelude.{◌≡◌, length};
-ghost use Rattle.workspace.specs.Answers.{is_finite, firstInfinite};
+ghost use Rattle.workspace.specs.Answers.{is_finite, first_infinite};
 ghost use Rattle.replace_response.specs.finite.Found.{found_at};
 
 // Whether a double is neither infinite nor NaN: it lies between the two infinities.
@@ -12,7 +12,7 @@ fn is_finite(x: f64) -> bool
 
 // The index of the first double that is not finite; the length where there is none.
 pub fn first_infinite(l: &[f64]) -> usize
-    ensures { firstInfinite 0 l.now ≡ found_at result (length l.now) }
+    ensures { first_infinite 0 l.now ≡ found_at result (length l.now) }
 {
     let mut i: usize = 0;
     while i < l.len() {

@@ -1,18 +1,18 @@
 // The call `replace_response` (document 01, Record 3): a new response for the old in a workspace. Refused with 20, 13 or 14. What it answers and
-// leaves is `replaceOf` of the crate workspace, specs/Response.antt.
+// leaves is `replace_of` of the crate workspace, specs/Response.antt.
 pub mod finite;
 mod list_faults;
 pub mod write_rows;
 
 ghost use Rattle.std.specs.Prelude.{◌≡◌, true, ◌≤◌, length};
-ghost use Rattle.layout.specs.Shapes.{loadedLength};
-ghost use Rattle.heading_format.specs.Heading.{validLayout, idle, validHeading};
+ghost use Rattle.layout.specs.Shapes.{loaded_length};
+ghost use Rattle.heading_format.specs.Heading.{valid_layout, idle, valid_heading};
 ghost use Rattle.refusal.specs.Numbers.{meaning};
-ghost use Rattle.workspace.specs.Memory.{headingWith};
+ghost use Rattle.workspace.specs.Memory.{heading_with};
 ghost use Rattle.workspace.specs.Answers.{workspace};
-ghost use Rattle.workspace.specs.Response.{response, Prescribed, replaceOf};
-ghost use Rattle.replace_response.specs.write_rows.Strided.{responseRows};
-ghost use Rattle.heading_format.specs.Parts.{headingLength};
+ghost use Rattle.workspace.specs.Response.{response, Prescribed, replace_of};
+ghost use Rattle.replace_response.specs.write_rows.Strided.{response_rows};
+ghost use Rattle.heading_format.specs.Parts.{heading_length};
 
 use heading::{idle_progress, writer};
 use layout::Layout;
@@ -27,8 +27,8 @@ fn write(
     xty: &[f64],
     yty: &[f64],
 )
-    requires { (headingLength ≤ length heading.old) × (validLayout layout ≡ true) × (loadedLength layout ≤ length doubles.old) × Prescribed layout (response zty.now xty.now yty.now) }
-    ensures { (heading.new ≡ headingWith heading.old (idle layout.k)) × (doubles.new ≡ responseRows layout (response zty.now xty.now yty.now) doubles.old) }
+    requires { (heading_length ≤ length heading.old) × (valid_layout layout ≡ true) × (loaded_length layout ≤ length doubles.old) × Prescribed layout (response zty.now xty.now yty.now) }
+    ensures { (heading.new ≡ heading_with heading.old (idle layout.k)) × (doubles.new ≡ response_rows layout (response zty.now xty.now yty.now) doubles.old) }
 {
     write_rows::write_response(layout, doubles, zty, xty, yty);
     writer::write_progress(heading, idle_progress::idle(layout.k));
@@ -42,8 +42,8 @@ fn replace_valid(
     xty: &[f64],
     yty: &[f64],
 ) -> Answer
-    requires { validHeading heading.old (length doubles.old) ≡ true }
-    ensures { record { answer = result; left = workspace heading.new doubles.new } ≡ replaceOf heading.old doubles.old (response zty.now xty.now yty.now) }
+    requires { valid_heading heading.old (length doubles.old) ≡ true }
+    ensures { record { answer = result; left = workspace heading.new doubles.new } ≡ replace_of heading.old doubles.old (response zty.now xty.now yty.now) }
 {
     let layout = heading::layout(heading);
     let a = list_faults::length_fault(layout, zty.len(), xty.len(), yty.len());
@@ -65,7 +65,7 @@ pub fn replace_response(
     xty: &[f64],
     yty: &[f64],
 ) -> Answer
-    ensures { (meaning result ≡ meaning (replaceOf heading.old doubles.old (response zty.now xty.now yty.now)).answer) × (workspace heading.new doubles.new ≡ (replaceOf heading.old doubles.old (response zty.now xty.now yty.now)).left) }
+    ensures { (meaning result ≡ meaning (replace_of heading.old doubles.old (response zty.now xty.now yty.now)).answer) × (workspace heading.new doubles.new ≡ (replace_of heading.old doubles.old (response zty.now xty.now yty.now)).left) }
 {
     if heading_check::is_valid_heading(heading, doubles.len()) {
         return replace_valid(heading, doubles, zty, xty, yty);

@@ -1,8 +1,8 @@
 // What a list of a response is refused with (document 01, numbers 13 and 14).
 ghost use Rattle.std.specs.Prelude.{◌≡◌, [], ◌∷◌};
 ghost use Rattle.refusal.specs.Numbers.{refusal};
-ghost use Rattle.workspace.specs.Answers.{lengthFault, wordFault, first_of};
-ghost use Rattle.workspace.specs.Response.{response, lists_of, responseLengths};
+ghost use Rattle.workspace.specs.Answers.{length_fault, word_fault, first_of};
+ghost use Rattle.workspace.specs.Response.{response, lists_of, response_lengths};
 
 use crate::finite;
 use layout::Layout;
@@ -21,7 +21,7 @@ pub fn refused(number: u64, first: u64, second: u64) -> Refusal
 
 // 13 of the first list that has another length than the layout says: Z'y, X'y, y'y. Number 0 where there is none.
 pub fn length_fault(layout: Layout, zty: usize, xty: usize, yty: usize) -> Refusal
-    ensures { result ≡ lengthFault 0 (responseLengths layout) (zty ∷ xty ∷ yty ∷ []) }
+    ensures { result ≡ length_fault 0 (response_lengths layout) (zty ∷ xty ∷ yty ∷ []) }
 {
     if zty as u64 == layout.q {
         if xty as u64 == layout.p {
@@ -37,7 +37,7 @@ pub fn length_fault(layout: Layout, zty: usize, xty: usize, yty: usize) -> Refus
 
 // 14 of the first infinity or NaN of the three lists: its list and its index. Number 0 where there is none.
 pub fn word_fault(zty: &[f64], xty: &[f64], yty: &[f64]) -> Refusal
-    ensures { result ≡ wordFault 0 (lists_of (response zty.now xty.now yty.now)) }
+    ensures { result ≡ word_fault 0 (lists_of (response zty.now xty.now yty.now)) }
 {
     let a = finite::first_infinite(zty);
     if a < zty.len() {

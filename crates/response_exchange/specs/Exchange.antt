@@ -5,8 +5,8 @@ use Rattle.workspace.specs.Loaded.{double}
 use Rattle.workspace.specs.Response.{Response, response}
 
 -- the sheet with the words zy, xy and yy for those of its Z'y, X'y and y'y
-abbrev pub withResponse : Sheet → List ℕ → List ℕ → ℕ → Sheet
-withResponse sheet zy xy yy =
+abbrev pub with_response : Sheet → List ℕ → List ℕ → ℕ → Sheet
+with_response sheet zy xy yy =
     record {
       counts = sheet.counts;
       blocks = sheet.blocks;
@@ -24,5 +24,5 @@ doubles [] = []
 doubles (x ∷ l) = double x ∷ doubles l
 
 -- a sheet's response
-abbrev pub responseOf : Sheet → Response
-responseOf sheet = response (doubles sheet.zy) (doubles sheet.xy) (double sheet.yy ∷ [])
+abbrev pub response_of : Sheet → Response
+response_of sheet = response (doubles sheet.zy) (doubles sheet.xy) (double sheet.yy ∷ [])

@@ -2,17 +2,17 @@
 -- responses, some sheet has these numbers.
 use Rattle.std.specs.Prelude.{ℕ, ◌^◌, ◌<◌, ◌≡◌, List, length, Float}
 use Rattle.sheet.specs.declared.Starts.{Starts}
-use Rattle.sheet.specs.Sheet.{Sheet, accepted, sheetOf}
+use Rattle.sheet.specs.Sheet.{Sheet, accepted, sheet_of}
 use Rattle.sheet.specs.Whole.{Each}
 use Rattle.refusal.specs.declared.Answer.TheVariants.{Accepted}
-use Rattle.layout.specs.Shapes.{doublesNeeded}
-use Rattle.heading_format.specs.Heading.{numbersNeeded}
+use Rattle.layout.specs.Shapes.{doubles_needed}
+use Rattle.heading_format.specs.Heading.{numbers_needed}
 use Rattle.workspace.specs.Answers.{accept}
 use Rattle.workspace.specs.Loaded.{double}
 use Rattle.workspace.specs.Load.{load_of}
 use Rattle.workspace.specs.Response.{lists_of}
-use Rattle.book.specs.Calls.{Call, begin, step, replaceResponse, profileDeviance}
-use Rattle.book.specs.Book.{layout, opened, fresh, bookAfter}
+use Rattle.book.specs.Calls.{Call, begin, step, replace_response, profile_deviance}
+use Rattle.book.specs.Book.{layout, opened, fresh, book_after}
 
 -- the binary64 number of a word
 abbrev pub IsDouble : Float → Type 0
@@ -22,19 +22,19 @@ IsDouble x = (word : ℕ) × (word < 2 ^ 64) × (x ≡ double word)
 abbrev pub InDoubles : Call → Type 0
 InDoubles (begin theta) = Unit {0}
 InDoubles (step s) = Unit {0}
-InDoubles (replaceResponse r) = Each (λ (l : List Float). Each IsDouble l) (lists_of r)
-InDoubles (profileDeviance theta reml) = Unit {0}
+InDoubles (replace_response r) = Each (λ (l : List Float). Each IsDouble l) (lists_of r)
+InDoubles (profile_deviance theta reml) = Unit {0}
 
 -- load of some bytes, into lists of the formula's lengths whatever they hold, leaves the fresh workspace with these loaded numbers
 pub record IsLoaded (sheet : Sheet) (loaded : List Float) : Type 0 where
   pub bytes : List ℕ
   pub loads :
-      (h : List ℕ) (w : List Float) → length h ≡ numbersNeeded (layout sheet) → length w ≡ doublesNeeded (layout sheet)
+      (h : List ℕ) (w : List Float) → length h ≡ numbers_needed (layout sheet) → length w ≡ doubles_needed (layout sheet)
       → load_of bytes h w ≡ accept (fresh sheet loaded).heading (fresh sheet loaded).doubles
 
 -- for every list of calls, with such numbers in its responses, from every accepted load
 unfoldable pub FreshIsLoaded : Type 0
 FreshIsLoaded =
     (bytes : List ℕ) (sheet : Sheet) (starts : Starts) (h : List ℕ) (w : List Float)
-    → sheetOf bytes ≡ accepted sheet starts → (load_of bytes h w).answer ≡ Accepted → (calls : List Call) → Each InDoubles calls
-    → IsLoaded sheet (bookAfter sheet calls (opened sheet)).loaded
+    → sheet_of bytes ≡ accepted sheet starts → (load_of bytes h w).answer ≡ Accepted → (calls : List Call) → Each InDoubles calls
+    → IsLoaded sheet (book_after sheet calls (opened sheet)).loaded

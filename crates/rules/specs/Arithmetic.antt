@@ -2,8 +2,8 @@
 use Rattle.std.specs.Prelude.{ℕ, Bool, pos, Float}
 use Rattle.std.specs.Float.Ieee as Ieee
 use Rattle.std.specs.Float.{binary64}
-use Rattle.square_root.specs.Root.{sqrtOf}
-use Rattle.logarithm.specs.Ln.{lnOf}
+use Rattle.square_root.specs.Root.{sqrt_of}
+use Rattle.logarithm.specs.Ln.{ln_of}
 
 pub record Arithmetic : Type 1 where
   pub Num : Type 0
@@ -41,8 +41,8 @@ ieee =
       minus = Ieee.sub binary64;
       times = Ieee.mul binary64;
       over = Ieee.div binary64;
-      root = sqrtOf;
-      log = lnOf;
+      root = sqrt_of;
+      log = ln_of;
       refused = λ x. Ieee.le x (Ieee.of_bits binary64 0);
       above = λ x. Ieee.lt (Ieee.of_bits binary64 0) x;
       null = λ x. Ieee.eq x (Ieee.of_bits binary64 0);

@@ -2,7 +2,7 @@
 use Rattle.std.specs.Prelude.{ℕ, zero, suc, Bool, true, false, not, List, [], ◌∷◌, ◌++◌, get_or}
 use Rattle.std.proofs.Math.Option.{Option, none, some}
 use Rattle.rules.specs.Arithmetic.{Arithmetic}
-use Rattle.rules.specs.Sums.{chain, logsFrom}
+use Rattle.rules.specs.Sums.{chain, logs_from}
 
 module _ (A : Arithmetic) where
   abbrev pub at : List A.Num → ℕ → A.Num
@@ -16,11 +16,11 @@ module _ (A : Arithmetic) where
       row ++ (A.over (chain A (b c) (at row) (L c) c) (L c c) ∷ [])
 
   -- row r of the factor left of its pivot, and what is left for the pivot, given the rows before
-  abbrev pub leftOfPivot : (b : ℕ → ℕ → A.Num) (L : ℕ → ℕ → A.Num) → ℕ → List A.Num
-  leftOfPivot b L r = forward (b r) L r
+  abbrev pub left_of_pivot : (b : ℕ → ℕ → A.Num) (L : ℕ → ℕ → A.Num) → ℕ → List A.Num
+  left_of_pivot b L r = forward (b r) L r
 
-  abbrev pub radicandOf : (b : ℕ → ℕ → A.Num) (L : ℕ → ℕ → A.Num) → ℕ → A.Num
-  radicandOf b L r = let row = leftOfPivot b L r in chain A (b r r) (at row) (at row) r
+  abbrev pub radicand_of : (b : ℕ → ℕ → A.Num) (L : ℕ → ℕ → A.Num) → ℕ → A.Num
+  radicand_of b L r = let row = left_of_pivot b L r in chain A (b r r) (at row) (at row) r
 
   -- cell (r, c) of rows that are listed
   abbrev pub cell_of : List (List A.Num) → ℕ → ℕ → A.Num
@@ -28,7 +28,7 @@ module _ (A : Arithmetic) where
 
   -- the next row of the factor: its cells left of the pivot, and the pivot
   abbrev pub row_of : (b : ℕ → ℕ → A.Num) (L : ℕ → ℕ → A.Num) → ℕ → List A.Num
-  row_of b L r = leftOfPivot b L r ++ (A.root (radicandOf b L r) ∷ [])
+  row_of b L r = left_of_pivot b L r ++ (A.root (radicand_of b L r) ∷ [])
 
   -- the first n rows of the factor of the triangle b
   unfoldable pub rows : (b : ℕ → ℕ → A.Num) → ℕ → List (List A.Num)
@@ -42,7 +42,7 @@ module _ (A : Arithmetic) where
 
   -- what the root of pivot r is taken of
   abbrev pub radicand : (b : ℕ → ℕ → A.Num) → ℕ → A.Num
-  radicand b r = radicandOf b (factor b r) r
+  radicand b r = radicand_of b (factor b r) r
 
   abbrev pub next : Option ℕ → Bool → ℕ → Option ℕ
   next (some q) bad r = some q
@@ -50,20 +50,20 @@ module _ (A : Arithmetic) where
   next none false r = none
 
   -- the row of the first of n pivots whose radicand is bad, if there is one
-  unfoldable pub firstBad : (bad : A.Num → Bool) (radicand : ℕ → A.Num) → ℕ → Option ℕ
-  firstBad bad g zero = none
-  firstBad bad g (suc r) = next (firstBad bad g r) (bad (g r)) r
+  unfoldable pub first_bad : (bad : A.Num → Bool) (radicand : ℕ → A.Num) → ℕ → Option ℕ
+  first_bad bad g zero = none
+  first_bad bad g (suc r) = next (first_bad bad g r) (bad (g r)) r
 
   -- C refuses a radicand that is at most 0, and lets NaN pass (26); the finish refuses one that is not above 0, NaN included (27)
   abbrev pub pivots : (radicand : ℕ → A.Num) → ℕ → Option ℕ
-  pivots g n = firstBad A.refused g n
+  pivots g n = first_bad A.refused g n
 
-  abbrev pub finishPivots : (radicand : ℕ → A.Num) → ℕ → Option ℕ
-  finishPivots g n = firstBad (λ x. not (A.above x)) g n
+  abbrev pub finish_pivots : (radicand : ℕ → A.Num) → ℕ → Option ℕ
+  finish_pivots g n = first_bad (λ x. not (A.above x)) g n
 
   -- The logarithms' sum: C(0) adds its logarithms one by one to the running sum; C(j), 0 < j < k, sums its own from 0.0 and adds that sum.
-  abbrev pub logsOfFirst : A.Num → (ℕ → A.Num) → ℕ → A.Num
-  logsOfFirst s pivot n = logsFrom A s pivot n
+  abbrev pub logs_of_first : A.Num → (ℕ → A.Num) → ℕ → A.Num
+  logs_of_first s pivot n = logs_from A s pivot n
 
-  abbrev pub logsOfLater : A.Num → (ℕ → A.Num) → ℕ → A.Num
-  logsOfLater s pivot n = A.plus s (logsFrom A A.zero pivot n)
+  abbrev pub logs_of_later : A.Num → (ℕ → A.Num) → ℕ → A.Num
+  logs_of_later s pivot n = A.plus s (logs_from A A.zero pivot n)

@@ -6,16 +6,16 @@ use Rattle.rules.specs.Sums.{dot}
 
 -- the laws that nothing rounded keeps: those of a field, and of roots of what is not refused
 pub record Exact (A : Arithmetic) : Type 0 where
-  pub zero-plus : (a : A.Num) → A.plus A.zero a ≡ a
-  pub plus-minus : (a b p : A.Num) → A.plus (A.plus a p) (A.minus b p) ≡ A.plus a b
-  pub plus-zero : (a : A.Num) → A.plus a A.zero ≡ a
-  pub minus-zero : (a : A.Num) → A.minus a A.zero ≡ a
+  pub zero_plus : (a : A.Num) → A.plus A.zero a ≡ a
+  pub plus_minus : (a b p : A.Num) → A.plus (A.plus a p) (A.minus b p) ≡ A.plus a b
+  pub plus_zero : (a : A.Num) → A.plus a A.zero ≡ a
+  pub minus_zero : (a : A.Num) → A.minus a A.zero ≡ a
   pub times_zero : (a : A.Num) → A.times a A.zero ≡ A.zero
-  pub zero-times : (a : A.Num) → A.times A.zero a ≡ A.zero
+  pub zero_times : (a : A.Num) → A.times A.zero a ≡ A.zero
   pub minus_plus : (p x : A.Num) → A.minus (A.plus p x) p ≡ x
-  pub over-times : (a d : A.Num) → A.null d ≡ false → A.times (A.over a d) d ≡ a
-  pub root-square : (x : A.Num) → A.refused x ≡ false → A.times (A.root x) (A.root x) ≡ x
-  pub root-some : (x : A.Num) → A.refused x ≡ false → A.null (A.root x) ≡ false
+  pub over_times : (a d : A.Num) → A.null d ≡ false → A.times (A.over a d) d ≡ a
+  pub root_square : (x : A.Num) → A.refused x ≡ false → A.times (A.root x) (A.root x) ≡ x
+  pub root_some : (x : A.Num) → A.refused x ≡ false → A.null (A.root x) ≡ false
 
 module _ (A : Arithmetic) where
   -- x L' = b: what T makes of a row b of n cells

@@ -1,14 +1,14 @@
 // S of a packed triangle by a dense cross block (document 01, Record 4; the Rust's `rank_sub_dense`), on the whole list of doubles.
 ghost use Rattle.std.specs.Prelude.{◌≡◌, ◌≤◌, length};
-ghost use Rattle.storage.specs.Placed.{Product, asColumns, asTriangle};
-ghost use Rattle.schur.specs.Schur.{subtractedRank};
+ghost use Rattle.storage.specs.Placed.{Product, as_columns, as_triangle};
+ghost use Rattle.schur.specs.Schur.{subtracted_rank};
 
 use storage::Block;
 
 // S of the triangle t: less block a times itself transposed.
 pub fn rank_sub(doubles: &mut [f64], t: Block, a: Block)
-    requires { (t.rows ≤ 316) × Product (length doubles.old) asTriangle asColumns t a a }
-    ensures { doubles.new ≡ subtractedRank t a doubles.old }
+    requires { (t.rows ≤ 316) × Product (length doubles.old) as_triangle as_columns t a a }
+    ensures { doubles.new ≡ subtracted_rank t a doubles.old }
 {
     let mut acc = [0.0; 316];
     let mut r = 0;

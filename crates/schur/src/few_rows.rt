@@ -4,10 +4,10 @@ ghost use Rattle.std.specs.Prelude.{◌≡◌, ◌+◌, ◌≤◌, ◌<◌, leng
 ghost use Rattle.storage.specs.Runs.{dense, cells};
 ghost use Rattle.storage.specs.Shape.{columns, size_of};
 ghost use Rattle.storage.specs.Part.{store};
-ghost use Rattle.storage.specs.Placed.{Lies, Product, asColumns};
+ghost use Rattle.storage.specs.Placed.{Lies, Product, as_columns};
 ghost use Rattle.block_runs.specs.axpy.Axpy.{run};
-ghost use Rattle.schur.specs.Schur.{subtractedDense};
-ghost use Rattle.schur.specs.few_rows.Few.{rowSums, subtractSum, subtractSums};
+ghost use Rattle.schur.specs.Schur.{subtracted_dense};
+ghost use Rattle.schur.specs.few_rows.Few.{row_sums, subtract_sum, subtract_sums};
 
 use block_runs::{axpy_pair, axpy_products, run_copies};
 use storage::Block;
@@ -22,8 +22,8 @@ fn sum_row(
     b: Block,
     r: usize,
 )
-    requires { (from + b.rows ≤ length t.old) × (b.rows ≤ length acc.old) × (r < a.rows) × (b.cols ≡ a.cols) × Lies (length doubles.now) (asColumns a) × Lies (length doubles.now) (asColumns b) }
-    ensures { t.new ≡ run from b.rows (rowSums a b doubles.now r) t.old }
+    requires { (from + b.rows ≤ length t.old) × (b.rows ≤ length acc.old) × (r < a.rows) × (b.cols ≡ a.cols) × Lies (length doubles.now) (as_columns a) × Lies (length doubles.now) (as_columns b) }
+    ensures { t.new ≡ run from b.rows (row_sums a b doubles.now r) t.old }
 {
     let n = b.rows;
     run_copies::clear(acc, n);
@@ -42,8 +42,8 @@ fn sum_two_rows(
     b: Block,
     r: usize,
 )
-    requires { (from + b.rows + b.rows ≤ length t.old) × (b.rows ≤ length acc.old) × (b.rows ≤ length acc2.old) × (r + 1 < a.rows) × (b.cols ≡ a.cols) × Lies (length doubles.now) (asColumns a) × Lies (length doubles.now) (asColumns b) }
-    ensures { t.new ≡ run (from + b.rows) b.rows (rowSums a b doubles.now (r + 1)) (run from b.rows (rowSums a b doubles.now r) t.old) }
+    requires { (from + b.rows + b.rows ≤ length t.old) × (b.rows ≤ length acc.old) × (b.rows ≤ length acc2.old) × (r + 1 < a.rows) × (b.cols ≡ a.cols) × Lies (length doubles.now) (as_columns a) × Lies (length doubles.now) (as_columns b) }
+    ensures { t.new ≡ run (from + b.rows) b.rows (row_sums a b doubles.now (r + 1)) (run from b.rows (row_sums a b doubles.now r) t.old) }
 {
     let n = b.rows;
     run_copies::clear(acc, n);
@@ -57,8 +57,8 @@ fn sum_two_rows(
 
 // The sums of every row of block a, one row behind the other.
 fn sum_rows(t: &mut [f64], doubles: &[f64], a: Block, b: Block)
-    requires { (b.rows ≤ 316) × (size_of (columns b.rows a.rows) ≤ length t.old) × (b.cols ≡ a.cols) × Lies (length doubles.now) (asColumns a) × Lies (length doubles.now) (asColumns b) }
-    ensures { t.new ≡ store 0 (cells (dense b.rows) a.rows (rowSums a b doubles.now)) t.old }
+    requires { (b.rows ≤ 316) × (size_of (columns b.rows a.rows) ≤ length t.old) × (b.cols ≡ a.cols) × Lies (length doubles.now) (as_columns a) × Lies (length doubles.now) (as_columns b) }
+    ensures { t.new ≡ store 0 (cells (dense b.rows) a.rows (row_sums a b doubles.now)) t.old }
 {
     let mut acc = [0.0; 316];
     let mut acc2 = [0.0; 316];
@@ -77,7 +77,7 @@ fn sum_rows(t: &mut [f64], doubles: &[f64], a: Block, b: Block)
 // Column c of the block t, from `to` on: each double less its row's sum.
 fn subtract_column(t: &mut [f64], to: usize, rows: usize, cols: usize, c: usize, sums: &[f64])
     requires { (to + rows ≤ length t.old) × (c < cols) × (size_of (columns cols rows) ≤ length sums.now) }
-    ensures { t.new ≡ run to rows (subtractSum to cols sums.now c t.old) t.old }
+    ensures { t.new ≡ run to rows (subtract_sum to cols sums.now c t.old) t.old }
 {
     let mut i = 0;
     let mut k = c;
@@ -91,7 +91,7 @@ fn subtract_column(t: &mut [f64], to: usize, rows: usize, cols: usize, c: usize,
 // The columns of the block t, one by one.
 fn subtract_columns(t: &mut [f64], rows: usize, cols: usize, sums: &[f64])
     requires { (size_of (columns rows cols) ≤ length t.old) × (size_of (columns cols rows) ≤ length sums.now) }
-    ensures { t.new ≡ store 0 (cells (dense rows) cols (subtractSums rows cols sums.now t.old)) t.old }
+    ensures { t.new ≡ store 0 (cells (dense rows) cols (subtract_sums rows cols sums.now t.old)) t.old }
 {
     let mut c = 0;
     let mut to = 0;
@@ -104,8 +104,8 @@ fn subtract_columns(t: &mut [f64], rows: usize, cols: usize, sums: &[f64])
 
 // S of the dense block t, of at most 12 rows: less block a times block b transposed.
 pub fn subtract_few(doubles: &mut [f64], t: Block, a: Block, b: Block)
-    requires { (t.rows ≤ 12) × (t.cols ≤ 316) × Product (length doubles.old) asColumns asColumns t a b }
-    ensures { doubles.new ≡ subtractedDense t a b doubles.old }
+    requires { (t.rows ≤ 12) × (t.cols ≤ 316) × Product (length doubles.old) as_columns as_columns t a b }
+    ensures { doubles.new ≡ subtracted_dense t a b doubles.old }
 {
     let off = t.at;
     let end = off + t.cols * t.rows;

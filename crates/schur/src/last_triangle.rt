@@ -1,7 +1,7 @@
 // S of the last triangle (document 01, Record 4; the Rust's `schur_sub_xy_xy`), product by product, on the whole list of doubles.
 ghost use Rattle.std.specs.Prelude.{◌≡◌, ◌+◌, ◌≤◌, ◌<◌, length};
-ghost use Rattle.storage.specs.Placed.{Lies, Product, asColumns, asTriangle};
-ghost use Rattle.schur.specs.Schur.{subtractedLast, subtractProducts};
+ghost use Rattle.storage.specs.Placed.{Lies, Product, as_columns, as_triangle};
+ghost use Rattle.schur.specs.Schur.{subtracted_last, subtract_products};
 
 use block_runs::{axpy_products, run_copies};
 use storage::Block;
@@ -17,8 +17,8 @@ fn subtract_last_run(
     b: Block,
     r: usize,
 )
-    requires { (n ≤ a.rows) × (n ≤ length acc.old) × (r < b.rows) × (b.cols ≡ a.cols) × (off ≤ to) × (to + n ≤ length doubles.old) × Lies (length doubles.old) (asColumns a) × Lies (length doubles.old) (asColumns b) }
-    ensures { doubles.new ≡ subtractProducts to n a b r doubles.old }
+    requires { (n ≤ a.rows) × (n ≤ length acc.old) × (r < b.rows) × (b.cols ≡ a.cols) × (off ≤ to) × (to + n ≤ length doubles.old) × Lies (length doubles.old) (as_columns a) × Lies (length doubles.old) (as_columns b) }
+    ensures { doubles.new ≡ subtract_products to n a b r doubles.old }
 {
     run_copies::read(acc, n, doubles, to);
     axpy_products::subtract_products(
@@ -29,8 +29,8 @@ fn subtract_last_run(
 
 // S(k,k,h) of the triangle t: less block a times itself transposed, product by product.
 pub fn subtract_last(doubles: &mut [f64], t: Block, a: Block)
-    requires { (t.rows ≤ 316) × Product (length doubles.old) asTriangle asColumns t a a }
-    ensures { doubles.new ≡ subtractedLast t a doubles.old }
+    requires { (t.rows ≤ 316) × Product (length doubles.old) as_triangle as_columns t a a }
+    ensures { doubles.new ≡ subtracted_last t a doubles.old }
 {
     let mut acc = [0.0; 316];
     let mut r = 0;

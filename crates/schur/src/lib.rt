@@ -10,8 +10,8 @@ pub mod schur_dense;
 pub mod sparse_schur;
 
 ghost use Rattle.std.specs.Prelude.{◌≡◌, ◌+◌, ◌≤◌, ◌<◌, length};
-ghost use Rattle.storage.specs.Placed.{Lies, asColumns};
-ghost use Rattle.schur.specs.Schur.{subtractSums};
+ghost use Rattle.storage.specs.Placed.{Lies, as_columns};
+ghost use Rattle.schur.specs.Schur.{subtract_sums};
 
 use block_runs::{axpy_products, run_copies, run_differences};
 use storage::Block;
@@ -28,8 +28,8 @@ fn subtract_run(
     b: Block,
     r: usize,
 )
-    requires { (n ≤ a.rows) × (n ≤ length acc.old) × (r < b.rows) × (b.cols ≡ a.cols) × (off ≤ to) × (to + n ≤ length doubles.old) × Lies (length doubles.old) (asColumns a) × Lies (length doubles.old) (asColumns b) }
-    ensures { doubles.new ≡ subtractSums to n a b r doubles.old }
+    requires { (n ≤ a.rows) × (n ≤ length acc.old) × (r < b.rows) × (b.cols ≡ a.cols) × (off ≤ to) × (to + n ≤ length doubles.old) × Lies (length doubles.old) (as_columns a) × Lies (length doubles.old) (as_columns b) }
+    ensures { doubles.new ≡ subtract_sums to n a b r doubles.old }
 {
     run_copies::clear(acc, n);
     axpy_products::add_products(

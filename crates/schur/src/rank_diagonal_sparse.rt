@@ -1,9 +1,9 @@
 // S of a diagonal by a sparse cross block (document 01, Record 4; the Rust's `rank_sub_diagonal`), on the whole list of doubles.
 ghost use Rattle.std.specs.Prelude.{◌≡◌, ◌+◌, ◌≤◌, ◌<◌, length};
-ghost use Rattle.storage.specs.Placed.{Squares, asEntries};
-ghost use Rattle.block_runs.specs.blocks.Blocks.{rowFrom};
-ghost use Rattle.schur.specs.rank_diagonal.Diagonal.{subtractedDiagonal};
-ghost use Rattle.schur.specs.rank_diagonal.Rows.{Zeros, Summed, AddedEntry, subtractRows};
+ghost use Rattle.storage.specs.Placed.{Squares, as_entries};
+ghost use Rattle.block_runs.specs.blocks.Blocks.{row_from};
+ghost use Rattle.schur.specs.rank_diagonal.Diagonal.{subtracted_diagonal};
+ghost use Rattle.schur.specs.rank_diagonal.Rows.{Zeros, Summed, AddedEntry, subtract_rows};
 
 use crate::rank_diagonal;
 use block_runs::run_differences;
@@ -45,7 +45,7 @@ fn sum_entries(
 )
     requires m_in_bounds { (m ≤ length sums.old) × (a.at + a.cols ≤ length doubles.now) × (src + a.cols ≤ length doubles.now) × (first + a.cols ≤ length heading.now) }
     requires zeros { Zeros m sums.old }
-    ensures { Summed (asEntries (rowFrom heading.now first) a) src doubles.now from m a.cols sums.new }
+    ensures { Summed (as_entries (row_from heading.now first) a) src doubles.now from m a.cols sums.new }
 {
     let mut x = 0;
     while x < a.cols {
@@ -70,7 +70,7 @@ fn subtract_rows(
     first: usize,
 )
     requires { (m ≤ 8192) × (t.at + from + m ≤ length doubles.old) × (a.at + a.cols ≤ length doubles.old) × (src + a.cols ≤ length doubles.old) × (first + a.cols ≤ length heading.now) }
-    ensures { doubles.new ≡ subtractRows t (asEntries (rowFrom heading.now first) a) src from m doubles.old }
+    ensures { doubles.new ≡ subtract_rows t (as_entries (row_from heading.now first) a) src from m doubles.old }
 {
     let mut sums = [0.0; 8192];
     sum_entries(&mut sums, from, m, doubles, a, src, heading, first);
@@ -96,8 +96,8 @@ pub fn rank_sub_diagonal_sparse(
     heading: &[u32],
     first: usize,
 )
-    requires { Squares (length doubles.old) (asEntries (rowFrom heading.now first)) t a src × (first + a.cols ≤ length heading.now) }
-    ensures { doubles.new ≡ subtractedDiagonal (asEntries (rowFrom heading.now first)) t a src doubles.old }
+    requires { Squares (length doubles.old) (as_entries (row_from heading.now first)) t a src × (first + a.cols ≤ length heading.now) }
+    ensures { doubles.new ≡ subtracted_diagonal (as_entries (row_from heading.now first)) t a src doubles.old }
 {
     let mut from = 0;
     while from < t.rows {

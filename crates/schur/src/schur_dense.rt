@@ -1,7 +1,7 @@
 // S of a dense cross block (document 01, Record 4; the Rust's `schur_sub_re_cross`, `schur_sub_xy_re`), on the whole list of doubles.
 ghost use Rattle.std.specs.Prelude.{◌≡◌, ◌+◌, ◌≤◌, ◌<◌, length};
-ghost use Rattle.storage.specs.Placed.{Product, Within, asColumns};
-ghost use Rattle.schur.specs.Schur.{subtractedDense, subtractSums};
+ghost use Rattle.storage.specs.Placed.{Product, Within, as_columns};
+ghost use Rattle.schur.specs.Schur.{subtracted_dense, subtract_sums};
 
 use crate::few_rows;
 use block_runs::{axpy_pair, run_copies, run_differences};
@@ -19,8 +19,8 @@ fn subtract_pair(
     c: usize,
     to: usize,
 )
-    requires { Product (length doubles.old) asColumns asColumns t a b × (t.rows ≤ length acc.old) × (t.rows ≤ length acc2.old) × (c + 1 < t.cols) × Within (asColumns t) to (t.rows + t.rows) }
-    ensures { doubles.new ≡ subtractSums (to + t.rows) t.rows a b (c + 1) (subtractSums to t.rows a b c doubles.old) }
+    requires { Product (length doubles.old) as_columns as_columns t a b × (t.rows ≤ length acc.old) × (t.rows ≤ length acc2.old) × (c + 1 < t.cols) × Within (as_columns t) to (t.rows + t.rows) }
+    ensures { doubles.new ≡ subtract_sums (to + t.rows) t.rows a b (c + 1) (subtract_sums to t.rows a b c doubles.old) }
 {
     let n = t.rows;
     let off = t.at;
@@ -35,8 +35,8 @@ fn subtract_pair(
 
 // S of the dense block t, two columns at a time: the sums of a column lie side by side.
 fn subtract_columns(doubles: &mut [f64], t: Block, a: Block, b: Block)
-    requires { (t.rows ≤ 316) × Product (length doubles.old) asColumns asColumns t a b }
-    ensures { doubles.new ≡ subtractedDense t a b doubles.old }
+    requires { (t.rows ≤ 316) × Product (length doubles.old) as_columns as_columns t a b }
+    ensures { doubles.new ≡ subtracted_dense t a b doubles.old }
 {
     let mut acc = [0.0; 316];
     let mut acc2 = [0.0; 316];
@@ -54,8 +54,8 @@ fn subtract_columns(doubles: &mut [f64], t: Block, a: Block, b: Block)
 
 // S of the dense block t: less block a times block b transposed.
 pub fn subtract_dense(doubles: &mut [f64], t: Block, a: Block, b: Block)
-    requires { (t.rows ≤ 316) × Product (length doubles.old) asColumns asColumns t a b }
-    ensures { doubles.new ≡ subtractedDense t a b doubles.old }
+    requires { (t.rows ≤ 316) × Product (length doubles.old) as_columns as_columns t a b }
+    ensures { doubles.new ≡ subtracted_dense t a b doubles.old }
 {
     // The longer side of the target is the one that packed loops run over.
     if t.rows <= 12 && t.rows < t.cols && t.cols <= 316 {

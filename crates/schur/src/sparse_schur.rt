@@ -1,8 +1,8 @@
 // S of fixed rows with a sparse block of one entry a column (document 01, Record 4; the Rust's `schur_sub_xy_re`), on the whole list of doubles.
 ghost use Rattle.std.specs.Prelude.{◌≡◌, ◌+◌, ◌≤◌, length};
-ghost use Rattle.storage.specs.Placed.{Product, asColumns, asEntries};
-ghost use Rattle.block_runs.specs.blocks.Blocks.{rowFrom, RowsBelow};
-ghost use Rattle.schur.specs.Schur.{subtractedEntries, subtractColumn};
+ghost use Rattle.storage.specs.Placed.{Product, as_columns, as_entries};
+ghost use Rattle.block_runs.specs.blocks.Blocks.{row_from, RowsBelow};
+ghost use Rattle.schur.specs.Schur.{subtracted_entries, subtract_column};
 
 use block_runs::{run_copies, run_products};
 use storage::Block;
@@ -26,7 +26,7 @@ fn subtract_column(
     f: f64,
 )
     requires { (rows ≤ length acc.old) × (off + to + rows ≤ length doubles.old) × (ax + rows ≤ length doubles.old) }
-    ensures { doubles.new ≡ subtractColumn (off + to) rows ax f doubles.old }
+    ensures { doubles.new ≡ subtract_column (off + to) rows ax f doubles.old }
 {
     run_copies::read(acc, rows, doubles, ax);
     run_products::subtract_times(doubles, off, off + to + rows, to, rows, acc, f);
@@ -41,8 +41,8 @@ pub fn subtract_sparse(
     heading: &[u32],
     first: usize,
 )
-    requires { (t.rows ≤ 316) × Product (length doubles.old) asColumns (asEntries (rowFrom heading.now first)) t a v × (first + v.cols ≤ length heading.now) × RowsBelow heading.now first v.cols t.cols }
-    ensures { doubles.new ≡ subtractedEntries (rowFrom heading.now first) t a v doubles.old }
+    requires { (t.rows ≤ 316) × Product (length doubles.old) as_columns (as_entries (row_from heading.now first)) t a v × (first + v.cols ≤ length heading.now) × RowsBelow heading.now first v.cols t.cols }
+    ensures { doubles.new ≡ subtracted_entries (row_from heading.now first) t a v doubles.old }
 {
     let mut acc = [0.0; 316];
     let mut x = 0;

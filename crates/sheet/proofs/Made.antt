@@ -2,5 +2,5 @@
 use Prim.Native.Nat.{ℕ}
 use Rattle.sheet.specs.declared.Counts.{Counts}
 
-abbrev pub countsWith : (n p q k flag : ℕ) → Counts
-countsWith n p q k flag = record { n = n; p = p; q = q; k = k; flag = flag }
+abbrev pub counts_with : (n p q k flag : ℕ) → Counts
+counts_with n p q k flag = record { n = n; p = p; q = q; k = k; flag = flag }

@@ -6,8 +6,8 @@ use mathlib.Core.List.{List, [], ◌∷◌, ◌++◌}
 use lib.ListN.{take, drop}
 use Rattle.sheet.specs.declared.Reading.{Reading}
 use Rattle.sheet.specs.Run.{Entry}
-use Rattle.sheet.specs.Sheet.{Outcome, accepted, refused, readSheet, sheetOf}
-use Rattle.sheet.specs.Fault.{isFault, faultNumber}
+use Rattle.sheet.specs.Sheet.{Outcome, accepted, refused, read_sheet, sheet_of}
+use Rattle.sheet.specs.Fault.{is_fault, fault_number}
 use Rattle.sheet.specs.Answer.{judged}
 use Rattle.sheet.specs.Text.{reading}
 
@@ -18,30 +18,30 @@ without n lines = take (n - 1) lines ++ drop n lines
 -- what is read, and what load is told of the lines
 unfoldable pub read : List ℕ → Outcome
 unfolding reading
-read s = readSheet s
+read s = read_sheet s
 
 unfoldable pub load : List ℕ → Reading
-unfolding read sheetOf
-load s = judged (sheetOf s)
+unfolding read sheet_of
+load s = judged (sheet_of s)
 
 -- the number of its refusal, 1 to 9, or 0
 abbrev pub number_of : Outcome → ℕ
-number_of (accepted sheet starts) = faultNumber sheet
+number_of (accepted sheet starts) = fault_number sheet
 number_of (refused number line) = number
 
 unfoldable pub refusal : List ℕ → ℕ
 unfolding load
-refusal s = number_of (sheetOf s)
+refusal s = number_of (sheet_of s)
 
 -- the numbers of its faulty lines
-unfoldable pub linesWith : (Entry → Bool) → List Entry → List ℕ
-linesWith test [] = []
-linesWith test (e ∷ rest) = cond (test e) (e.line ∷ []) [] ++ linesWith test rest
+unfoldable pub lines_with : (Entry → Bool) → List Entry → List ℕ
+lines_with test [] = []
+lines_with test (e ∷ rest) = cond (test e) (e.line ∷ []) [] ++ lines_with test rest
 
-abbrev pub faultsOf : Outcome → List ℕ
-faultsOf (accepted sheet starts) = linesWith (isFault sheet) sheet.zz
-faultsOf (refused number line) = []
+abbrev pub faults_of : Outcome → List ℕ
+faults_of (accepted sheet starts) = lines_with (is_fault sheet) sheet.zz
+faults_of (refused number line) = []
 
 unfoldable pub faulty : List ℕ → List ℕ
-unfolding load linesWith
-faulty s = faultsOf (sheetOf s)
+unfolding load lines_with
+faulty s = faults_of (sheet_of s)

@@ -4,7 +4,7 @@ use Rattle.sheet.specs.declared.Reading.{Reading}
 use Rattle.sheet.specs.declared.Reading.TheVariants.{Sheet as Read, Refused}
 use Rattle.sheet.specs.declared.Starts.{Starts}
 use Rattle.sheet.specs.Sheet.{Sheet, Outcome, accepted, refused}
-use Rattle.sheet.specs.Fault.{faultNumber, namedLine}
+use Rattle.sheet.specs.Fault.{fault_number, named_line}
 
 -- an outcome without the sheet's words, before 5 to 9 are looked for
 abbrev pub reading_of : Outcome → Reading
@@ -15,7 +15,7 @@ reading_of (refused number line) = Refused number line
 -- start.
 abbrev pub checked : {A : Type 0} → (ℕ → ℕ → A) → (Sheet → Starts → A) → Outcome → A
 checked refuse go (refused number line) = refuse number line
-checked refuse go (accepted sheet starts) = cond (eqb (faultNumber sheet) 0) (go sheet starts) (refuse (faultNumber sheet) (namedLine sheet))
+checked refuse go (accepted sheet starts) = cond (eqb (fault_number sheet) 0) (go sheet starts) (refuse (fault_number sheet) (named_line sheet))
 
 -- what is answered
 abbrev pub judged : Outcome → Reading

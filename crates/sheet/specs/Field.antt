@@ -15,32 +15,32 @@ abbrev pub unfound : Field
 unfound = found 0 nowhere
 
 -- the value of a lower-case hexadecimal digit, and 16 for any other byte
-unfoldable pub digitOf : ℕ → ℕ
-digitOf b = cond (ltb b 48) 16 (cond (ltb b 58) (b - 48) (cond (ltb b 97) 16 (cond (ltb b 103) (b - 87) 16)))
+unfoldable pub digit_of : ℕ → ℕ
+digit_of b = cond (ltb b 48) 16 (cond (ltb b 58) (b - 48) (cond (ltb b 97) 16 (cond (ltb b 103) (b - 87) 16)))
 
 -- Every range of Record 1 ends below this number. A number may have any length: a larger one is shown as this, so it is out of range and never wraps.
 abbrev pub cap : ℕ
 cap = 10000000000
 
 -- A digit after a lone 0 makes that a leading zero; after any other digits the number goes on. Any other byte: `done` says whether it ends the number.
-abbrev pub onDigit : Bool → Bool → Field → Field → Field
-onDigit true true more done = unfound
-onDigit true false more done = more
-onDigit false lone-zero more done = done
+abbrev pub on_digit : Bool → Bool → Field → Field → Field
+on_digit true true more done = unfound
+on_digit true false more done = more
+on_digit false lone-zero more done = done
 
 -- the digits up to the byte `end`: v so far, and `at` the position of the list's first byte
-unfoldable pub digitsFrom : ℕ → ℕ → ℕ → List ℕ → Field
-digitsFrom end v at [] = unfound
-digitsFrom end v at (b ∷ rest) =
-    let more = digitsFrom end (v * 10 + digitOf b) (at + 1) rest in
-    onDigit (ltb (digitOf b) 10) (eqb v 0) more (cond (eqb b end) (found (min v cap) (at + 1)) unfound)
+unfoldable pub digits_from : ℕ → ℕ → ℕ → List ℕ → Field
+digits_from end v at [] = unfound
+digits_from end v at (b ∷ rest) =
+    let more = digits_from end (v * 10 + digit_of b) (at + 1) rest in
+    on_digit (ltb (digit_of b) 10) (eqb v 0) more (cond (eqb b end) (found (min v cap) (at + 1)) unfound)
 
 -- a number with no leading zero: one digit, or more, up to the byte `end`
 unfoldable pub number_at : ℕ → ℕ → List ℕ → Field
 number_at end at [] = unfound
 number_at end at (b ∷ rest) =
-    let more = digitsFrom end (digitOf b) (at + 1) rest in
-    cond (ltb (digitOf b) 10) more unfound
+    let more = digits_from end (digit_of b) (at + 1) rest in
+    cond (ltb (digit_of b) 10) more unfound
 
 -- the byte `end` after the value v
 unfoldable pub end_at : ℕ → ℕ → ℕ → List ℕ → Field
@@ -52,8 +52,8 @@ unfoldable pub word_at : ℕ → ℕ → ℕ → ℕ → List ℕ → Field
 word_at end zero v at l = end_at end v at l
 word_at end (suc n) v at [] = unfound
 word_at end (suc n) v at (b ∷ rest) =
-    let more = word_at end n (v * 16 + digitOf b) (at + 1) rest in
-    cond (ltb (digitOf b) 16) more unfound
+    let more = word_at end n (v * 16 + digit_of b) (at + 1) rest in
+    cond (ltb (digit_of b) 16) more unfound
 
 -- the bytes of a tag
 unfoldable pub tag_at : List ℕ → ℕ → List ℕ → Field

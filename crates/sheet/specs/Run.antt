@@ -3,11 +3,11 @@ use Rattle.std.specs.Prelude.{ℕ, zero, suc, ◌+◌, Bool, ◌&&◌, ◌||◌,
 use Rattle.sheet.specs.declared.Cursor.{Cursor}
 use Rattle.sheet.specs.declared.Line.{Line}
 use Rattle.sheet.specs.Field.{is_finite}
-use Rattle.sheet.specs.Line.{zzTag, tagTo, inForm, block_line, pairLine, word_line, Test, verdictOf}
+use Rattle.sheet.specs.Line.{zz_tag, tag_to, in_form, block_line, pair_line, word_line, Test, verdict_of}
 
 -- past a line with this verdict: at the next line, or still at this one where it is refused. A cursor at a refused line stays.
-unfoldable pub passOf : Cursor → ℕ → ℕ → Cursor
-passOf c number next =
+unfoldable pub pass_of : Cursor → ℕ → ℕ → Cursor
+pass_of c number next =
     cond (eqb c.number 0)
     (cond (eqb number 0) (record { at = next; line = c.line + 1; number = 0 }) (record { at = c.at; line = c.line; number = number })) c
 
@@ -28,25 +28,25 @@ unfoldable pub lines_of : {A : Type 0} → (ℕ → Line) → (ℕ × ℕ → Li
 lines_of read verdict keep [] c = ended c
 lines_of read verdict keep (i ∷ is) c =
     let l = read c.at in
-    let more = lines_of read verdict keep is (passOf c (verdict i l) l.next) in
+    let more = lines_of read verdict keep is (pass_of c (verdict i l) l.next) in
     before (keep c.line l) more
 
 -- the pairs (r, c), (r, c + 1), .., n of them
-unfoldable pub rowFrom : ℕ → ℕ → ℕ → List (ℕ × ℕ)
-rowFrom r c zero = []
-rowFrom r c (suc n) = (r, c) ∷ rowFrom r (c + 1) n
+unfoldable pub row_from : ℕ → ℕ → ℕ → List (ℕ × ℕ)
+row_from r c zero = []
+row_from r c (suc n) = (r, c) ∷ row_from r (c + 1) n
 
 -- the pairs of n rows from row r on, row by row, `width i` of them in row i
 unfoldable pub rows_from : (ℕ → ℕ) → ℕ → ℕ → List (ℕ × ℕ)
 rows_from width r zero = []
-rows_from width r (suc n) = rowFrom r 0 (width r) ++ rows_from width (r + 1) n
+rows_from width r (suc n) = row_from r 0 (width r) ++ rows_from width (r + 1) n
 
 -- ---- lines with a word whose indexes are prescribed: any others are out of sequence
-abbrev pub prescribedTests : ℕ × ℕ → Line → List Test
-prescribedTests i l = (inForm l.next && eqb l.first i.0 && eqb l.second i.1, 2) ∷ (is_finite l.word, 3) ∷ []
+abbrev pub prescribed_tests : ℕ × ℕ → Line → List Test
+prescribed_tests i l = (in_form l.next && eqb l.first i.0 && eqb l.second i.1, 2) ∷ (is_finite l.word, 3) ∷ []
 
-abbrev pub prescribedVerdict : ℕ × ℕ → Line → ℕ
-prescribedVerdict i l = verdictOf (prescribedTests i l)
+abbrev pub prescribed_verdict : ℕ × ℕ → Line → ℕ
+prescribed_verdict i l = verdict_of (prescribed_tests i l)
 
 abbrev pub word_in : ℕ → Line → ℕ
 word_in line l = l.word
@@ -57,15 +57,15 @@ pub record Kind : Type 0 where
   pub numbers : ℕ
   pub indexes : List (ℕ × ℕ)
 
-abbrev pub wordKind : List ℕ → ℕ → List (ℕ × ℕ) → Kind
-wordKind tag numbers indexes = record { tag = tag; numbers = numbers; indexes = indexes }
+abbrev pub word_kind : List ℕ → ℕ → List (ℕ × ℕ) → Kind
+word_kind tag numbers indexes = record { tag = tag; numbers = numbers; indexes = indexes }
 
 -- the line of a kind at a position, and all its lines from a cursor on
-abbrev pub kindLine : Kind → List ℕ → ℕ → Line
-kindLine kind s = word_line kind.numbers kind.tag s
+abbrev pub kind_line : Kind → List ℕ → ℕ → Line
+kind_line kind s = word_line kind.numbers kind.tag s
 
 abbrev pub words_of : List ℕ → Kind → Cursor → Run ℕ
-words_of s kind c = lines_of (kindLine kind s) prescribedVerdict word_in kind.indexes c
+words_of s kind c = lines_of (kind_line kind s) prescribed_verdict word_in kind.indexes c
 
 -- kinds one after the other: the words of each; where the lines of each start, and then where the last ends; and the cursor past them
 pub record WordRuns : Type 0 where
@@ -73,11 +73,11 @@ pub record WordRuns : Type 0 where
   pub places : List ℕ
   pub past : Cursor
 
-unfoldable pub runsOf : List ℕ → List Kind → Cursor → WordRuns
-runsOf s [] c = record { words = []; places = c.at ∷ []; past = c }
-runsOf s (kind ∷ kinds) c =
+unfoldable pub runs_of : List ℕ → List Kind → Cursor → WordRuns
+runs_of s [] c = record { words = []; places = c.at ∷ []; past = c }
+runs_of s (kind ∷ kinds) c =
     let run = words_of s kind c in
-    let more = runsOf s kinds run.past in
+    let more = runs_of s kinds run.past in
     record { words = run.items ∷ more.words; places = c.at ∷ more.places; past = more.past }
 
 -- ---- block lines: levels and effects per level
@@ -85,20 +85,20 @@ pub record Block : Type 0 where
   pub m : ℕ
   pub e : ℕ
 
-abbrev pub blockIn : ℕ → Line → Block
-blockIn line l = record { m = l.first; e = l.second }
+abbrev pub block_in : ℕ → Line → Block
+block_in line l = record { m = l.first; e = l.second }
 
-abbrev pub isBetween : ℕ → ℕ → ℕ → Bool
-isBetween low x high = leb low x && leb x high
+abbrev pub is_between : ℕ → ℕ → ℕ → Bool
+is_between low x high = leb low x && leb x high
 
-abbrev pub blockTests : Line → List Test
-blockTests l = (inForm l.next, 2) ∷ (isBetween 1 l.first 65535 && isBetween 1 l.second 16, 4) ∷ []
+abbrev pub block_tests : Line → List Test
+block_tests l = (in_form l.next, 2) ∷ (is_between 1 l.first 65535 && is_between 1 l.second 16, 4) ∷ []
 
-abbrev pub blockVerdict : ℕ × ℕ → Line → ℕ
-blockVerdict i l = verdictOf (blockTests l)
+abbrev pub block_verdict : ℕ × ℕ → Line → ℕ
+block_verdict i l = verdict_of (block_tests l)
 
-abbrev pub blocksOf : List ℕ → ℕ → Cursor → Run Block
-blocksOf s k c = lines_of (block_line s) blockVerdict blockIn (rows_from (λ r. 1) 0 k) c
+abbrev pub blocks_of : List ℕ → ℕ → Cursor → Run Block
+blocks_of s k c = lines_of (block_line s) block_verdict block_in (rows_from (λ r. 1) 0 k) c
 
 -- ---- zz lines, with their numbers
 pub record Entry : Type 0 where
@@ -107,39 +107,39 @@ pub record Entry : Type 0 where
   pub row : ℕ
   pub word : ℕ
 
-abbrev pub entryIn : ℕ → Line → Entry
-entryIn line l = record { line = line; col = l.first; row = l.second; word = l.word }
+abbrev pub entry_in : ℕ → Line → Entry
+entry_in line l = record { line = line; col = l.first; row = l.second; word = l.word }
 
 -- (col, row) is not before (col₀, row₀), by column then row
-abbrev pub notBefore : ℕ → ℕ → ℕ → ℕ → Bool
-notBefore col₀ row₀ col row = ltb col₀ col || (eqb col₀ col && leb row₀ row)
+abbrev pub not_before : ℕ → ℕ → ℕ → ℕ → Bool
+not_before col₀ row₀ col row = ltb col₀ col || (eqb col₀ col && leb row₀ row)
 
 -- a zz line where (col, row) is the first place that comes past the line before: in form and rising, finite, and within q columns and rows
-abbrev pub entryTests : ℕ → ℕ → ℕ → Line → List Test
-entryTests q col row l =
-    (inForm l.next && notBefore col row l.first l.second, 2)
+abbrev pub entry_tests : ℕ → ℕ → ℕ → Line → List Test
+entry_tests q col row l =
+    (in_form l.next && not_before col row l.first l.second, 2)
     ∷ (is_finite l.word, 3)
     ∷ (ltb l.first q && ltb l.second q, 4)
     ∷ []
 
-abbrev pub entryVerdict : ℕ → ℕ → ℕ → Line → ℕ
-entryVerdict q col row l = verdictOf (entryTests q col row l)
+abbrev pub entry_verdict : ℕ → ℕ → ℕ → Line → ℕ
+entry_verdict q col row l = verdict_of (entry_tests q col row l)
 
 -- All zz lines from the cursor on, `left` of them at most. The first line with another tag ends them.
-unfoldable pub entriesFrom : ℕ → List ℕ → ℕ → ℕ → ℕ → Cursor → Run Entry
-entriesFrom zero s q col row c = ended c
-entriesFrom (suc left) s q col row c =
-    let l = pairLine zzTag s c.at in
-    let more = entriesFrom left s q l.first (l.second + 1) (passOf c (entryVerdict q col row l) l.next) in
-    let run = before (entryIn c.line l) more in
-    cond (eqb c.number 0 && inForm (tagTo zzTag s c.at).next) run (ended c)
+unfoldable pub entries_from : ℕ → List ℕ → ℕ → ℕ → ℕ → Cursor → Run Entry
+entries_from zero s q col row c = ended c
+entries_from (suc left) s q col row c =
+    let l = pair_line zz_tag s c.at in
+    let more = entries_from left s q l.first (l.second + 1) (pass_of c (entry_verdict q col row l) l.next) in
+    let run = before (entry_in c.line l) more in
+    cond (eqb c.number 0 && in_form (tag_to zz_tag s c.at).next) run (ended c)
 
 -- ---- lines by their positions: n lines from `at` on, each where the one before ends, the first with the number `line`
-unfoldable pub keptFrom : {A : Type 0} → (ℕ → Line) → (ℕ → Line → A) → ℕ → ℕ → ℕ → List A
-keptFrom read keep zero line at = []
-keptFrom read keep (suc n) line at = keep line (read at) ∷ keptFrom read keep n (line + 1) (read at).next
+unfoldable pub kept_from : {A : Type 0} → (ℕ → Line) → (ℕ → Line → A) → ℕ → ℕ → ℕ → List A
+kept_from read keep zero line at = []
+kept_from read keep (suc n) line at = keep line (read at) ∷ kept_from read keep n (line + 1) (read at).next
 
 -- the position past them
-unfoldable pub pastFrom : (ℕ → Line) → ℕ → ℕ → ℕ
-pastFrom read zero at = at
-pastFrom read (suc n) at = pastFrom read n (read at).next
+unfoldable pub past_from : (ℕ → Line) → ℕ → ℕ → ℕ
+past_from read zero at = at
+past_from read (suc n) at = past_from read n (read at).next

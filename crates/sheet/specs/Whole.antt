@@ -3,9 +3,9 @@ use Rattle.std.specs.Prelude.{ℕ, ◌+◌, ◌≤◌, ◌<◌, ◌≡◌, ◌�
 use Rattle.sheet.specs.declared.Counts.{Counts}
 use Rattle.sheet.specs.declared.Starts.{Starts}
 use Rattle.sheet.specs.Field.{is_finite}
-use Rattle.sheet.specs.Line.{zzTag, block_line, pairLine}
-use Rattle.sheet.specs.Run.{Block, Entry, Kind, blockIn, entryIn, word_in, kindLine, keptFrom, pastFrom}
-use Rattle.sheet.specs.Sheet.{Sheet, wordKinds, wordLists, wordPlaces}
+use Rattle.sheet.specs.Line.{zz_tag, block_line, pair_line}
+use Rattle.sheet.specs.Run.{Block, Entry, Kind, block_in, entry_in, word_in, kind_line, kept_from, past_from}
+use Rattle.sheet.specs.Sheet.{Sheet, word_kinds, word_lists, word_places}
 
 -- every element of a list
 abbrev pub Each : {A : Type 0} → (A → Type 0) → List A → Type 0
@@ -50,27 +50,27 @@ Rising (e ∷ rest) = Each (Earlier e) rest × Rising rest
 
 -- ---- ranges, order and the number of lines
 -- how many lines the kinds have together
-abbrev pub linesIn : List Kind → ℕ
-linesIn [] = 0
-linesIn (kind ∷ kinds) = length kind.indexes + linesIn kinds
+abbrev pub lines_in : List Kind → ℕ
+lines_in [] = 0
+lines_in (kind ∷ kinds) = length kind.indexes + lines_in kinds
 
 pub record Shape (sheet : Sheet) (starts : Starts) : Type 0 where
-  pub same-counts : starts.counts ≡ sheet.counts
+  pub same_counts : starts.counts ≡ sheet.counts
   pub counts : InRange sheet.counts
   pub blocks : Each BlockInRange sheet.blocks
-  pub blocks-length : length sheet.blocks ≡ sheet.counts.k
+  pub blocks_length : length sheet.blocks ≡ sheet.counts.k
   pub zz : Each (EntryInRange sheet.counts.q) sheet.zz
-  pub zz-rising : Rising sheet.zz
+  pub zz_rising : Rising sheet.zz
   -- the line past the last: the size line, and one line for each block, entry and word
-  pub lines : starts.line ≡ 2 + sheet.counts.k + length sheet.zz + linesIn (wordKinds sheet.counts)
+  pub lines : starts.line ≡ 2 + sheet.counts.k + length sheet.zz + lines_in (word_kinds sheet.counts)
 
 -- ---- the lists by the places of their lines: what stands in each run of lines, and that the next run starts at its end
 -- a kind of lines from one place to another, and its words: one for each line, and finite
 pub record RunPlaced (s : List ℕ) (kind : Kind) (from to : ℕ) (words : List ℕ) : Type 0 where
   pub count : length words ≡ length kind.indexes
   pub finite : Each Finite words
-  pub kept : words ≡ keptFrom (kindLine kind s) word_in (length words) 0 from
-  pub end : to ≡ pastFrom (kindLine kind s) (length words) from
+  pub kept : words ≡ kept_from (kind_line kind s) word_in (length words) 0 from
+  pub end : to ≡ past_from (kind_line kind s) (length words) from
 
 abbrev pub RunsPlaced : List ℕ → List Kind → List ℕ → List (List ℕ) → Type 0
 RunsPlaced s [] places words = Unit {0}
@@ -79,11 +79,11 @@ RunsPlaced s (kind ∷ kinds) [] words = ⊥
 RunsPlaced s (kind ∷ kinds) (from ∷ places) [] = ⊥
 
 pub record Placed (s : List ℕ) (sheet : Sheet) (starts : Starts) : Type 0 where
-  pub blocks : sheet.blocks ≡ keptFrom (block_line s) blockIn sheet.counts.k 2 starts.block
-  pub blocks_end : starts.zz ≡ pastFrom (block_line s) sheet.counts.k starts.block
-  pub zz : sheet.zz ≡ keptFrom (pairLine zzTag s) entryIn (length sheet.zz) (sheet.counts.k + 2) starts.zz
-  pub zz-end : starts.zx ≡ pastFrom (pairLine zzTag s) (length sheet.zz) starts.zz
-  pub words : RunsPlaced s (wordKinds sheet.counts) (wordPlaces starts) (wordLists sheet)
+  pub blocks : sheet.blocks ≡ kept_from (block_line s) block_in sheet.counts.k 2 starts.block
+  pub blocks_end : starts.zz ≡ past_from (block_line s) sheet.counts.k starts.block
+  pub zz : sheet.zz ≡ kept_from (pair_line zz_tag s) entry_in (length sheet.zz) (sheet.counts.k + 2) starts.zz
+  pub zz_end : starts.zx ≡ past_from (pair_line zz_tag s) (length sheet.zz) starts.zz
+  pub words : RunsPlaced s (word_kinds sheet.counts) (word_places starts) (word_lists sheet)
 
 pub record Whole (s : List ℕ) (sheet : Sheet) (starts : Starts) : Type 0 where
   pub short : length s ≤ 16777216

@@ -2,11 +2,11 @@
 // lines it has, which no line says.
 ghost use Rattle.std.specs.Prelude.{◌≡◌, not, List, ℕ, ◌+◌, ◌*◌, ◌/◌, ◌<◌, ◌≤◌, eqb, length, get_or};
 ghost use Rattle.sheet.specs.Run.{Block};
-ghost use Rattle.sheet.specs.Sheet.{Sheet, accepted, readSheet};
+ghost use Rattle.sheet.specs.Sheet.{Sheet, accepted, read_sheet};
 ghost use Rattle.sheet.specs.Whole.{InRange};
-ghost use Rattle.sheet.specs.Fault.{any_of, hasSlope};
+ghost use Rattle.sheet.specs.Fault.{any_of, has_slope};
 ghost use Rattle.layout.specs.Blocks.{padded, sum};
-ghost use Rattle.sheet_checks.specs.levels.Held.{Holds, levelList, blocksAt};
+ghost use Rattle.sheet_checks.specs.levels.Held.{Holds, level_list, blocks_at};
 
 use sheet::{Counts, Starts};
 use sheet_reader::block_line;
@@ -14,7 +14,7 @@ use sheet_reader::block_line;
 // The levels of k blocks whose lines start at a position, 0 past the last.
 fn levels_at(bytes: &[u8], from: usize, k: u64) -> [u64; 8]
     requires { k ≤ 8 }
-    ensures { result ≡ padded 8 (levelList (blocksAt bytes.now k from)) }
+    ensures { result ≡ padded 8 (level_list (blocks_at bytes.now k from)) }
 {
     let mut m: [u64; 8] = [0; 8];
     let mut at = from;
@@ -31,14 +31,14 @@ fn levels_at(bytes: &[u8], from: usize, k: u64) -> [u64; 8]
 // The levels of each block of the sheet, in its order.
 pub fn levels(bytes: &[u8], starts: Starts) -> [u64; 8]
     requires { Holds bytes.now starts }
-    ensures { (sheet : Sheet) → readSheet bytes.now ≡ accepted sheet starts → result ≡ padded 8 (levelList sheet.blocks) }
+    ensures { (sheet : Sheet) → read_sheet bytes.now ≡ accepted sheet starts → result ≡ padded 8 (level_list sheet.blocks) }
 {
     levels_at(bytes, starts.block, starts.counts.k)
 }
 
 // Whether one of k blocks whose lines start at a position has an e that is not 1.
 fn slope_at(bytes: &[u8], from: usize, k: u64) -> bool
-    ensures { result ≡ any_of (λ (b : Block). not (eqb b.e 1)) (blocksAt bytes.now k from) }
+    ensures { result ≡ any_of (λ (b : Block). not (eqb b.e 1)) (blocks_at bytes.now k from) }
 {
     let mut at = from;
     let mut left = k;
@@ -56,7 +56,7 @@ fn slope_at(bytes: &[u8], from: usize, k: u64) -> bool
 // Whether an e of the sheet is not 1, number 7.
 pub fn has_slope(bytes: &[u8], starts: Starts) -> bool
     requires { Holds bytes.now starts }
-    ensures { (sheet : Sheet) → readSheet bytes.now ≡ accepted sheet starts → result ≡ hasSlope sheet }
+    ensures { (sheet : Sheet) → read_sheet bytes.now ≡ accepted sheet starts → result ≡ has_slope sheet }
 {
     slope_at(bytes, starts.block, starts.counts.k)
 }
@@ -94,7 +94,7 @@ fn other_lines(c: Counts) -> u64
 // How many zz lines a sheet has: all its lines but the others.
 pub fn entries(starts: Starts) -> u64
     requires { (s : List ℕ) × Holds s starts }
-    ensures { ((s : List ℕ) (sheet : Sheet) → readSheet s ≡ accepted sheet starts → result ≡ length sheet.zz) × (starts.line < 18446744073709551616) }
+    ensures { ((s : List ℕ) (sheet : Sheet) → read_sheet s ≡ accepted sheet starts → result ≡ length sheet.zz) × (starts.line < 18446744073709551616) }
 {
     let c = starts.counts;
     starts.line - other_lines(c)

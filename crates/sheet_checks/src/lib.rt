@@ -7,15 +7,15 @@ mod mirror_scan;
 mod mirror_step;
 
 ghost use Rattle.std.specs.Prelude.{◌≡◌};
-ghost use Rattle.sheet.specs.Sheet.{Sheet, accepted, readSheet, sheetOf};
+ghost use Rattle.sheet.specs.Sheet.{Sheet, accepted, read_sheet, sheet_of};
 ghost use Rattle.sheet.specs.Answer.{judged};
 
 use sheet::{Reading, Starts};
 
 // What 5 to 9 say of a sheet that 1 to 4 do not refuse, whose lines start at `starts`, whatever stands behind it.
 pub fn check_sheet(bytes: &[u8], starts: Starts) -> Reading
-    requires { (sheet : Sheet) × (readSheet bytes.now ≡ accepted sheet starts) }
-    ensures { result ≡ judged (readSheet bytes.now) }
+    requires { (sheet : Sheet) × (read_sheet bytes.now ≡ accepted sheet starts) }
+    ensures { result ≡ judged (read_sheet bytes.now) }
 {
     if starts.counts.flag == 0 {
         return Reading::Refused { number: 5, line: 0 };
@@ -44,7 +44,7 @@ pub fn check_sheet(bytes: &[u8], starts: Starts) -> Reading
 
 // What 1 to 9 say of the sheet that any bytes begin with.
 pub fn read_and_check_prefix(bytes: &[u8]) -> Reading
-    ensures { result ≡ judged (readSheet bytes.now) }
+    ensures { result ≡ judged (read_sheet bytes.now) }
 {
     let r = sheet_reader::read_prefix(bytes);
     match r {
@@ -55,7 +55,7 @@ pub fn read_and_check_prefix(bytes: &[u8]) -> Reading
 
 // What 1 to 9 say of any bytes.
 pub fn read_and_check(bytes: &[u8]) -> Reading
-    ensures { result ≡ judged (sheetOf bytes.now) }
+    ensures { result ≡ judged (sheet_of bytes.now) }
 {
     let r = sheet_reader::read_sheet(bytes);
     match r {

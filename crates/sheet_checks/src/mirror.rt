@@ -1,11 +1,11 @@
 // Number 9 of a sheet (document 01, "Refused because of the input"; document 02, item 1): the first faulty zz line. The lines are read again where they
 // stand, in one pass for each group of columns.
 ghost use Rattle.std.specs.Prelude.{◌≡◌, true, ℕ, ◌≤◌, ◌<◌};
-ghost use Rattle.sheet.specs.Sheet.{Sheet, accepted, readSheet};
-ghost use Rattle.sheet.specs.Fault.{coversRows, faultyLine};
+ghost use Rattle.sheet.specs.Sheet.{Sheet, accepted, read_sheet};
+ghost use Rattle.sheet.specs.Fault.{covers_rows, faulty_line};
 ghost use Rattle.layout.specs.Blocks.{padded};
-ghost use Rattle.sheet_checks.specs.levels.Held.{levelList};
-ghost use Rattle.sheet_checks.specs.mirror_cursor.Held.{held, entry_of, placeOf, Given, Levelled};
+ghost use Rattle.sheet_checks.specs.levels.Held.{level_list};
+ghost use Rattle.sheet_checks.specs.mirror_cursor.Held.{held, entry_of, place_of, Given, Levelled};
 ghost use Rattle.sheet_checks.specs.mirror_scan.Mirror.{Judged};
 
 use crate::{levels, mirror_cursor, mirror_scan};
@@ -50,7 +50,7 @@ fn groups(bytes: &[u8], starts: Starts, m: [u64; 8], n: u64) -> usize
 // The number of the zz line that starts at `at`, or 0 where that is the end of these lines.
 fn line_number_at(bytes: &[u8], starts: Starts, n: u64, at: usize) -> u64
     requires { Given bytes.now starts n }
-    ensures { ((t : ℕ) → t < n → at ≡ placeOf bytes.now starts t → result ≡ (entry_of (held bytes.now) t).line) × (at ≡ starts.zx → result ≡ 0) }
+    ensures { ((t : ℕ) → t < n → at ≡ place_of bytes.now starts t → result ≡ (entry_of (held bytes.now) t).line) × (at ≡ starts.zx → result ≡ 0) }
 {
     if at == starts.zx {
         return 0;
@@ -71,8 +71,8 @@ fn line_number_at(bytes: &[u8], starts: Starts, n: u64, at: usize) -> u64
 
 // The number of the first line with a fault of number 9, or 0. m: the blocks' levels in sheet order, 0 past the last.
 pub fn faulty_line(bytes: &[u8], starts: Starts, m: [u64; 8]) -> u64
-    requires { (sheet : Sheet) × (readSheet bytes.now ≡ accepted sheet starts) × (coversRows sheet ≡ true) × (m ≡ padded 8 (levelList sheet.blocks)) }
-    ensures { (sheet : Sheet) → readSheet bytes.now ≡ accepted sheet starts → result ≡ faultyLine sheet }
+    requires { (sheet : Sheet) × (read_sheet bytes.now ≡ accepted sheet starts) × (covers_rows sheet ≡ true) × (m ≡ padded 8 (level_list sheet.blocks)) }
+    ensures { (sheet : Sheet) → read_sheet bytes.now ≡ accepted sheet starts → result ≡ faulty_line sheet }
 {
     let n = levels::entries(starts);
     if n == 0 {

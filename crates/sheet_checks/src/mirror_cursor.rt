@@ -3,12 +3,12 @@
 // below the diagonal whose mirror may still come. Nothing else is stored: the line of each entry is read where it stands, and below the diagonal
 // again, when an entry above the diagonal looks at the cursor.
 ghost use Rattle.std.specs.Prelude.{◌≡◌, List, ℕ, ◌+◌, ◌<◌, ◌≤◌, min, length};
-ghost use Rattle.sheet.specs.Run.{Block, entryIn};
+ghost use Rattle.sheet.specs.Run.{Block, entry_in};
 ghost use Rattle.sheet.specs.Sheet.{Sheet};
-ghost use Rattle.sheet.specs.Fault.{coveredRows, blockOfRow};
+ghost use Rattle.sheet.specs.Fault.{covered_rows, block_of_row};
 ghost use Rattle.layout.specs.Blocks.{padded};
-ghost use Rattle.sheet_checks.specs.levels.Held.{levelList};
-ghost use Rattle.sheet_checks.specs.mirror_cursor.Turns.{Grouped, isUnfit, isOpposite, isPassed};
+ghost use Rattle.sheet_checks.specs.levels.Held.{level_list};
+ghost use Rattle.sheet_checks.specs.mirror_cursor.Turns.{Grouped, is_unfit, is_opposite, is_passed};
 
 use sheet::Line;
 use sheet_reader::word_class;
@@ -39,7 +39,7 @@ pub struct Reached {
 
 // The block that holds row i.
 fn block_of(m: [u64; 8], i: u64) -> u64
-    ensures { (blocks : List Block) → m ≡ padded 8 (levelList blocks) → length blocks ≤ 8 → i < coveredRows blocks → result ≡ blockOfRow blocks i }
+    ensures { (blocks : List Block) → m ≡ padded 8 (level_list blocks) → length blocks ≤ 8 → i < covered_rows blocks → result ≡ block_of_row blocks i }
 {
     let mut left = i;
     let mut j: usize = 0;
@@ -55,8 +55,8 @@ fn block_of(m: [u64; 8], i: u64) -> u64
 
 // Whether a line has a fault that needs no other: a zero word, or off the diagonal inside a block.
 pub fn is_unfit(m: [u64; 8], l: Line) -> bool
-    ensures { (sheet : Sheet) (line : ℕ) → m ≡ padded 8 (levelList sheet.blocks) → length sheet.blocks ≤ 8
-        → l.first < coveredRows sheet.blocks → l.second < coveredRows sheet.blocks → result ≡ isUnfit sheet (entryIn line l) }
+    ensures { (sheet : Sheet) (line : ℕ) → m ≡ padded 8 (level_list sheet.blocks) → length sheet.blocks ≤ 8
+        → l.first < covered_rows sheet.blocks → l.second < covered_rows sheet.blocks → result ≡ is_unfit sheet (entry_in line l) }
 {
     let a = block_of(m, l.first);
     let b = block_of(m, l.second);
@@ -74,14 +74,14 @@ pub fn in_group(base: u64, width: u64, l: Line) -> bool
 
 // Whether o is at the place of l's mirror.
 pub fn is_opposite(l: Line, o: Line) -> bool
-    ensures { result ≡ isOpposite l o }
+    ensures { result ≡ is_opposite l o }
 {
     (o.first == l.second) & (o.second == l.first)
 }
 
 // Whether o is below the diagonal in the column of l's row, at a row that l's column is past: its mirror did not come.
 pub fn is_passed(l: Line, o: Line) -> bool
-    ensures { result ≡ isPassed l o }
+    ensures { result ≡ is_passed l o }
 {
     (o.first == l.second) & ((l.second < o.second) & (o.second < l.first))
 }

@@ -1,14 +1,14 @@
 // One turn of the search for number 9 of a sheet, on the line of an entry: what it and its column's cursor say of each other, and where the cursor then
 // stands.
 ghost use Rattle.std.specs.Prelude.{◌≡◌, false, cond, ℕ, ◌+◌, ◌≤◌, ◌<◌, min, length};
-ghost use Rattle.sheet.specs.Line.{zzTag, pairLine};
-ghost use Rattle.sheet.specs.Run.{entryIn};
+ghost use Rattle.sheet.specs.Line.{zz_tag, pair_line};
+ghost use Rattle.sheet.specs.Run.{entry_in};
 ghost use Rattle.sheet.specs.Sheet.{Sheet};
-ghost use Rattle.sheet.specs.Fault.{coveredRows};
+ghost use Rattle.sheet.specs.Fault.{covered_rows};
 ghost use Rattle.layout.specs.Blocks.{padded};
-ghost use Rattle.sheet_checks.specs.levels.Held.{levelList};
-ghost use Rattle.sheet_checks.specs.mirror_cursor.Held.{placeOf, Given, Levelled};
-ghost use Rattle.sheet_checks.specs.mirror_cursor.Turns.{isUnfit, isPassed, AtCursor, Pass};
+ghost use Rattle.sheet_checks.specs.levels.Held.{level_list};
+ghost use Rattle.sheet_checks.specs.mirror_cursor.Held.{place_of, Given, Levelled};
+ghost use Rattle.sheet_checks.specs.mirror_cursor.Turns.{is_unfit, is_passed, AtCursor, Pass};
 
 use crate::mirror_cursor;
 use crate::mirror_cursor::{Known, Moved, Reached};
@@ -17,8 +17,8 @@ use sheet_reader::pair_line;
 
 // The cursor of the column of l's row, for an entry l above the diagonal: past every line whose mirror would have come before l. These are faulty.
 fn skip_passed(bytes: &[u8], starts: Starts, due: u64, i: u64, l: Line, c: Moved) -> Reached
-    requires { ((n : ℕ) × Given bytes.now starts n × (i < n)) × (l ≡ pairLine zzTag bytes.now (placeOf bytes.now starts i)) × (l.second < l.first) × AtCursor bytes.now starts i due l.second c }
-    ensures { AtCursor bytes.now starts i due l.second (record { cursor = result.cursor; first = result.first }) × (result.line ≡ pairLine zzTag bytes.now result.cursor) × (isPassed l result.line ≡ false) × (result.first ≤ c.first) }
+    requires { ((n : ℕ) × Given bytes.now starts n × (i < n)) × (l ≡ pair_line zz_tag bytes.now (place_of bytes.now starts i)) × (l.second < l.first) × AtCursor bytes.now starts i due l.second c }
+    ensures { AtCursor bytes.now starts i due l.second (record { cursor = result.cursor; first = result.first }) × (result.line ≡ pair_line zz_tag bytes.now result.cursor) × (is_passed l result.line ≡ false) × (result.first ≤ c.first) }
 {
     let mut at = c.cursor;
     let mut first = c.first;
@@ -37,7 +37,7 @@ fn skip_passed(bytes: &[u8], starts: Starts, due: u64, i: u64, l: Line, c: Moved
 
 // Entry i, in the line l above the diagonal, at the cursor of its row's column: its mirror is there, with equal bits or not, or it has none.
 fn meet(bytes: &[u8], starts: Starts, at: usize, due: u64, i: u64, l: Line, c: Moved) -> Moved
-    requires { ((n : ℕ) × Given bytes.now starts n × (i < n)) × (at ≡ placeOf bytes.now starts i) × (l ≡ pairLine zzTag bytes.now at) × (l.second < l.first) × AtCursor bytes.now starts i due l.second c }
+    requires { ((n : ℕ) × Given bytes.now starts n × (i < n)) × (at ≡ place_of bytes.now starts i) × (l ≡ pair_line zz_tag bytes.now at) × (l.second < l.first) × AtCursor bytes.now starts i due l.second c }
     ensures { AtCursor bytes.now starts (i + 1) due l.second result × (result.first ≤ c.first) }
 {
     let p = skip_passed(bytes, starts, due, i, l, c);
@@ -61,8 +61,8 @@ fn meet(bytes: &[u8], starts: Starts, at: usize, due: u64, i: u64, l: Line, c: M
 
 // The first faulty line that is known, once line l at `at` has been looked at for a fault that needs no other.
 fn with_unfit(m: [u64; 8], l: Line, at: usize, first: usize) -> usize
-    ensures { (sheet : Sheet) (line : ℕ) → m ≡ padded 8 (levelList sheet.blocks) → length sheet.blocks ≤ 8
-        → l.first < coveredRows sheet.blocks → l.second < coveredRows sheet.blocks → result ≡ cond (isUnfit sheet (entryIn line l)) (min first at) first }
+    ensures { (sheet : Sheet) (line : ℕ) → m ≡ padded 8 (level_list sheet.blocks) → length sheet.blocks ≤ 8
+        → l.first < covered_rows sheet.blocks → l.second < covered_rows sheet.blocks → result ≡ cond (is_unfit sheet (entry_in line l)) (min first at) first }
 {
     if mirror_cursor::is_unfit(m, l) {
         return mirror_cursor::earlier(first, at);

@@ -1,8 +1,8 @@
 // Reads a number of a sheet (document 01, Record 1) at any position of any bytes. What it answers is defined in
 // the crate sheet, specs/Field.antt.
 ghost use Rattle.std.specs.Prelude.{◌≡◌, ◌+◌, ◌*◌, ◌<◌, ◌≤◌, min, drop};
-ghost use Rattle.sheet.specs.Field.{digitOf, digitsFrom, cap};
-ghost use Rattle.sheet.specs.Line.{numberTo};
+ghost use Rattle.sheet.specs.Field.{digit_of, digits_from, cap};
+ghost use Rattle.sheet.specs.Line.{number_to};
 
 use sheet::Field;
 
@@ -22,7 +22,7 @@ pub const UNFOUND: Field = Field {
 
 // The value of a lower-case hexadecimal digit, and 16 for any other byte.
 fn digit(b: u8) -> u64
-    ensures { result ≡ digitOf b }
+    ensures { result ≡ digit_of b }
 {
     if b < 48 {
         16
@@ -49,7 +49,7 @@ fn grow(v: u64, d: u64) -> u64
 // The rest of a number whose first digit was read.
 fn digits(bytes: &[u8], from: usize, end: u8, first: u64) -> Field
     requires { first < 10 }
-    ensures { result ≡ digitsFrom end first from (drop from bytes.now) }
+    ensures { result ≡ digits_from end first from (drop from bytes.now) }
 {
     let mut v = first;
     let mut i = from;
@@ -77,7 +77,7 @@ fn digits(bytes: &[u8], from: usize, end: u8, first: u64) -> Field
 
 // A number with no leading zero, and the byte `end`.
 pub fn number(bytes: &[u8], at: usize, end: u8) -> Field
-    ensures { result ≡ numberTo end bytes.now at }
+    ensures { result ≡ number_to end bytes.now at }
 {
     if bytes.len() <= at {
         return UNFOUND;

@@ -15,7 +15,7 @@ mod word_field;
 pub mod yy_line;
 
 ghost use Rattle.std.specs.Prelude.{◌≡◌};
-ghost use Rattle.sheet.specs.Sheet.{readSheet, sheetOf};
+ghost use Rattle.sheet.specs.Sheet.{read_sheet, sheet_of};
 ghost use Rattle.sheet.specs.Answer.{reading_of};
 
 use field::NOWHERE;
@@ -23,7 +23,7 @@ use sheet::{Cursor, Reading};
 
 // A sheet, whatever stands behind its yy line.
 pub fn read_prefix(bytes: &[u8]) -> Reading
-    ensures { result ≡ reading_of (readSheet bytes.now) }
+    ensures { result ≡ reading_of (read_sheet bytes.now) }
 {
     if 16777216 < bytes.len() {
         return Reading::Refused { number: 1, line: 0 };
@@ -49,7 +49,7 @@ pub fn read_prefix(bytes: &[u8]) -> Reading
 
 // The sheet that load is given: all of the bytes.
 pub fn read_sheet(bytes: &[u8]) -> Reading
-    ensures { result ≡ reading_of (sheetOf bytes.now) }
+    ensures { result ≡ reading_of (sheet_of bytes.now) }
 {
     let r = read_prefix(bytes);
     match r {

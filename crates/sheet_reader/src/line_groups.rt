@@ -2,7 +2,7 @@
 // is defined in the crate sheet, specs/Run.antt.
 ghost use Rattle.std.specs.Prelude.{◌≡◌, ◌+◌, ◌*◌, ◌<◌, ◌≤◌, length};
 ghost use Rattle.sheet.specs.Line.{word_line};
-ghost use Rattle.sheet.specs.Run.{lines_of, rowFrom, rows_from, blocksOf, entriesFrom, prescribedVerdict, word_in, wordKind, words_of};
+ghost use Rattle.sheet.specs.Run.{lines_of, row_from, rows_from, blocks_of, entries_from, prescribed_verdict, word_in, word_kind, words_of};
 
 use crate::field::NOWHERE;
 use crate::{block_line, line_verdict, pair_line, single_line, tag_field, yy_line};
@@ -11,7 +11,7 @@ use sheet::{Cursor, Line};
 // The k block lines.
 pub fn blocks(bytes: &[u8], k: u64, c: Cursor) -> Cursor
     requires { c.line + k < 9223372036854775808 }
-    ensures { (result ≡ (blocksOf bytes.now k c).past) × (result.line ≤ c.line + k) }
+    ensures { (result ≡ (blocks_of bytes.now k c).past) × (result.line ≤ c.line + k) }
 {
     let mut d = c;
     let mut i: u64 = 0;
@@ -29,7 +29,7 @@ pub fn blocks(bytes: &[u8], k: u64, c: Cursor) -> Cursor
 // All zz lines: the first line with another tag ends them.
 pub fn entries(bytes: &[u8], q: u64, c: Cursor) -> Cursor
     requires { c.line + length bytes.now < 9223372036854775808 }
-    ensures { (result ≡ (entriesFrom (length bytes.now) bytes.now q 0 0 c).past) × (result.line ≤ c.line + length bytes.now) }
+    ensures { (result ≡ (entries_from (length bytes.now) bytes.now q 0 0 c).past) × (result.line ≤ c.line + length bytes.now) }
 {
     let mut d = c;
     let mut col: u64 = 0;
@@ -68,7 +68,7 @@ fn word_line(bytes: &[u8], t: &[u8], numbers: u64, at: usize) -> Line
 // The lines of one row, `width` of them.
 fn row_words(bytes: &[u8], t: &[u8], numbers: u64, row: u64, width: u64, c: Cursor) -> Cursor
     requires { c.line + width < 9223372036854775808 }
-    ensures { result ≡ (lines_of (word_line numbers t.now bytes.now) prescribedVerdict word_in (rowFrom row 0 width) c).past }
+    ensures { result ≡ (lines_of (word_line numbers t.now bytes.now) prescribed_verdict word_in (row_from row 0 width) c).past }
 {
     let mut d = c;
     let mut col: u64 = 0;
@@ -95,7 +95,7 @@ pub fn words(
     c: Cursor,
 ) -> Cursor
     requires { (rows * (first + step * rows) ≤ 16777216) × (c.line ≤ 4294967296) }
-    ensures* { λ r. ⌜ (r ≡ (words_of bytes.now (wordKind t.now numbers (rows_from (λ r. first + step * r) 0 rows)) c).past) × (r.line ≤ c.line + 16777216) ⌝ }
+    ensures* { λ r. ⌜ (r ≡ (words_of bytes.now (word_kind t.now numbers (rows_from (λ r. first + step * r) 0 rows)) c).past) × (r.line ≤ c.line + 16777216) ⌝ }
 {
     let mut d = c;
     let mut r: u64 = 0;

@@ -1,8 +1,8 @@
 // Past one line of a sheet (document 01, Record 1): its verdict, 2, 3 or 4, and where the next line stands. What each answers is defined in the
 // crate sheet, specs/Run.antt.
 ghost use Rattle.std.specs.Prelude.{◌≡◌, ◌+◌, ◌<◌, [], ◌∷◌};
-ghost use Rattle.sheet.specs.Line.{verdictOf};
-ghost use Rattle.sheet.specs.Run.{passOf, isBetween, blockVerdict, notBefore, entryVerdict, prescribedVerdict};
+ghost use Rattle.sheet.specs.Line.{verdict_of};
+ghost use Rattle.sheet.specs.Run.{pass_of, is_between, block_verdict, not_before, entry_verdict, prescribed_verdict};
 
 use crate::field::NOWHERE;
 use crate::word_class;
@@ -10,7 +10,7 @@ use sheet::{Cursor, Line};
 
 // What a line is refused with, 0 where it is in order: 2, 3, 4 in that order.
 fn verdict(form: bool, finite: bool, within: bool) -> u64
-    ensures { result ≡ verdictOf ((form, 2) ∷ (finite, 3) ∷ (within, 4) ∷ []) }
+    ensures { result ≡ verdict_of ((form, 2) ∷ (finite, 3) ∷ (within, 4) ∷ []) }
 {
     if form {
         if finite {
@@ -27,7 +27,7 @@ fn verdict(form: bool, finite: bool, within: bool) -> u64
 // Past a line with this verdict; a refused one is not passed.
 fn pass(c: Cursor, number: u64, next: usize) -> Cursor
     requires { c.line < 9223372036854775808 }
-    ensures { result ≡ passOf c number next }
+    ensures { result ≡ pass_of c number next }
 {
     if c.number == 0 {
         if number == 0 {
@@ -48,7 +48,7 @@ fn pass(c: Cursor, number: u64, next: usize) -> Cursor
 
 // low <= x <= high
 pub fn between(low: u64, x: u64, high: u64) -> bool
-    ensures { result ≡ isBetween low x high }
+    ensures { result ≡ is_between low x high }
 {
     (low <= x) & (x <= high)
 }
@@ -56,7 +56,7 @@ pub fn between(low: u64, x: u64, high: u64) -> bool
 // Past a block line; its verdict asks for no indexes.
 pub fn block(l: Line, c: Cursor) -> Cursor
     requires { c.line < 9223372036854775808 }
-    ensures { result ≡ passOf c (blockVerdict (0, 0) l) l.next }
+    ensures { result ≡ pass_of c (block_verdict (0, 0) l) l.next }
 {
     let v = verdict(
         l.next != NOWHERE,
@@ -68,7 +68,7 @@ pub fn block(l: Line, c: Cursor) -> Cursor
 
 // Whether (col, row) is not before (col0, row0), by column then row.
 fn not_before(col0: u64, row0: u64, col: u64, row: u64) -> bool
-    ensures { result ≡ notBefore col0 row0 col row }
+    ensures { result ≡ not_before col0 row0 col row }
 {
     (col0 < col) | ((col0 == col) & (row0 <= row))
 }
@@ -76,7 +76,7 @@ fn not_before(col0: u64, row0: u64, col: u64, row: u64) -> bool
 // Past a zz line, where (col, row) is the first place that comes past the line before.
 pub fn entry(l: Line, q: u64, col: u64, row: u64, c: Cursor) -> Cursor
     requires { c.line < 9223372036854775808 }
-    ensures { result ≡ passOf c (entryVerdict q col row l) l.next }
+    ensures { result ≡ pass_of c (entry_verdict q col row l) l.next }
 {
     let form = (l.next != NOWHERE) & not_before(col, row, l.first, l.second);
     let v = verdict(
@@ -90,7 +90,7 @@ pub fn entry(l: Line, q: u64, col: u64, row: u64, c: Cursor) -> Cursor
 // Past a line with a word, whose numbers are to be (row, col).
 pub fn prescribed(l: Line, row: u64, col: u64, c: Cursor) -> Cursor
     requires { c.line < 9223372036854775808 }
-    ensures { result ≡ passOf c (prescribedVerdict (row, col) l) l.next }
+    ensures { result ≡ pass_of c (prescribed_verdict (row, col) l) l.next }
 {
     let form = (l.next != NOWHERE) & (l.first == row) & (l.second == col);
     let v = verdict(form, word_class::is_finite(l.word), true);

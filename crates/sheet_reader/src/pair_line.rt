@@ -1,7 +1,7 @@
 // Reads a line of a sheet with two numbers and a word (document 01, Record 1), at any position of any bytes: each field stands where the one before
 // it ends. What it answers is defined in the crate sheet, specs/Line.antt.
 ghost use Rattle.std.specs.Prelude.{◌≡◌};
-ghost use Rattle.sheet.specs.Line.{pairLine};
+ghost use Rattle.sheet.specs.Line.{pair_line};
 
 use crate::field::TAB;
 use crate::{field, tag_field, word_field};
@@ -9,7 +9,7 @@ use sheet::Line;
 
 // A tag, two numbers and a word.
 pub fn pair_line(t: &[u8], bytes: &[u8], at: usize) -> Line
-    ensures { result ≡ pairLine t.now bytes.now at }
+    ensures { result ≡ pair_line t.now bytes.now at }
 {
     let o = tag_field::tag(bytes, at, t);
     let a = field::number(bytes, o.next, TAB);

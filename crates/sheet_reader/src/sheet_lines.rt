@@ -1,15 +1,15 @@
 // Reads the lines of a sheet after its size line, in their sequence (document 01, Record 1).
 ghost use Rattle.std.specs.Prelude.{◌≡◌, ◌≤◌, length};
-ghost use Rattle.sheet.specs.Sheet.{readLines};
+ghost use Rattle.sheet.specs.Sheet.{read_lines};
 ghost use Rattle.sheet.specs.Answer.{reading_of};
-ghost use Rattle.sheet_reader.specs.sheet_lines.Lines.{Small, readingAt};
+ghost use Rattle.sheet_reader.specs.sheet_lines.Lines.{Small, reading_at};
 
 use crate::line_groups;
 use sheet::{Counts, Cursor, Reading, Starts};
 
 // The answer at the cursor past the yy line.
 fn reading_at(c: Cursor, starts: Starts) -> Reading
-    ensures { result ≡ readingAt c starts }
+    ensures { result ≡ reading_at c starts }
 {
     if c.number == 0 {
         return Reading::Sheet(starts);
@@ -23,7 +23,7 @@ fn reading_at(c: Cursor, starts: Starts) -> Reading
 // The lines after the size line, in their sequence.
 pub fn lines(bytes: &[u8], z: Counts, c: Cursor) -> Reading
     requires { (length bytes.now ≤ 16777216) × (c.line ≡ 2) × Small z }
-    ensures { result ≡ reading_of (readLines bytes.now z c) }
+    ensures { result ≡ reading_of (read_lines bytes.now z c) }
 {
     let zz = line_groups::blocks(bytes, z.k, c);
     let zx = line_groups::entries(bytes, z.q, zz);

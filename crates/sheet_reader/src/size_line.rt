@@ -1,6 +1,6 @@
 // Reads the size line of a sheet (document 01, Record 1).
 ghost use Rattle.std.specs.Prelude.{◌≡◌};
-ghost use Rattle.sheet.specs.Line.{sizeLine};
+ghost use Rattle.sheet.specs.Line.{size_line};
 
 use crate::field::{LF, TAB};
 use crate::{field, tag_field};
@@ -8,7 +8,7 @@ use sheet::{Counts, Size};
 
 // `size` and five numbers.
 pub fn size_line(bytes: &[u8], at: usize) -> Size
-    ensures { result ≡ sizeLine bytes.now at }
+    ensures { result ≡ size_line bytes.now at }
 {
     let t = tag_field::tag(bytes, at, b"size\t");
     let n = field::number(bytes, t.next, TAB);

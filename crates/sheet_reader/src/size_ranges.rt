@@ -1,13 +1,13 @@
 // The ranges of the size line (document 01, Record 1).
 ghost use Rattle.std.specs.Prelude.{◌≡◌};
-ghost use Rattle.sheet.specs.Sheet.{countsWithin};
+ghost use Rattle.sheet.specs.Sheet.{counts_within};
 
 use crate::line_verdict;
 use sheet::Counts;
 
 // The ranges of the size line.
 pub fn counts_within(z: Counts) -> bool
-    ensures { result ≡ countsWithin z }
+    ensures { result ≡ counts_within z }
 {
     let n = line_verdict::between(1, z.n, 1000000000);
     let p = line_verdict::between(1, z.p, 32);

@@ -1,13 +1,13 @@
 // Reads the tag of a line of a sheet (document 01, Record 1).
 ghost use Rattle.std.specs.Prelude.{◌≡◌, ◌+◌, ◌<◌};
-ghost use Rattle.sheet.specs.Line.{tagTo};
+ghost use Rattle.sheet.specs.Line.{tag_to};
 
 use crate::field::UNFOUND;
 use sheet::Field;
 
 // The bytes `t` at a position, and the position past them.
 pub fn tag(bytes: &[u8], at: usize, t: &[u8]) -> Field
-    ensures { result ≡ tagTo t.now bytes.now at }
+    ensures { result ≡ tag_to t.now bytes.now at }
 {
     let mut i = at;
     let mut k: usize = 0;

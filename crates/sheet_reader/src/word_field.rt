@@ -1,7 +1,7 @@
 // Reads a word of a sheet (document 01, Record 1) and the LF behind it. What it answers is defined in the crate sheet, specs/Field.antt.
 ghost use Rattle.std.specs.Prelude.{◌≡◌, ◌+◌, ◌*◌, ◌<◌, drop};
 ghost use Rattle.sheet.specs.Field.{end_at};
-ghost use Rattle.sheet.specs.Line.{lf, wordTo};
+ghost use Rattle.sheet.specs.Line.{lf, word_to};
 
 use crate::field::{LF, UNFOUND};
 use sheet::Field;
@@ -42,7 +42,7 @@ const DIGITS: [u8; 256] = [
 // A word of 16 lower-case hexadecimal digits, and LF. Which digit comes cannot be guessed, so no branch looks at one: the sum of the entries says
 // behind the last whether all were digits. The table is named once, since each naming copies it.
 pub fn word(bytes: &[u8], at: usize) -> Field
-    ensures { result ≡ wordTo bytes.now at }
+    ensures { result ≡ word_to bytes.now at }
 {
     if bytes.len() < 17 {
         return UNFOUND;

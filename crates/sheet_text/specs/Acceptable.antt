@@ -4,12 +4,12 @@ use Rattle.std.specs.Prelude.{ℕ, ◌≤◌, ◌<◌, ◌≡◌, true, length, 
 use mathlib.Core.List.{List, Memᴰ}
 use Rattle.sheet.specs.Run.{Block, Entry}
 use Rattle.sheet.specs.Sheet.{Sheet}
-use Rattle.sheet.specs.Fault.{coveredRows, Fault}
+use Rattle.sheet.specs.Fault.{covered_rows, Fault}
 use Rattle.sheet.specs.Whole.{Each}
 use Rattle.sheet_text.specs.written.Written.{text_of, InForm}
 use Rattle.layout.specs.declared.Pair.TheVariants.{Refused}
-use Rattle.workspace.specs.Loaded.{pairIn, layoutOfSheet}
-use Rattle.workspace.specs.Load.{hasRoom}
+use Rattle.workspace.specs.Loaded.{pair_in, layout_of_sheet}
+use Rattle.workspace.specs.Load.{has_room}
 
 -- a sheet in form that 5 to 11 do not refuse
 pub record Passes (sheet : Sheet) : Type 0 where
@@ -22,11 +22,11 @@ pub record Passes (sheet : Sheet) : Type 0 where
   -- 7, "an e is not 1 (slopes)"
   pub intercepts : Each (λ (b : Block). b.e ≡ 1) sheet.blocks
   -- 8, "q is not the sum of m (dim_mismatch)"
-  pub covers : sheet.counts.q ≡ coveredRows sheet.blocks
+  pub covers : sheet.counts.q ≡ covered_rows sheet.blocks
   -- 9, "`zz` word ±0, off-diagonal inside a block, or without a mirror of equal bits"
   pub sound : (e : Entry) → Memᴰ e sheet.zz → Fault sheet e → ⊥
   -- 10 and 11, a pair that the gate refuses
-  pub gate : (i j n : ℕ) → i < sheet.counts.k → j < i → pairIn sheet (layoutOfSheet sheet) i j ≡ Refused n → ⊥
+  pub gate : (i j n : ℕ) → i < sheet.counts.k → j < i → pair_in sheet (layout_of_sheet sheet) i j ≡ Refused n → ⊥
 
 pub record Acceptable (s h : List ℕ) (w : List Float) (sheet : Sheet) : Type 0 where
   -- 1, "sheet too long"
@@ -35,4 +35,4 @@ pub record Acceptable (s h : List ℕ) (w : List Float) (sheet : Sheet) : Type 0
   pub text : s ≡ text_of sheet
   pub passes : Passes sheet
   -- 12, "workspace too short"
-  pub room : hasRoom (layoutOfSheet sheet) h w ≡ true
+  pub room : has_room (layout_of_sheet sheet) h w ≡ true

@@ -3,32 +3,32 @@
 -- proofs/Accepts.antt shows that load accepts exactly where none holds.
 use Rattle.std.specs.Prelude.{ℕ, ◌≤◌, ◌<◌, ◌≡◌, true, false, List, length, Float}
 use Rattle.sheet.specs.declared.Starts.{Starts}
-use Rattle.sheet.specs.Sheet.{Sheet, accepted, refused, sheetOf}
-use Rattle.sheet.specs.Fault.{coveredRows, hasSlope, Faulty}
+use Rattle.sheet.specs.Sheet.{Sheet, accepted, refused, sheet_of}
+use Rattle.sheet.specs.Fault.{covered_rows, has_slope, Faulty}
 use Rattle.layout.specs.declared.Pair.TheVariants.{Refused}
-use Rattle.workspace.specs.Loaded.{pairIn, layoutOfSheet}
-use Rattle.workspace.specs.Load.{hasRoom}
+use Rattle.workspace.specs.Loaded.{pair_in, layout_of_sheet}
+use Rattle.workspace.specs.Load.{has_room}
 
 pub data Listed (s : List ℕ) (h : List ℕ) (w : List Float) : ℕ → Type 0 where
   -- 1, "sheet too long"
   too_long : 16777216 < length s → Listed s h w 1
   -- 2, "line ill-formed, missing or out of sequence"; 3, "word infinite or NaN"; 4, "count or index outside its range": the lines downwards, on a line 2, 3, 4
-  at-line : (number line : ℕ) → sheetOf s ≡ refused number line → 2 ≤ number → Listed s h w number
+  at_line : (number line : ℕ) → sheet_of s ≡ refused number line → 2 ≤ number → Listed s h w number
   -- 5, "flag 0 (not_intercept_only)"
-  not-intercept-only : (sheet : Sheet) (starts : Starts) → sheetOf s ≡ accepted sheet starts → sheet.counts.flag ≡ 0 → Listed s h w 5
+  not_intercept_only : (sheet : Sheet) (starts : Starts) → sheet_of s ≡ accepted sheet starts → sheet.counts.flag ≡ 0 → Listed s h w 5
   -- 6, "k = 0 (empty_re)"
-  empty-re : (sheet : Sheet) (starts : Starts) → sheetOf s ≡ accepted sheet starts → sheet.counts.k ≡ 0 → Listed s h w 6
+  empty_re : (sheet : Sheet) (starts : Starts) → sheet_of s ≡ accepted sheet starts → sheet.counts.k ≡ 0 → Listed s h w 6
   -- 7, "an e is not 1 (slopes)"
-  slopes : (sheet : Sheet) (starts : Starts) → sheetOf s ≡ accepted sheet starts → hasSlope sheet ≡ true → Listed s h w 7
+  slopes : (sheet : Sheet) (starts : Starts) → sheet_of s ≡ accepted sheet starts → has_slope sheet ≡ true → Listed s h w 7
   -- 8, "q is not the sum of m (dim_mismatch)"
-  dim-mismatch : (sheet : Sheet) (starts : Starts) → sheetOf s ≡ accepted sheet starts → (sheet.counts.q ≡ coveredRows sheet.blocks → ⊥) → Listed s h w 8
+  dim_mismatch : (sheet : Sheet) (starts : Starts) → sheet_of s ≡ accepted sheet starts → (sheet.counts.q ≡ covered_rows sheet.blocks → ⊥) → Listed s h w 8
   -- 9, "`zz` word ±0, off-diagonal inside a block, or without a mirror of equal bits"
-  faulty : (sheet : Sheet) (starts : Starts) → sheetOf s ≡ accepted sheet starts → (line : ℕ) → Faulty sheet line → Listed s h w 9
+  faulty : (sheet : Sheet) (starts : Starts) → sheet_of s ≡ accepted sheet starts → (line : ℕ) → Faulty sheet line → Listed s h w 9
   -- 10, "k > 2 and a pair above 100,000 cells (multiblock_fill)"
-  multiblock-fill : (sheet : Sheet) (starts : Starts) → sheetOf s ≡ accepted sheet starts → (i j : ℕ) → i < sheet.counts.k → j < i
-      → pairIn sheet (layoutOfSheet sheet) i j ≡ Refused 10 → Listed s h w 10
+  multiblock_fill : (sheet : Sheet) (starts : Starts) → sheet_of s ≡ accepted sheet starts → (i j : ℕ) → i < sheet.counts.k → j < i
+      → pair_in sheet (layout_of_sheet sheet) i j ≡ Refused 10 → Listed s h w 10
   -- 11, "pair fails the gate (cross_gate)"
-  cross-gate : (sheet : Sheet) (starts : Starts) → sheetOf s ≡ accepted sheet starts → (i j : ℕ) → i < sheet.counts.k → j < i
-      → pairIn sheet (layoutOfSheet sheet) i j ≡ Refused 11 → Listed s h w 11
+  cross_gate : (sheet : Sheet) (starts : Starts) → sheet_of s ≡ accepted sheet starts → (i j : ℕ) → i < sheet.counts.k → j < i
+      → pair_in sheet (layout_of_sheet sheet) i j ≡ Refused 11 → Listed s h w 11
   -- 12, "workspace too short"
-  too_short : (sheet : Sheet) (starts : Starts) → sheetOf s ≡ accepted sheet starts → hasRoom (layoutOfSheet sheet) h w ≡ false → Listed s h w 12
+  too_short : (sheet : Sheet) (starts : Starts) → sheet_of s ≡ accepted sheet starts → has_room (layout_of_sheet sheet) h w ≡ false → Listed s h w 12

@@ -1,7 +1,7 @@
 -- What the finish answers and leaves in a result list of n doubles (document 01, Record 7 and refusal 27).
 use Rattle.std.specs.Prelude.{ℕ, Bool, List, Float}
 use Rattle.profile.specs.declared.Solve.TheVariants.{Solved}
-use Rattle.profile.specs.Finish.{Solving, onPivot, refusedRow, solutionOf, resultList}
+use Rattle.profile.specs.Finish.{Solving, on_pivot, refused_row, solution_of, result_list}
 
-abbrev pub finishOf : (h : List ℕ) (w : List Float) → Bool → ℕ → Solving
-finishOf h w reml n = onPivot (refusedRow h w) n (record { answer = Solved (solutionOf h w reml); result = resultList h w })
+abbrev pub finish_of : (h : List ℕ) (w : List Float) → Bool → ℕ → Solving
+finish_of h w reml n = on_pivot (refused_row h w) n (record { answer = Solved (solution_of h w reml); result = result_list h w })

@@ -1,9 +1,9 @@
 // b = theta times u, by sheet rows (document 01, Record 7; the Rust's `apply_lambda_to_u`).
 ghost use Rattle.std.specs.Prelude.{◌≡◌, ◌<◌, length};
 ghost use Rattle.heading_format.specs.Fits.{Fits};
-ghost use Rattle.solution_vectors.specs.Vectors.{withBlockAt, withVector};
-ghost use Rattle.solution_vectors.specs.result_places.Places.{b_at, resultLengthOf};
-ghost use Rattle.solution_finish.specs.b_vector.Effects.{effectBlock, effectBlocks};
+ghost use Rattle.solution_vectors.specs.Vectors.{with_block_at, with_vector};
+ghost use Rattle.solution_vectors.specs.result_places.Places.{b_at, result_length_of};
+ghost use Rattle.solution_finish.specs.b_vector.Effects.{effect_block, effect_blocks};
 
 use block_places::{block_kinds, sheet_rows};
 use cross_block::scaling;
@@ -12,8 +12,8 @@ use triangular_solves::scaled_row;
 
 // The rows of sorted block j.
 fn scale_block(layout: Layout, heading: &[u32], doubles: &[f64], v: &mut [f64], j: u64)
-    requires { Fits layout heading.now (length doubles.now) × (j < layout.k) × (length v.old ≡ resultLengthOf layout) }
-    ensures { v.new ≡ withBlockAt layout (b_at layout) j (effectBlock heading.now doubles.now layout v.old j) v.old }
+    requires { Fits layout heading.now (length doubles.now) × (j < layout.k) × (length v.old ≡ result_length_of layout) }
+    ensures { v.new ≡ with_block_at layout (b_at layout) j (effect_block heading.now doubles.now layout v.old j) v.old }
 {
     let theta = scaled_row::theta_of(layout, heading, doubles, j);
     let to = layout.p as usize + sheet_rows::first_row(layout, j as usize) as usize;
@@ -24,8 +24,8 @@ fn scale_block(layout: Layout, heading: &[u32], doubles: &[f64], v: &mut [f64], 
 
 // b, all its rows, from u.
 pub fn write_b(layout: Layout, heading: &[u32], doubles: &[f64], v: &mut [f64])
-    requires { Fits layout heading.now (length doubles.now) × (length v.old ≡ resultLengthOf layout) }
-    ensures { v.new ≡ withVector layout (b_at layout) (effectBlocks heading.now doubles.now layout v.old) v.old }
+    requires { Fits layout heading.now (length doubles.now) × (length v.old ≡ result_length_of layout) }
+    ensures { v.new ≡ with_vector layout (b_at layout) (effect_blocks heading.now doubles.now layout v.old) v.old }
 {
     let mut j: u64 = 0;
     while j < layout.k {

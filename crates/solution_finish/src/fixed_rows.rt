@@ -2,9 +2,9 @@
 ghost use Rattle.std.specs.Prelude.{◌≡◌, ◌+◌, ◌≤◌, length};
 ghost use Rattle.block_runs.specs.axpy.Axpy.{at, run};
 ghost use Rattle.heading_format.specs.Fits.{Fits};
-ghost use Rattle.solution_vectors.specs.result_places.Places.{resultLengthOf, Solved};
+ghost use Rattle.solution_vectors.specs.result_places.Places.{result_length_of, Solved};
 ghost use Rattle.solution_finish.specs.fixed_rows.Fixing.{Fixing};
-ghost use Rattle.layout.specs.Shapes.{lastRows};
+ghost use Rattle.layout.specs.Shapes.{last_rows};
 
 use block_places::places;
 use block_runs::run_copies;
@@ -22,8 +22,8 @@ fn copy(v: &mut [f64], to: usize, n: usize, doubles: &[f64], from: usize)
 
 // X'X into the place of L_X, and X'y into the place of beta.
 pub fn load_xtx(layout: Layout, heading: &[u32], doubles: &[f64], v: &mut [f64])
-    requires fits { Fits layout heading.now (length doubles.now) × (length v.old ≡ resultLengthOf layout) }
-    requires solved { Solved heading.now doubles.now layout (lastRows layout) v.old }
+    requires fits { Fits layout heading.now (length doubles.now) × (length v.old ≡ result_length_of layout) }
+    requires solved { Solved heading.now doubles.now layout (last_rows layout) v.old }
     ensures { Fixing heading.now doubles.now layout 0 v.new }
 {
     let p = layout.p as usize;

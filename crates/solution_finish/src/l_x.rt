@@ -3,14 +3,14 @@ ghost use Rattle.std.specs.Prelude.{◌≡◌, ℕ, ◌+◌, ◌≤◌, ◌<◌,
 ghost use Rattle.std.specs.Float.{binary64};
 ghost use Rattle.std.specs.Float.Ieee.{fits};
 ghost use Rattle.storage.specs.Shape.{packed, size_of};
-ghost use Rattle.re_factor.specs.Factor.{pivotAt};
-ghost use Rattle.solution_finish.specs.l_x.Factor.{triangleAt, notAbove, firstNotAbove, orRow, FixedFactored};
+ghost use Rattle.re_factor.specs.Factor.{pivot_at};
+ghost use Rattle.solution_finish.specs.l_x.Factor.{triangle_at, not_above, first_not_above, or_row, FixedFactored};
 
 use re_lower::Pivots;
 use storage::Block;
 
 fn not_above(x: f64) -> bool
-    ensures { result ≡ notAbove x }
+    ensures { result ≡ not_above x }
 {
     if x > 0.0 {
         return false;
@@ -21,7 +21,7 @@ fn not_above(x: f64) -> bool
 // The first of the n pivots of the packed factor at off that is not above 0.
 fn first_not_above(v: &[f64], off: usize, n: usize) -> Pivots
     requires { off + size_of (packed n) ≤ length v.now }
-    ensures { result ≡ firstNotAbove off n v.now }
+    ensures { result ≡ first_not_above off n v.now }
 {
     let mut r = 0;
     let mut at = off;
@@ -37,7 +37,7 @@ fn first_not_above(v: &[f64], off: usize, n: usize) -> Pivots
 
 // A row that was refused before, or else r.
 fn or_row(p: Pivots, r: usize) -> Pivots
-    ensures { result ≡ orRow p r }
+    ensures { result ≡ or_row p r }
 {
     match p {
         Pivots::Accepted => Pivots::Refused(r),
@@ -47,7 +47,7 @@ fn or_row(p: Pivots, r: usize) -> Pivots
 
 // C lets NaN pass; its root is NaN, so the pivots that stand tell the rows that C passed wrongly.
 pub fn chol_fixed(v: &mut [f64], off: usize, n: usize) -> Pivots
-    requires { (n ≤ 316) × (off + size_of (packed n) ≤ length v.old) × ((r : ℕ) → r < n → T (fits binary64 (pivotAt (triangleAt off n) v.old r))) }
+    requires { (n ≤ 316) × (off + size_of (packed n) ≤ length v.old) × ((r : ℕ) → r < n → T (fits binary64 (pivot_at (triangle_at off n) v.old r))) }
     ensures { FixedFactored off n v.old v.new result }
 {
     let b = Block {

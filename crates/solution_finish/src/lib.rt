@@ -16,11 +16,11 @@ ghost use Rattle.rules.specs.Cholesky.{at};
 ghost use Rattle.heading_format.specs.Fits.{Fits};
 ghost use Rattle.refusal.specs.Numbers.{refusal};
 ghost use Rattle.profile.specs.declared.Solve.TheVariants.{Refused};
-ghost use Rattle.profile.specs.Finish.{crossProduct, vOf, wOf, solutionOf, resultList};
-ghost use Rattle.solution_vectors.specs.result_places.Places.{resultLengthOf, Solved};
+ghost use Rattle.profile.specs.Finish.{cross_product, v_of, w_of, solution_of, result_list};
+ghost use Rattle.solution_vectors.specs.result_places.Places.{result_length_of, Solved};
 ghost use Rattle.solution_finish.specs.result_laws.Ready.{Ready};
-ghost use Rattle.solution_finish.specs.Outcome.{finishOf};
-ghost use Rattle.layout.specs.Shapes.{lastRows, responseRow};
+ghost use Rattle.solution_finish.specs.Outcome.{finish_of};
+ghost use Rattle.layout.specs.Shapes.{last_rows, response_row};
 
 use block_runs::run_copies;
 use layout::Layout;
@@ -52,8 +52,8 @@ fn accept(
     rest: f64,
 ) -> Solution
     requires fits { Fits layout heading.now (length doubles.now) × Ready heading.now doubles.now layout v.old }
-    requires rest_value { rest ≡ ieee.minus (crossProduct heading.now doubles.now (responseRow layout) (responseRow layout)) (dot ieee (at ieee (vOf heading.now doubles.now (responseRow layout))) (at ieee (wOf heading.now doubles.now (responseRow layout))) layout.q) }
-    ensures { (result ≡ solutionOf heading.now doubles.now reml) × (v.new ≡ resultList heading.now doubles.now) }
+    requires rest_value { rest ≡ ieee.minus (cross_product heading.now doubles.now (response_row layout) (response_row layout)) (dot ieee (at ieee (v_of heading.now doubles.now (response_row layout))) (at ieee (w_of heading.now doubles.now (response_row layout))) layout.q) }
+    ensures { (result ≡ solution_of heading.now doubles.now reml) × (v.new ≡ result_list heading.now doubles.now) }
 {
     let r = result_parts::make_parts(layout, heading, doubles, v);
     result_parts::scalars(layout, heading, doubles, v, reml, rest - r)
@@ -67,9 +67,9 @@ pub fn solve_profile_finish(
     reml: bool,
     v: &mut [f64],
 ) -> Solve
-    requires fits { Fits layout heading.now (length doubles.now) × (length v.old ≡ resultLengthOf layout) }
-    requires solved { Solved heading.now doubles.now layout (lastRows layout) v.old }
-    ensures { (result ≡ (finishOf heading.now doubles.now reml (resultLengthOf layout)).answer) × (v.new ≡ (finishOf heading.now doubles.now reml (resultLengthOf layout)).result) }
+    requires fits { Fits layout heading.now (length doubles.now) × (length v.old ≡ result_length_of layout) }
+    requires solved { Solved heading.now doubles.now layout (last_rows layout) v.old }
+    ensures { (result ≡ (finish_of heading.now doubles.now reml (result_length_of layout)).answer) × (v.new ≡ (finish_of heading.now doubles.now reml (result_length_of layout)).result) }
 {
     let rest = xtx_minus_vtw::subtract_products(layout, heading, doubles, v);
     let factor = result_places::l_x_at(layout);

@@ -4,10 +4,10 @@ ghost use Rattle.std.specs.Prelude.{◌≡◌, length};
 ghost use Rattle.storage.specs.Runs.{start, triangle};
 ghost use Rattle.storage.specs.Part.{part};
 ghost use Rattle.heading_format.specs.Fits.{Fits};
-ghost use Rattle.profile.specs.Finish.{flattened, fixedFactor};
-ghost use Rattle.solution_vectors.specs.result_places.Places.{lxAt, resultLengthOf};
+ghost use Rattle.profile.specs.Finish.{flattened, fixed_factor};
+ghost use Rattle.solution_vectors.specs.result_places.Places.{lx_at, result_length_of};
 ghost use Rattle.solution_finish.specs.result_laws.Ready.{Ready};
-ghost use Rattle.solution_finish.specs.result_parts.Finished.{Finished, scalarsWith};
+ghost use Rattle.solution_finish.specs.result_parts.Finished.{Finished, scalars_with};
 
 use crate::{b_vector, beta, u_vector};
 use deviance::{deviance_tail, deviance_value};
@@ -40,9 +40,9 @@ pub fn scalars(
     reml: bool,
     r2: f64,
 ) -> Solution
-    requires fits { Fits layout heading.now (length doubles.now) × (length v.now ≡ resultLengthOf layout) }
-    requires v_value { part (lxAt layout) (start triangle layout.p) v.now ≡ flattened (fixedFactor heading.now doubles.now) }
-    ensures { result ≡ scalarsWith heading.now doubles.now reml r2 }
+    requires fits { Fits layout heading.now (length doubles.now) × (length v.now ≡ result_length_of layout) }
+    requires v_value { part (lx_at layout) (start triangle layout.p) v.now ≡ flattened (fixed_factor heading.now doubles.now) }
+    ensures { result ≡ scalars_with heading.now doubles.now reml r2 }
 {
     let d = deviance_value::freedom(layout, reml);
     let sigma2 = r2 / d;

@@ -2,9 +2,9 @@
 // stands for a while where b will be.
 ghost use Rattle.std.specs.Prelude.{◌≡◌, ◌+◌, ◌<◌, length};
 ghost use Rattle.heading_format.specs.Fits.{Fits};
-ghost use Rattle.solution_vectors.specs.result_places.Places.{resultLengthOf, Solved, Products};
+ghost use Rattle.solution_vectors.specs.result_places.Places.{result_length_of, Solved, Products};
 ghost use Rattle.solution_finish.specs.fixed_rows.Fixing.{Fixing};
-ghost use Rattle.layout.specs.Shapes.{lastRows};
+ghost use Rattle.layout.specs.Shapes.{last_rows};
 
 use crate::fixed_rows;
 use block_places::places;
@@ -66,8 +66,8 @@ fn subtract_response(layout: Layout, heading: &[u32], doubles: &[f64], v: &mut [
 
 // The loaded triangle: X'X into the place of L_X, X'y into the place of beta. Each row less v of the row times w of the columns and of y.
 pub fn subtract_products(layout: Layout, heading: &[u32], doubles: &[f64], v: &mut [f64]) -> f64
-    requires fits { Fits layout heading.now (length doubles.now) × (length v.old ≡ resultLengthOf layout) }
-    requires solved { Solved heading.now doubles.now layout (lastRows layout) v.old }
+    requires fits { Fits layout heading.now (length doubles.now) × (length v.old ≡ result_length_of layout) }
+    requires solved { Solved heading.now doubles.now layout (last_rows layout) v.old }
     ensures { Products heading.now doubles.now layout v.new result }
 {
     fixed_rows::load_xtx(layout, heading, doubles, v);

@@ -4,16 +4,16 @@ pub mod result_places;
 pub mod solve_laws;
 
 ghost use Rattle.std.specs.Prelude.{◌≡◌, true, ◌+◌, ◌≤◌, ◌<◌, length};
-ghost use Rattle.heading_format.specs.Heading.{validLayout};
-ghost use Rattle.workspace.specs.Loaded.{rowStart};
+ghost use Rattle.heading_format.specs.Heading.{valid_layout};
+ghost use Rattle.workspace.specs.Loaded.{row_start};
 
 use block_places::sheet_rows;
 use layout::Layout;
 
 // Where sorted block j of the vector starts that lies in v from `from` on.
 pub fn block_start(layout: Layout, v: &[f64], from: usize, j: u64) -> usize
-    requires { (validLayout layout ≡ true) × (j < layout.k) × (from + layout.q ≤ length v.now) }
-    ensures { result ≡ from + rowStart layout j }
+    requires { (valid_layout layout ≡ true) × (j < layout.k) × (from + layout.q ≤ length v.now) }
+    ensures { result ≡ from + row_start layout j }
 {
     from + sheet_rows::first_row(layout, j as usize) as usize
 }

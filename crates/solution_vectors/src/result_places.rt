@@ -1,15 +1,15 @@
 // Where the parts of the result list start (document 01, Record 7), in specs/result_places/Places.antt; that the parts together are the list, in proofs/result_places/Parts.antt.
 ghost use Rattle.std.specs.Prelude.{◌≡◌, true, ◌≤◌};
-ghost use Rattle.heading_format.specs.Heading.{validLayout};
-ghost use Rattle.solution_vectors.specs.result_places.Places.{lxAt, wAt, resultLengthOf};
+ghost use Rattle.heading_format.specs.Heading.{valid_layout};
+ghost use Rattle.solution_vectors.specs.result_places.Places.{lx_at, w_at, result_length_of};
 
 use layout::Layout;
 use re_lower::triangle_cells;
 
 // Where L_X starts.
 pub fn l_x_at(layout: Layout) -> usize
-    requires { validLayout layout ≡ true }
-    ensures { result ≡ lxAt layout }
+    requires { valid_layout layout ≡ true }
+    ensures { result ≡ lx_at layout }
 {
     let p = layout.p as usize;
     let q = layout.q as usize;
@@ -18,8 +18,8 @@ pub fn l_x_at(layout: Layout) -> usize
 
 // Where w of row r of block k starts.
 pub fn w_at(layout: Layout, r: usize) -> usize
-    requires { (validLayout layout ≡ true) × (r ≤ layout.p) }
-    ensures { result ≡ wAt layout r }
+    requires { (valid_layout layout ≡ true) × (r ≤ layout.p) }
+    ensures { result ≡ w_at layout r }
 {
     let p = layout.p as usize;
     let q = layout.q as usize;
@@ -32,8 +32,8 @@ pub fn w_at(layout: Layout, r: usize) -> usize
 
 // How many doubles the result list has.
 pub fn result_length(layout: Layout) -> usize
-    requires { validLayout layout ≡ true }
-    ensures { result ≡ resultLengthOf layout }
+    requires { valid_layout layout ≡ true }
+    ensures { result ≡ result_length_of layout }
 {
     let p = layout.p as usize;
     let q = layout.q as usize;

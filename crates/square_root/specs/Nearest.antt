@@ -19,19 +19,19 @@ pub record IsRoot (x r : Float) : Type 0 where
   pub result : HasValue r false (s * 2 ^ h) (2 ^ 589)
   pub operand_low : 2 ^ 104 ≤ n
   pub digits_low : 2 ^ 52 ≤ s
-  pub digits-high : s < 2 ^ 53
+  pub digits_high : s < 2 ^ 53
   pub nearest : Nearest s n
 
 -- r is finite, above 0 and normal: at least 2 ^ -1022
 pub record Normal (r : Float) : Type 0 where
   pub above : HasValue r false (num r) (den r)
-  pub not-small : den r ≤ num r * 2 ^ 1022
+  pub not_small : den r ≤ num r * 2 ^ 1022
 
 -- The double y, above 0 or a zero, is farther from the root of x than r is: where y is below r, the root lies above the middle of the two,
 -- and where y is above r, below it. With y = a / c, r = b / d and x = p / q the middle is (a * d + b * c) / (2 * c * d).
 pub record FartherNonNegative (x r y : Float) : Type 0 where
-  pub from-below : num y * den r < num r * den y → (num y * den r + num r * den y) * (num y * den r + num r * den y) * den x < 4 * num x * (den y * den r * (den y * den r))
-  pub from-above : num r * den y < num y * den r → 4 * num x * (den y * den r * (den y * den r)) < (num y * den r + num r * den y) * (num y * den r + num r * den y) * den x
+  pub from_below : num y * den r < num r * den y → (num y * den r + num r * den y) * (num y * den r + num r * den y) * den x < 4 * num x * (den y * den r * (den y * den r))
+  pub from_above : num r * den y < num y * den r → 4 * num x * (den y * den r * (den y * den r)) < (num y * den r + num r * den y) * (num y * den r + num r * den y) * den x
 
 -- Any other finite double is farther from the root. One below 0 is farther than 0 is, and 0 is because the root lies above half of r.
 abbrev pub Farther : Float → Float → Float → Type 0

@@ -6,14 +6,14 @@ mod rounding;
 mod whole_root;
 
 ghost use Rattle.std.specs.Prelude.{◌≡◌};
-ghost use Rattle.square_root.specs.Root.{sqrtOf};
+ghost use Rattle.square_root.specs.Root.{sqrt_of};
 
 use float_bits::double;
 use float_bits::double::Kind;
 
 // The square root, to the bit as specs/Root.antt has it.
 pub fn sqrt(x: f64) -> f64
-    ensures { result ≡ sqrtOf x }
+    ensures { result ≡ sqrt_of x }
 {
     match double::classify(x) {
         Kind::Positive(p) => parts::of_parts(p),

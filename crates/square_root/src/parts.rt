@@ -2,7 +2,7 @@
 
 ghost use Rattle.std.specs.Prelude.{◌≡◌, ◌*◌, ◌^◌, ◌<◌};
 ghost use Rattle.float_bits.specs.double.Parts.{InPlace};
-ghost use Rattle.square_root.specs.parts.Radicand.{rootOf};
+ghost use Rattle.square_root.specs.parts.Radicand.{root_of};
 
 use crate::inverse_table;
 use float_bits::double::Parts;
@@ -18,7 +18,7 @@ fn doubled(q: u64, b: u64) -> u64
 // The root of the double above 0 with these parts.
 pub fn of_parts(p: Parts) -> f64
     requires { InPlace p }
-    ensures { result ≡ rootOf p }
+    ensures { result ≡ root_of p }
 {
     let q = p.significand;
     let e = p.exponent;

@@ -1,8 +1,8 @@
 // A step that is ready, taken: layout and progress go in by value and the step hands the moved progress back (document 01, Records 4 and 5).
 ghost use Rattle.std.specs.Prelude.{◌≡◌, ◌≤◌, length};
 ghost use Rattle.step_order.specs.Steps.{IsStep, S, T};
-ghost use Rattle.heading_format.specs.Heading.{layout_of, progressOf};
-ghost use Rattle.update.specs.Names.{stepOfName};
+ghost use Rattle.heading_format.specs.Heading.{layout_of, progress_of};
+ghost use Rattle.update.specs.Names.{step_of_name};
 ghost use Rattle.heading_format.specs.Fits.{Fits};
 ghost use Rattle.step.specs.step_result.Applied.{Applied};
 
@@ -63,8 +63,8 @@ pub fn apply(
     doubles: &mut [f64],
     name: StepName,
 ) -> StepResult
-    requires { Fits layout heading.now (length doubles.old) × (progress ≡ progressOf heading.now) × IsStep layout.k (stepOfName name) × (1 ≤ progress.left) }
-    ensures { Applied layout progress heading.now doubles.old doubles.new (stepOfName name) result }
+    requires { Fits layout heading.now (length doubles.old) × (progress ≡ progress_of heading.now) × IsStep layout.k (step_of_name name) × (1 ≤ progress.left) }
+    ensures { Applied layout progress heading.now doubles.old doubles.new (step_of_name name) result }
 {
     match name {
         StepName::S(i, j, x) => apply_subtract(layout, progress, heading, doubles, i, j, x),

@@ -7,11 +7,11 @@ pub mod step_result;
 
 ghost use Rattle.std.specs.Prelude.{◌≡◌, true, ◌≤◌, length};
 ghost use Rattle.step_order.specs.Steps.{IsStep};
-ghost use Rattle.heading_format.specs.Heading.{layout_of, progressOf, validHeading};
+ghost use Rattle.heading_format.specs.Heading.{layout_of, progress_of, valid_heading};
 ghost use Rattle.refusal.specs.Numbers.{meaning};
 ghost use Rattle.workspace.specs.Answers.{workspace};
-ghost use Rattle.update.specs.Names.{stepOfName};
-ghost use Rattle.update.specs.Calls.{refusedBy, onPivot, step_of};
+ghost use Rattle.update.specs.Names.{step_of_name};
+ghost use Rattle.update.specs.Calls.{refused_by, on_pivot, step_of};
 ghost use Rattle.heading_format.specs.Fits.{Fits};
 
 use heading::writer;
@@ -20,8 +20,8 @@ use update::StepName;
 
 // A step that is ready, on a workspace: the moved progress is written into its heading.
 pub fn apply_ready(heading: &mut [u32], doubles: &mut [f64], name: StepName) -> Answer
-    requires { Fits (layout_of heading.old) heading.old (length doubles.old) × IsStep (layout_of heading.old).k (stepOfName name) × (1 ≤ (progressOf heading.old).left) }
-    ensures { record { answer = result; left = workspace heading.new doubles.new } ≡ onPivot heading.old doubles.old (refusedBy heading.old doubles.old (stepOfName name)) (stepOfName name) }
+    requires { Fits (layout_of heading.old) heading.old (length doubles.old) × IsStep (layout_of heading.old).k (step_of_name name) × (1 ≤ (progress_of heading.old).left) }
+    ensures { record { answer = result; left = workspace heading.new doubles.new } ≡ on_pivot heading.old doubles.old (refused_by heading.old doubles.old (step_of_name name)) (step_of_name name) }
 {
     let layout = heading::layout(heading);
     let progress = heading::progress(heading);
@@ -32,8 +32,8 @@ pub fn apply_ready(heading: &mut [u32], doubles: &mut [f64], name: StepName) -> 
 
 // A step of a workspace: 22, 21, 23, 24; else it is taken.
 fn step_valid(heading: &mut [u32], doubles: &mut [f64], name: StepName) -> Answer
-    requires { validHeading heading.old (length doubles.old) ≡ true }
-    ensures { record { answer = result; left = workspace heading.new doubles.new } ≡ step_of heading.old doubles.old (stepOfName name) }
+    requires { valid_heading heading.old (length doubles.old) ≡ true }
+    ensures { record { answer = result; left = workspace heading.new doubles.new } ≡ step_of heading.old doubles.old (step_of_name name) }
 {
     let layout = heading::layout(heading);
     let progress = heading::progress(heading);
@@ -51,7 +51,7 @@ fn step_valid(heading: &mut [u32], doubles: &mut [f64], name: StepName) -> Answe
 // A step (Record 4). Any numbers, doubles and name may be given; refused with 20, 22, 21, 23 or 24 all is left untouched, with 26 the working doubles are
 // +0.0 and there is no update.
 pub fn step(heading: &mut [u32], doubles: &mut [f64], name: StepName) -> Answer
-    ensures { (meaning result ≡ meaning (step_of heading.old doubles.old (stepOfName name)).answer) × (workspace heading.new doubles.new ≡ (step_of heading.old doubles.old (stepOfName name)).left) }
+    ensures { (meaning result ≡ meaning (step_of heading.old doubles.old (step_of_name name)).answer) × (workspace heading.new doubles.new ≡ (step_of heading.old doubles.old (step_of_name name)).left) }
 {
     if heading_check::is_valid_heading(heading, doubles.len()) {
         return step_valid(heading, doubles, name);

@@ -2,12 +2,12 @@
 // it is done, whether its forerunners are, and which refusal comes first. Any numbers may be asked for.
 ghost use Rattle.std.specs.Prelude.{◌≡◌, ◌+◌, ◌≤◌, ◌<◌};
 ghost use Rattle.storage.specs.Runs.{start, triangle};
-ghost use Rattle.step_order.specs.Steps.{IsStep, isStep, forerunners};
+ghost use Rattle.step_order.specs.Steps.{IsStep, is_step, forerunners};
 ghost use Rattle.step_order.specs.Progress.{all, done};
-ghost use Rattle.heading_format.specs.Heading.{stageOf};
-ghost use Rattle.update.specs.Names.{stepOfName};
-ghost use Rattle.step.specs.step_check.Faults.{nameFault, faultOf};
-ghost use Rattle.heading_format.specs.Parts.{mostTargets};
+ghost use Rattle.heading_format.specs.Heading.{stage_of};
+ghost use Rattle.update.specs.Names.{step_of_name};
+ghost use Rattle.step.specs.step_check.Faults.{name_fault, fault_of};
+ghost use Rattle.heading_format.specs.Parts.{most_targets};
 
 use heading_format::{Progress, State};
 use update::StepName;
@@ -15,7 +15,7 @@ use update::StepName;
 // The place of target (i, j) among all, which stand by rows.
 pub fn target_place(i: u64, j: u64) -> usize
     requires { (j ≤ i) × (i ≤ 8) }
-    ensures { (result ≡ start triangle i + j) × (result < mostTargets) }
+    ensures { (result ≡ start triangle i + j) × (result < most_targets) }
 {
     (i * (i + 1) / 2 + j) as usize
 }
@@ -23,7 +23,7 @@ pub fn target_place(i: u64, j: u64) -> usize
 // The stage of target (i, j): how many of its steps are done.
 fn stage(progress: Progress, i: u64, j: u64) -> u64
     requires { (j ≤ i) × (i ≤ 8) }
-    ensures { result ≡ stageOf progress i j }
+    ensures { result ≡ stage_of progress i j }
 {
     let at = target_place(i, j);
     let stages = progress.stages;
@@ -32,7 +32,7 @@ fn stage(progress: Progress, i: u64, j: u64) -> u64
 
 // Whether a step of this name is one of the steps of k blocks and the last: 21 where it is not.
 pub fn is_step(k: u64, name: StepName) -> bool
-    ensures { result ≡ isStep k (stepOfName name) }
+    ensures { result ≡ is_step k (step_of_name name) }
 {
     match name {
         StepName::S(i, j, h) => (h < j) & ((j <= i) & (i <= k)),
@@ -43,8 +43,8 @@ pub fn is_step(k: u64, name: StepName) -> bool
 
 // Whether the step is done: 23 where it is.
 pub fn is_done(progress: Progress, name: StepName) -> bool
-    requires { IsStep 8 (stepOfName name) }
-    ensures { result ≡ done (stageOf progress) (stepOfName name) }
+    requires { IsStep 8 (step_of_name name) }
+    ensures { result ≡ done (stage_of progress) (step_of_name name) }
 {
     match name {
         StepName::S(i, j, h) => h < stage(progress, i, j),
@@ -55,8 +55,8 @@ pub fn is_done(progress: Progress, name: StepName) -> bool
 
 // Whether its forerunners are: 24 where they are not. The subtraction before it is, or there is none, where the target's stage is at least its number.
 pub fn forerunners_done(progress: Progress, name: StepName) -> bool
-    requires { IsStep 8 (stepOfName name) }
-    ensures { result ≡ all (done (stageOf progress)) (forerunners (stepOfName name)) }
+    requires { IsStep 8 (step_of_name name) }
+    ensures { result ≡ all (done (stage_of progress)) (forerunners (step_of_name name)) }
 {
     match name {
         StepName::S(i, j, h) => {
@@ -77,7 +77,7 @@ pub fn forerunners_done(progress: Progress, name: StepName) -> bool
 // The first of 21, 23 and 24 that a name meets, 0 where the step is ready.
 fn name_fault(k: u64, progress: Progress, name: StepName) -> u64
     requires { k ≤ 8 }
-    ensures { result ≡ nameFault (isStep k (stepOfName name)) (done (stageOf progress) (stepOfName name)) (all (done (stageOf progress)) (forerunners (stepOfName name))) }
+    ensures { result ≡ name_fault (is_step k (step_of_name name)) (done (stage_of progress) (step_of_name name)) (all (done (stage_of progress)) (forerunners (step_of_name name))) }
 {
     if is_step(k, name) {
         if is_done(progress, name) {
@@ -94,7 +94,7 @@ fn name_fault(k: u64, progress: Progress, name: StepName) -> u64
 // The same after 22: no update is under way.
 pub fn fault(k: u64, progress: Progress, name: StepName) -> u64
     requires { k ≤ 8 }
-    ensures { result ≡ faultOf k progress (stepOfName name) }
+    ensures { result ≡ fault_of k progress (step_of_name name) }
 {
     let state = progress.state;
     match state {

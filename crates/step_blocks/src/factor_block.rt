@@ -5,7 +5,7 @@ ghost use Rattle.storage.specs.Placed.{Lies};
 ghost use Rattle.step_order.specs.Steps.{IsStep, C};
 ghost use Rattle.layout.specs.declared.FactorKind.TheVariants.{Packed};
 ghost use Rattle.heading_format.specs.Fits.{Fits};
-ghost use Rattle.block_places.specs.Working.{asFactor};
+ghost use Rattle.block_places.specs.Working.{as_factor};
 ghost use Rattle.step_blocks.specs.factor_logs.Factors.{BlockFactored, Factors};
 
 use crate::factor_logs;
@@ -16,8 +16,8 @@ use storage::Block;
 
 // C on block b, by its kind.
 fn factor_block(doubles: &mut [f64], kind: FactorKind, b: Block) -> Pivots
-    requires { Lies (length doubles.old) (asFactor kind b) × (kind ≡ Packed → b.rows ≤ 316) }
-    ensures { BlockFactored (asFactor kind b) doubles.old doubles.new result }
+    requires { Lies (length doubles.old) (as_factor kind b) × (kind ≡ Packed → b.rows ≤ 316) }
+    ensures { BlockFactored (as_factor kind b) doubles.old doubles.new result }
 {
     match kind {
         FactorKind::Diagonal => re_factor::chol_diagonal(doubles, b),

@@ -2,9 +2,9 @@
 ghost use Rattle.std.specs.Prelude.{◌≡◌, length};
 ghost use Rattle.storage.specs.Part.{store};
 ghost use Rattle.step_order.specs.Steps.{S, IsStep};
-ghost use Rattle.layout.specs.Shapes.{workingAt};
+ghost use Rattle.layout.specs.Shapes.{working_at};
 ghost use Rattle.heading_format.specs.Fits.{Fits};
-ghost use Rattle.update.specs.Calls.{madeBy};
+ghost use Rattle.update.specs.Calls.{made_by};
 
 use crate::{subtract_dense, subtract_square};
 use block_places::block_kinds;
@@ -13,7 +13,7 @@ use layout::{FactorKind, Layout};
 // S(i, j, x) on a workspace: its own block by its rule, nothing else.
 pub fn subtract(layout: Layout, heading: &[u32], doubles: &mut [f64], i: u64, j: u64, x: u64)
     requires { Fits layout heading.now (length doubles.old) × IsStep layout.k (S i j x) }
-    ensures { doubles.new ≡ store (workingAt layout i j) (madeBy heading.now doubles.old (S i j x)) doubles.old }
+    ensures { doubles.new ≡ store (working_at layout i j) (made_by heading.now doubles.old (S i j x)) doubles.old }
 {
     if j == layout.k {
         subtract_dense::subtract_last_block(layout, doubles, x);

@@ -6,26 +6,26 @@ use mathlib.Core.List.{[], ◌∷◌}
 use mathlib.Core.Option.{none, some}
 use native.Mathlib.Decide.{ℕ_discrete}
 use lib.Dec.{eqb}
-use Rattle.step_order.specs.Steps.{S, C, T, forerunners, rustOrder, stepCount}
-use Rattle.step_order.specs.Elimination.{Rules, value, final, total, refusedBefore, refusedAt}
-use Rattle.step_order.specs.Progress.{all, join, stepsLeft, ready, begun}
+use Rattle.step_order.specs.Steps.{S, C, T, forerunners, rust_order, step_count}
+use Rattle.step_order.specs.Elimination.{Rules, value, final, total, refused_before, refused_at}
+use Rattle.step_order.specs.Progress.{all, join, steps_left, ready, begun}
 use Rattle.step_order.specs.Outcome.{stopped, run}
 
 -- Two blocks have four steps.
-pub of_two : rustOrder 1 ≡ C 0 ∷ T 1 0 ∷ S 1 1 0 ∷ C 1 ∷ []
-unfolding rustOrder
+pub of_two : rust_order 1 ≡ C 0 ∷ T 1 0 ∷ S 1 1 0 ∷ C 1 ∷ []
+unfolding rust_order
 of_two = refl
 
-pub count-two : stepCount 2 ≡ 4
-count-two = refl
+pub count_two : step_count 2 ≡ 4
+count_two = refl
 
 -- Three blocks have ten.
-pub of_three : rustOrder 2 ≡ C 0 ∷ T 1 0 ∷ T 2 0 ∷ S 1 1 0 ∷ C 1 ∷ S 2 1 0 ∷ T 2 1 ∷ S 2 2 0 ∷ S 2 2 1 ∷ C 2 ∷ []
-unfolding rustOrder
+pub of_three : rust_order 2 ≡ C 0 ∷ T 1 0 ∷ T 2 0 ∷ S 1 1 0 ∷ C 1 ∷ S 2 1 0 ∷ T 2 1 ∷ S 2 2 0 ∷ S 2 2 1 ∷ C 2 ∷ []
+unfolding rust_order
 of_three = refl
 
-pub count-three : stepCount 3 ≡ 10
-count-three = refl
+pub count_three : step_count 3 ≡ 10
+count_three = refl
 
 -- At the start C(0) is ready and T(1,0) is not, by the stages and by the set.
 pub first : (ready (λ i j. 0) (C 0) ≡ true) × (all (λ s. false) (forerunners (C 0)) ≡ true)
@@ -44,9 +44,9 @@ unfolding ℕ_discrete
 both = (refl, refl)
 
 -- Right after begin all ten are left; after C(0) nine.
-pub left-three : (stepsLeft 2 (λ s. false) ≡ 10) × (stepsLeft 2 (join (λ s. false) (C 0)) ≡ 9)
-unfolding rustOrder ℕ_discrete
-left-three = (refl, refl)
+pub left_three : (steps_left 2 (λ s. false) ≡ 10) × (steps_left 2 (join (λ s. false) (C 0)) ≡ 9)
+unfolding rust_order ℕ_discrete
+left_three = (refl, refl)
 
 -- A toy: whole numbers for blocks, and a pivot of zero is refused in row 0.
 abbrev toy : Rules
@@ -58,13 +58,13 @@ toy =
       pivots = λ j x. cond (eqb x 0) (some 0) none;
       factor = λ j x. x;
       solve = λ i j x f. x;
-      emptySum = 0;
+      empty_sum = 0;
       logs = λ j t x. t + x;
     }
 
 -- Blocks (0,0), (1,0), (1,1) of 1, 1, 1 leave 1 - 1 · 1 in C(1), and 1, 2, 9 leave 9 - 2 · 2.
-pub singular : (run toy (begun toy (λ i j. 1)) (rustOrder 1) ≡ stopped 1 0) × (refusedAt toy 1 (λ i j. 1) ≡ some (1, 0))
-unfolding rustOrder run refusedBefore value
+pub singular : (run toy (begun toy (λ i j. 1)) (rust_order 1) ≡ stopped 1 0) × (refused_at toy 1 (λ i j. 1) ≡ some (1, 0))
+unfolding rust_order run refused_before value
 singular = (refl, refl)
 
 pub regular : (final toy (λ i j. cond (eqb i j) (1 + 8 * i) 2) 1 1 ≡ 5) × (total toy (λ i j. cond (eqb i j) (1 + 8 * i) 2) 2 ≡ 6)

@@ -8,16 +8,16 @@ use native.Mathlib.Omega.{arith}
 use borrow.Author.Tests.{lt-ltb, le-ltb, eq-eqb, ne_eqb}
 use Rattle.step_order.specs.Steps.{Step, S, C, T, row, col, index, IsStep}
 use Rattle.step_order.specs.Elimination.{Rules, column, value, final, total}
-use Rattle.step_order.specs.Progress.{advance, Bounded, Sources, Ready, State, begun, made, summed, refusedNow, moved}
-use Rattle.step_order.proofs.Tables.{at, put_all, in-range}
+use Rattle.step_order.specs.Progress.{advance, Bounded, Sources, Ready, State, begun, made, summed, refused_now, moved}
+use Rattle.step_order.proofs.Tables.{at, put_all, in_range}
 
 -- Begin has at most the steps that there are, and a step keeps to that.
-pub bounded-begun : (k : ℕ) → Bounded k (λ i j. 0)
-bounded-begun k i j l m = omega arith
+pub bounded_begun : (k : ℕ) → Bounded k (λ i j. 0)
+bounded_begun k i j l m = omega arith
 
-pub bounded-moved : (k : ℕ) (g : ℕ → ℕ → ℕ) → Bounded k g → (s : Step) → IsStep k s → Bounded k (advance g s)
-bounded-moved k g most s n a b l m =
-    put_all (λ (i j x : ℕ). x ≤ suc j) g (row s) (col s) (suc (index s)) a b (λ x y. omega (arith, in-range k s n)) (λ o. most a b l m)
+pub bounded_moved : (k : ℕ) (g : ℕ → ℕ → ℕ) → Bounded k g → (s : Step) → IsStep k s → Bounded k (advance g s)
+bounded_moved k g most s n a b l m =
+    put_all (λ (i j x : ℕ). x ≤ suc j) g (row s) (col s) (suc (index s)) a b (λ x y. omega (arith, in_range k s n)) (λ o. most a b l m)
 
 -- The invariant of an update: every block is at the value of its stage, every done step was ready, and the C that are done are the first `count` of them, none with a refused pivot; the sum is theirs.
 pub record Held (R : Rules) (k : ℕ) (start : ℕ → ℕ → R.Block) (u : State R) : Type 0 where
@@ -32,11 +32,11 @@ pub record Held (R : Rules) (k : ℕ) (start : ℕ → ℕ → R.Block) (u : Sta
 
 module _ (R : Rules) (k : ℕ) (start : ℕ → ℕ → R.Block) where
   -- Begin has it.
-  pub held-begun : Held R k start (begun R start)
+  pub held_begun : Held R k start (begun R start)
   unfolding value total
-  held-begun =
+  held_begun =
       record {
-        most = bounded-begun k;
+        most = bounded_begun k;
         blocks = λ i j a b. refl;
         kept = λ i j h a b c. absurd (omega arith);
         count = 0;
@@ -92,7 +92,7 @@ module _ (R : Rules) (k : ℕ) (start : ℕ → ℕ → R.Block) where
       -- what is finished stays so
       stays : (a b : ℕ) → u.stage a b ≡ suc b → (moved R s u).stage a b ≡ suc b
       stays a b e =
-          ⊎_elim (λ w. absurd (omega (arith, in-range k s n, r.0, ap₂ u.stage w.0 w.1))) (λ w. rw w.0 e) (at a b (row s) (col s))
+          ⊎_elim (λ w. absurd (omega (arith, in_range k s n, r.0, ap₂ u.stage w.0 w.1))) (λ w. rw w.0 e) (at a b (row s) (col s))
 
       kept_on : (a b h : ℕ) → b ≤ a → a ≤ k → h < (moved R s u).stage a b → Sources u.stage a b h
       kept_on a b h l m e =
@@ -108,21 +108,21 @@ module _ (R : Rules) (k : ℕ) (start : ℕ → ℕ → R.Block) where
     counts (C j) = suc H.count
     counts (T i j) = H.count
 
-    counted-on : (s : Step) → IsStep k s → Ready u.stage s → (a : ℕ) → a ≤ k → (a < counts s) ↔ ((moved R s u).stage a a ≡ suc a)
+    counted_on : (s : Step) → IsStep k s → Ready u.stage s → (a : ℕ) → a ≤ k → (a < counts s) ↔ ((moved R s u).stage a a ≡ suc a)
     unfolding counts
-    counted-on (S i j h) n r a l =
+    counted_on (S i j h) n r a l =
         ⊎_elim
         (λ w. rw (w.0, ← w.0, w.1, eq-eqb j j refl)
         (λ c. absurd (omega (arith, (H.counted a l).0 (omega arith), ap₂ u.stage w.0 w.1, r.0)), λ e. absurd (omega arith)))
         (λ w. rw w.0 (H.counted a l))
         (at a a i j)
-    counted-on (C j) n r a l =
+    counted_on (C j) n r a l =
         ⊎_elim
         (λ w. rw (w.0, eq-eqb j j refl) (λ c. refl, λ e. omega (arith, forced j n r.0)))
         (λ w. rw w.0
         (λ c. (H.counted a l).0 (let d : a ≢ j = λ e. w.1 e e in omega (arith, forced j n r.0)), λ e. omega (arith, (H.counted a l).1 e)))
         (at a a j j)
-    counted-on (T i j) n r a l = ⊎_elim (λ w. absurd (omega arith)) (λ w. rw w.0 (H.counted a l)) (at a a i j)
+    counted_on (T i j) n r a l = ⊎_elim (λ w. absurd (omega arith)) (λ w. rw w.0 (H.counted a l)) (at a a i j)
 
     few_on : (s : Step) → IsStep k s → Ready u.stage s → counts s ≤ suc k
     unfolding counts
@@ -130,7 +130,7 @@ module _ (R : Rules) (k : ℕ) (start : ℕ → ℕ → R.Block) where
     few_on (C j) n r = omega (arith, forced j n r.0)
     few_on (T i j) n r = H.few
 
-    passed_on : (s : Step) → IsStep k s → Ready u.stage s → refusedNow R s u ≡ none → (a : ℕ) → a < counts s → R.pivots a (value R start a a a) ≡ none
+    passed_on : (s : Step) → IsStep k s → Ready u.stage s → refused_now R s u ≡ none → (a : ℕ) → a < counts s → R.pivots a (value R start a a a) ≡ none
     unfolding counts
     passed_on (S i j h) n r p a l = H.passed a l
     passed_on (C j) n r p a l =
@@ -138,30 +138,30 @@ module _ (R : Rules) (k : ℕ) (start : ℕ → ℕ → R.Block) where
         (λ m. let e : a ≡ j = omega (arith, forced j n r.0) in rw (e, ← (at_stage j j j (omega arith) n r.0)) p)
     passed_on (T i j) n r p a l = H.passed a l
 
-    summed-on : (s : Step) → IsStep k s → Ready u.stage s → summed R s u ≡ total R start (counts s)
+    summed_on : (s : Step) → IsStep k s → Ready u.stage s → summed R s u ≡ total R start (counts s)
     unfolding counts total
-    summed-on (S i j h) n r = H.summed
-    summed-on (C j) n r = rw (forced j n r.0) (cc (step_value (C j) n r, H.summed, ap (total R start) (forced j n r.0)))
-    summed-on (T i j) n r = H.summed
+    summed_on (S i j h) n r = H.summed
+    summed_on (C j) n r = rw (forced j n r.0) (cc (step_value (C j) n r, H.summed, ap (total R start) (forced j n r.0)))
+    summed_on (T i j) n r = H.summed
 
     -- A ready step that refuses no pivot keeps it.
-    pub held_moved : (s : Step) → IsStep k s → Ready u.stage s → refusedNow R s u ≡ none → Held R k start (moved R s u)
+    pub held_moved : (s : Step) → IsStep k s → Ready u.stage s → refused_now R s u ≡ none → Held R k start (moved R s u)
     held_moved s n r p =
         record {
-          most = bounded-moved k u.stage H.most s n;
+          most = bounded_moved k u.stage H.most s n;
           blocks = λ a b l m. ⊎_elim (λ w. rw (w.0, w.1, eq-eqb (row s) (row s) refl, eq-eqb (col s) (col s) refl) (step_value s n r)) (λ w. rw w.0 (H.blocks a b l m)) (at a b (row s) (col s));
           kept = λ a b h l m e. let w = kept_on s n r a b h l m e in (λ x. stays s n r a h (w.0 x), λ x. stays s n r b h (w.1 x));
           count = counts s;
           few = few_on s n r;
-          counted = counted-on s n r;
+          counted = counted_on s n r;
           passed = passed_on s n r p;
-          summed = summed-on s n r;
+          summed = summed_on s n r;
         }
 
     -- When every step is done, the blocks are the working factor and the sum is that of all factors, whatever the order was; no pivot was refused.
-    pub held-done : ((i j : ℕ) → j ≤ i → i ≤ k → u.stage i j ≡ suc j)
+    pub held_done : ((i j : ℕ) → j ≤ i → i ≤ k → u.stage i j ≡ suc j)
         → ((i j : ℕ) → j ≤ i → i ≤ k → u.block i j ≡ final R start i j) × (u.sum ≡ total R start (suc k)) × ((j : ℕ) → j ≤ k → R.pivots j (value R start j j j) ≡ none)
-    held-done d =
+    held_done d =
         let e : H.count ≡ suc k = omega (arith, H.few, (H.counted k (omega arith)).1 (d k k (omega arith) (omega arith))) in
         (λ i j a b. at_stage i j (suc j) a b (d i j a b), H.summed ∙ ap (total R start) e, λ j l. H.passed j (omega arith))
 

@@ -6,14 +6,14 @@ use mathlib.Core.List.{List, [], ◌∷◌, ◌++◌}
 use native.Mathlib.Decide.{dec_lt}
 use native.Mathlib.Nat.{zero-add, add-zero, add-suc, suc-add}
 use native.Mathlib.Omega.{arith}
-use Rattle.step_order.specs.Steps.{Step, S, C, T, row, col, index, IsStep, each, subtractions, columnSteps, rustOrder}
+use Rattle.step_order.specs.Steps.{Step, S, C, T, row, col, index, IsStep, each, subtractions, column_steps, rust_order}
 use Rattle.step_order.specs.Progress.{put, advance, Sources, Ready}
-use Rattle.step_order.proofs.Tables.{put-here, put-else}
+use Rattle.step_order.proofs.Tables.{put_here, put_else}
 
 -- the stages after the steps of a list
-abbrev pub advanceAll : (ℕ → ℕ → ℕ) → List Step → ℕ → ℕ → ℕ
-advanceAll g [] = g
-advanceAll g (s ∷ l) = advanceAll (advance g s) l
+abbrev pub advance_all : (ℕ → ℕ → ℕ) → List Step → ℕ → ℕ → ℕ
+advance_all g [] = g
+advance_all g (s ∷ l) = advance_all (advance g s) l
 
 -- each step of the list is ready by the stages when its turn comes
 abbrev pub Runs : ℕ → (ℕ → ℕ → ℕ) → List Step → Type 0
@@ -23,7 +23,7 @@ Runs k g (s ∷ l) = IsStep k s × Ready g s × Runs k (advance g s) l
 module _ (k : ℕ) where
   -- from stages with P the list runs, to stages with Q
   Takes : ((ℕ → ℕ → ℕ) → Type 0) → List Step → ((ℕ → ℕ → ℕ) → Type 0) → Type 0
-  Takes P l Q = (g : ℕ → ℕ → ℕ) → P g → Runs k g l × Q (advanceAll g l)
+  Takes P l Q = (g : ℕ → ℕ → ℕ) → P g → Runs k g l × Q (advance_all g l)
 
   then : (P Q X : (ℕ → ℕ → ℕ) → Type 0) (l m : List Step) → Takes P l Q → Takes Q m X → Takes P (l ++ m) X
   unfolding Takes
@@ -31,7 +31,7 @@ module _ (k : ℕ) where
   then P Q X (s ∷ l) m a b g p =
       let t = a g p in
       let h : ℕ → ℕ → ℕ = advance g s in
-      let rest = then (λ f. f ≡ h) Q X l m (λ f e. subst (λ (x : ℕ → ℕ → ℕ). Runs k x l × Q (advanceAll x l)) (sym e) (t.0.2, t.1)) b h refl in
+      let rest = then (λ f. f ≡ h) Q X l m (λ f e. subst (λ (x : ℕ → ℕ → ℕ). Runs k x l × Q (advance_all x l)) (sym e) (t.0.2, t.1)) b h refl in
       ((t.0.0, t.0.1, rest.0), rest.1)
 
   loop : (P : ℕ → (ℕ → ℕ → ℕ) → Type 0) (f : ℕ → List Step) (a n : ℕ)
@@ -57,11 +57,11 @@ module _ (k : ℕ) where
   counted : (i j h : ℕ) (g : ℕ → ℕ → ℕ) → Reached i j h g → Reached i j (suc h) (put g i j (suc h))
   counted i j h g r =
       record {
-        here = put-here g i j (suc h);
-        past = λ a b l m n. put-else g i j (suc h) a b (λ x y. omega arith) ∙ r.past a b l m n;
-        above = λ a l m. put-else g i j (suc h) a j (λ x y. omega arith) ∙ r.above a l m;
-        below = λ a l. put-else g i j (suc h) a j (λ x y. omega arith) ∙ r.below a l;
-        later = λ a b l. put-else g i j (suc h) a b (λ x y. omega arith) ∙ r.later a b l;
+        here = put_here g i j (suc h);
+        past = λ a b l m n. put_else g i j (suc h) a b (λ x y. omega arith) ∙ r.past a b l m n;
+        above = λ a l m. put_else g i j (suc h) a j (λ x y. omega arith) ∙ r.above a l m;
+        below = λ a l. put_else g i j (suc h) a j (λ x y. omega arith) ∙ r.below a l;
+        later = λ a b l. put_else g i j (suc h) a b (λ x y. omega arith) ∙ r.later a b l;
       }
 
   sources : (i j h : ℕ) (g : ℕ → ℕ → ℕ) → Reached i j h g → h ≤ j → j ≤ i → i ≤ k → Sources g i j h
@@ -80,8 +80,8 @@ module _ (k : ℕ) where
         later = r.later;
       }
 
-  next-column : (j : ℕ) (g : ℕ → ℕ → ℕ) → Reached (suc k) j 0 g → Reached (suc j) (suc j) 0 g
-  next-column j g r =
+  next_column : (j : ℕ) (g : ℕ → ℕ → ℕ) → Reached (suc k) j 0 g → Reached (suc j) (suc j) 0 g
+  next_column j g r =
       record {
         here = r.later (suc j) (suc j) (omega arith);
         past = λ a b l m n. by_cases (dec_lt b j) (r.past a b l m) (λ y. let e : b ≡ j = omega arith in rw e (r.above a (omega arith) (omega arith)));
@@ -102,22 +102,22 @@ module _ (k : ℕ) where
       (one (Reached i j j) (Reached (suc i) j 0) s
       (λ g r. (n, rw (x, y, z) ((r.here, sources i j j g r (omega arith) l m)), rw (x, y, z) (next_row i j _ (counted i j j g r)))))
 
-  a-column : (j : ℕ) → j ≤ k → Takes (Reached j j 0) (columnSteps k j) (Reached (suc j) (suc j) 0)
+  a_column : (j : ℕ) → j ≤ k → Takes (Reached j j 0) (column_steps k j) (Reached (suc j) (suc j) 0)
   unfolding Takes
-  a-column j m g p =
+  a_column j m g p =
       let e : suc j + (k - j) ≡ suc k = omega arith in
       let t =
       then (Reached j j 0) (Reached (suc j) j 0) (Reached (suc j + (k - j)) j 0) (subtractions j j ++ (C j ∷ []))
       (each (λ i. subtractions i j ++ (T i j ∷ [])) (suc j) (k - j)) (block j j (C j) (omega arith) m m refl refl refl)
       (loop (λ i. Reached i j 0) (λ i. subtractions i j ++ (T i j ∷ [])) (suc j) (k - j)
       (λ i x y. block i j (T i j) (omega arith) (omega arith) (omega arith) refl refl refl)) g p in
-      (t.0, next-column j _ (rw e at t.1))
+      (t.0, next_column j _ (rw e at t.1))
 
-  whole : Runs k (λ a b. 0) (rustOrder k) × Reached (suc k) (suc k) 0 (advanceAll (λ a b. 0) (rustOrder k))
-  unfolding Takes rustOrder
+  whole : Runs k (λ a b. 0) (rust_order k) × Reached (suc k) (suc k) 0 (advance_all (λ a b. 0) (rust_order k))
+  unfolding Takes rust_order
   whole =
       rw zero-add at
-      (loop (λ j. Reached j j 0) (columnSteps k) 0 (suc k) (λ j x y. a-column j (omega arith)) (λ a b. 0)
+      (loop (λ j. Reached j j 0) (column_steps k) 0 (suc k) (λ j x y. a_column j (omega arith)) (λ a b. 0)
       (record {
         here = refl;
         past = λ a b l m n. absurd (omega arith);
@@ -127,9 +127,9 @@ module _ (k : ℕ) where
       }))
 
   -- In the Rust's order each step is ready when its turn comes,
-  pub rust-runs : Runs k (λ a b. 0) (rustOrder k)
-  rust-runs = whole.0
+  pub rust_runs : Runs k (λ a b. 0) (rust_order k)
+  rust_runs = whole.0
 
   -- and at its end every block is finished.
-  pub rust-finishes : (i j : ℕ) → j ≤ i → i ≤ k → advanceAll (λ a b. 0) (rustOrder k) i j ≡ suc j
-  rust-finishes i j l m = whole.1.past i j l m (omega arith)
+  pub rust_finishes : (i j : ℕ) → j ≤ i → i ≤ k → advance_all (λ a b. 0) (rust_order k) i j ≡ suc j
+  rust_finishes i j l m = whole.1.past i j l m (omega arith)

@@ -8,12 +8,12 @@ use native.Mathlib.Decide.{dec_lt}
 use native.Mathlib.Omega.{arith}
 use lib.Dec.{ltb, leb, eqb}
 use borrow.Author.Tests.{lt-ltb, le-ltb, le-leb, eq-eqb, ne_eqb, eqb-true, ltb-true, ltb-false, leb-true}
-use Rattle.step_order.specs.Steps.{Step, S, C, T, row, col, index, IsStep, isStep, forerunners}
+use Rattle.step_order.specs.Steps.{Step, S, C, T, row, col, index, IsStep, is_step, forerunners}
 use Rattle.step_order.specs.Elimination.{Rules}
-use Rattle.step_order.specs.Progress.{all, join, joinAll, Order, advance, done, Represents, Bounded, ready, Sources, Ready, State}
-use Rattle.step_order.proofs.Tables.{at, put-here, join-all, in-range, step-unique}
-use Rattle.step_order.proofs.Invariant.{bounded-moved, Held}
-use Rattle.step_order.proofs.RustOrder.{advanceAll, Runs}
+use Rattle.step_order.specs.Progress.{all, join, join_all, Order, advance, done, Represents, Bounded, ready, Sources, Ready, State}
+use Rattle.step_order.proofs.Tables.{at, put_here, join_all_lem, in_range, step_unique}
+use Rattle.step_order.proofs.Invariant.{bounded_moved, Held}
+use Rattle.step_order.proofs.RustOrder.{advance_all, Runs}
 
 -- both parts of a true conjunction
 pub both_true : (a b : Bool) → (a && b) ≡ true → (a ≡ true) × (b ≡ true)
@@ -21,29 +21,29 @@ both_true true b e = (refl, e)
 both_true false b e = absurd (let z : ◌≡◌ {A = ℕ} 0 1 = cc in omega arith)
 
 -- The test of a name is the fact.
-pub named-iff : (k : ℕ) (s : Step) → (isStep k s ≡ true) ↔ IsStep k s
-named-iff k (S i j h) = (
+pub named_iff : (k : ℕ) (s : Step) → (is_step k s ≡ true) ↔ IsStep k s
+named_iff k (S i j h) = (
   λ e. let p = both_true (ltb h j) (leb j i && leb i k) e in
       let q = both_true (leb j i) (leb i k) p.1 in
       (ltb-true h j p.0, leb-true j i q.0, leb-true i k q.1),
   λ n. rw (lt-ltb h j n.0, le-leb j i n.1, le-leb i k n.2),
 )
-named-iff k (C j) = (leb-true j k, le-leb j k)
-named-iff k (T i j) = (
+named_iff k (C j) = (leb-true j k, le-leb j k)
+named_iff k (T i j) = (
   λ e. let p = both_true (ltb j i) (leb i k) e in (ltb-true j i p.0, leb-true i k p.1),
   λ n. rw (lt-ltb j i n.0, le-leb i k n.1),
 )
 
 -- The test of readiness is the fact.
-pub ready-iff : (k : ℕ) (g : ℕ → ℕ → ℕ) (s : Step) → IsStep k s → (ready g s ≡ true) ↔ Ready g s
-ready-iff k g (S i j h) n = (
+pub ready_iff : (k : ℕ) (g : ℕ → ℕ → ℕ) (s : Step) → IsStep k s → (ready g s ≡ true) ↔ Ready g s
+ready_iff k g (S i j h) n = (
   λ e. let p = both_true (eqb (g i j) h) (eqb (g i h) (suc h) && eqb (g j h) (suc h)) e in
       let q = both_true (eqb (g i h) (suc h)) (eqb (g j h) (suc h)) p.1 in
       (eqb-true (g i j) h p.0, (λ l. eqb-true (g i h) (suc h) q.0, λ l. eqb-true (g j h) (suc h) q.1)),
   λ r. rw (eq-eqb (g i j) h r.0, eq-eqb (g i h) (suc h) (r.1.0 n.0), eq-eqb (g j h) (suc h) (r.1.1 (omega arith))),
 )
-ready-iff k g (C j) n = (λ e. (eqb-true (g j j) j e, (λ l. absurd (omega arith), λ l. absurd (omega arith))), λ r. eq-eqb (g j j) j r.0)
-ready-iff k g (T i j) n = (
+ready_iff k g (C j) n = (λ e. (eqb-true (g j j) j e, (λ l. absurd (omega arith), λ l. absurd (omega arith))), λ r. eq-eqb (g j j) j r.0)
+ready_iff k g (T i j) n = (
   λ e. let p = both_true (eqb (g i j) j) (eqb (g j j) (suc j)) e in
       (eqb-true (g i j) j p.0, (λ l. absurd (omega arith), λ l. eqb-true (g j j) (suc j) p.1)),
   λ r. rw (eq-eqb (g i j) j r.0, eq-eqb (g j j) (suc j) (r.1.1 n.0)),
@@ -56,17 +56,17 @@ upto x g l =
     (λ m. rw (le-ltb x g (omega arith), ne_eqb g (suc x) (λ e. omega arith)))
 
 -- At the start no step is in the set.
-pub represents-begun : (k : ℕ) → Represents k (λ i j. 0) (λ s. false)
-represents-begun k s n = sym (le-ltb (index s) 0 (omega arith))
+pub represents_begun : (k : ℕ) → Represents k (λ i j. 0) (λ s. false)
+represents_begun k s n = sym (le-ltb (index s) 0 (omega arith))
 
 -- Only the stages of the lower triangle, up to k, count.
-pub represents-same : (k : ℕ) (f g : ℕ → ℕ → ℕ) (d : Step → Bool) → ((i j : ℕ) → j ≤ i → i ≤ k → f i j ≡ g i j) → Represents k f d → Represents k g d
-represents-same k f g d e is s n = is s n ∙ ap (ltb (index s)) (e (row s) (col s) (in-range k s n).1 (in-range k s n).2)
+pub represents_same : (k : ℕ) (f g : ℕ → ℕ → ℕ) (d : Step → Bool) → ((i j : ℕ) → j ≤ i → i ≤ k → f i j ≡ g i j) → Represents k f d → Represents k g d
+represents_same k f g d e is s n = is s n ∙ ap (ltb (index s)) (e (row s) (col s) (in_range k s n).1 (in_range k s n).2)
 
 module _ (k : ℕ) (g : ℕ → ℕ → ℕ) (most : Bounded k g) (d : Step → Bool) (is : Represents k g d) where
   -- of an undone step, the forerunners' test is the test by the stages
-  after-ready : (s : Step) → IsStep k s → done g s ≡ false → all d (forerunners s) ≡ ready g s
-  after-ready (S i j zero) n e =
+  after_ready : (s : Step) → IsStep k s → done g s ≡ false → all d (forerunners s) ≡ ready g s
+  after_ready (S i j zero) n e =
       let z : g i j ≡ 0 = omega (arith, ltb-false 0 (g i j) e) in
       rw (
         is (T i 0) (omega arith),
@@ -76,7 +76,7 @@ module _ (k : ℕ) (g : ℕ → ℕ → ℕ) (most : Bounded k g) (d : Step → 
         eq-eqb (g i j) 0 z,
         and-true,
       )
-  after-ready (S i j (suc h)) n e =
+  after_ready (S i j (suc h)) n e =
       rw (
         is (S i j h) (omega arith),
         is (T i (suc h)) (omega arith),
@@ -86,13 +86,13 @@ module _ (k : ℕ) (g : ℕ → ℕ → ℕ) (most : Bounded k g) (d : Step → 
         upto (suc h) (g j (suc h)) (most j (suc h) (omega arith) (omega arith)),
         and-true,
       )
-  after-ready (C zero) n e = sym (eq-eqb (g 0 0) 0 (omega (arith, ltb-false 0 (g 0 0) e)))
-  after-ready (C (suc j)) n e =
+  after_ready (C zero) n e = sym (eq-eqb (g 0 0) 0 (omega (arith, ltb-false 0 (g 0 0) e)))
+  after_ready (C (suc j)) n e =
       rw (is (S (suc j) (suc j) j) (omega arith), upto j (g (suc j) (suc j)) (ltb-false (suc j) (g (suc j) (suc j)) e), and-true)
-  after-ready (T i zero) n e =
+  after_ready (T i zero) n e =
       let z : g i 0 ≡ 0 = omega (arith, ltb-false 0 (g i 0) e) in
       rw (is (C 0) (omega arith), upto 0 (g 0 0) (most 0 0 (omega arith) (omega arith)), eq-eqb (g i 0) 0 z, and-true)
-  after-ready (T i (suc j)) n e =
+  after_ready (T i (suc j)) n e =
       rw (
         is (C (suc j)) (omega arith),
         is (S i (suc j) j) (omega arith),
@@ -103,21 +103,21 @@ module _ (k : ℕ) (g : ℕ → ℕ → ℕ) (most : Bounded k g) (d : Step → 
       (and_comm (eqb (g (suc j) (suc j)) (suc (suc j))) (eqb (g i (suc j)) (suc j)))
 
   -- A step is ready by the stages exactly when it is not in the set and its forerunners are.
-  pub ready-after : (s : Step) → IsStep k s → Ready g s ↔ ((d s ≡ false) × (all d (forerunners s) ≡ true))
-  ready-after s n = (
+  pub ready_after : (s : Step) → IsStep k s → Ready g s ↔ ((d s ≡ false) × (all d (forerunners s) ≡ true))
+  ready_after s n = (
     λ r. let e : done g s ≡ false = le-ltb (index s) (g (row s) (col s)) (omega (arith, r.0)) in
-        (is s n ∙ e, after-ready s n e ∙ (ready-iff k g s n).1 r),
-    λ p. (ready-iff k g s n).0 (sym (after-ready s n (sym (is s n) ∙ p.0)) ∙ p.1),
+        (is s n ∙ e, after_ready s n e ∙ (ready_iff k g s n).1 r),
+    λ p. (ready_iff k g s n).0 (sym (after_ready s n (sym (is s n) ∙ p.0)) ∙ p.1),
   )
 
   -- A ready step that is done joins the set.
-  pub represents-moved : (s : Step) → IsStep k s → Ready g s → Represents k (advance g s) (join d s)
-  represents-moved s m r t n =
-      join-all (λ x. x ≡ done (advance g s) t) d s t
+  pub represents_moved : (s : Step) → IsStep k s → Ready g s → Represents k (advance g s) (join d s)
+  represents_moved s m r t n =
+      join_all_lem (λ x. x ≡ done (advance g s) t) d s t
       (λ e. sym (here (ap row e) (ap col e) ∙ lt-ltb (index t) (suc (index s)) (omega (arith, ap index e))))
       (λ e. is t n
       ∙ ⊎_elim
-      (λ w. let o : index t ≡ index s → ⊥ = λ z. e (step-unique k t s n m w.0 w.1 z) in
+      (λ w. let o : index t ≡ index s → ⊥ = λ z. e (step_unique k t s n m w.0 w.1 z) in
       sym (here w.0 w.1
       ∙ rw (w.0, w.1, r.0)
       (by_cases (dec_lt (index t) (index s))
@@ -127,28 +127,28 @@ module _ (k : ℕ) (g : ℕ → ℕ → ℕ) (most : Bounded k g) (d : Step → 
       (at (row t) (col t) (row s) (col s)))
     where
       here : row t ≡ row s → col t ≡ col s → done (advance g s) t ≡ ltb (index t) (suc (index s))
-      here x y = rw (x, y, put-here g (row s) (col s) (suc (index s)))
+      here x y = rw (x, y, put_here g (row s) (col s) (suc (index s)))
 
 -- An order by the set is an order by the stages.
-pub order-runs : (k : ℕ) (l : List Step) (g : ℕ → ℕ → ℕ) → Bounded k g → (d : Step → Bool) → Represents k g d → Order k d l ↔ Runs k g l
-order-runs k [] g most d is = (λ o. tt, λ r. tt)
-order-runs k (s ∷ l) g most d is = (
-  λ o. let r = (ready-after k g most d is s o.0).1 (o.1, o.2) in
-      (o.0, r, (order-runs k l (advance g s) (bounded-moved k g most s o.0) (join d s) (represents-moved k g most d is s o.0 r)).0 o.3),
-  λ q. let p = (ready-after k g most d is s q.0).0 q.1 in
-      (q.0, p.0, p.1, (order-runs k l (advance g s) (bounded-moved k g most s q.0) (join d s) (represents-moved k g most d is s q.0 q.1)).1 q.2),
+pub order_runs : (k : ℕ) (l : List Step) (g : ℕ → ℕ → ℕ) → Bounded k g → (d : Step → Bool) → Represents k g d → Order k d l ↔ Runs k g l
+order_runs k [] g most d is = (λ o. tt, λ r. tt)
+order_runs k (s ∷ l) g most d is = (
+  λ o. let r = (ready_after k g most d is s o.0).1 (o.1, o.2) in
+      (o.0, r, (order_runs k l (advance g s) (bounded_moved k g most s o.0) (join d s) (represents_moved k g most d is s o.0 r)).0 o.3),
+  λ q. let p = (ready_after k g most d is s q.0).0 q.1 in
+      (q.0, p.0, p.1, (order_runs k l (advance g s) (bounded_moved k g most s q.0) (join d s) (represents_moved k g most d is s q.0 q.1)).1 q.2),
 )
 
 -- After the steps of an order the stages stand for the set with these in it.
-pub represents-after : (k : ℕ) (l : List Step) (g : ℕ → ℕ → ℕ) → Bounded k g → (d : Step → Bool) → Represents k g d → Runs k g l → Represents k (advanceAll g l) (joinAll d l)
-represents-after k [] g most d is r = is
-represents-after k (s ∷ l) g most d is r =
-    represents-after k l (advance g s) (bounded-moved k g most s r.0) (join d s) (represents-moved k g most d is s r.0 r.1) r.2
+pub represents_after : (k : ℕ) (l : List Step) (g : ℕ → ℕ → ℕ) → Bounded k g → (d : Step → Bool) → Represents k g d → Runs k g l → Represents k (advance_all g l) (join_all d l)
+represents_after k [] g most d is r = is
+represents_after k (s ∷ l) g most d is r =
+    represents_after k l (advance g s) (bounded_moved k g most s r.0) (join d s) (represents_moved k g most d is s r.0 r.1) r.2
 
 -- In an update every done step's forerunners are done.
 pub held_after : (R : Rules) (k : ℕ) (start : ℕ → ℕ → R.Block) (u : State R) → Held R k start u → (s : Step) → IsStep k s
     → done u.stage s ≡ true → all (done u.stage) (forerunners s) ≡ true
-held_after R k start u H s n e = go u.stage s n (ltb-true (index s) (u.stage (row s) (col s)) e) (λ m. H.kept (row s) (col s) (index s) (in-range k s n).1 (in-range k s n).2 m)
+held_after R k start u H s n e = go u.stage s n (ltb-true (index s) (u.stage (row s) (col s)) e) (λ m. H.kept (row s) (col s) (index s) (in_range k s n).1 (in_range k s n).2 m)
   where
     go : (g : ℕ → ℕ → ℕ) (s : Step) → IsStep k s → index s < g (row s) (col s) → (index s < g (row s) (col s) → Sources g (row s) (col s) (index s)) → all (done g) (forerunners s) ≡ true
     go g (S i j zero) n m f = rw (lt-ltb 0 (g i 0) (omega (arith, (f m).0 n.0)), lt-ltb 0 (g j 0) (omega (arith, (f m).1 (omega arith))))

@@ -4,7 +4,7 @@ use Rattle.std.proofs.Math.Option.{Option, none, some}
 
 -- What the steps compute. S(i,j,h) is `subtract i j h` of blocks (i,j), (i,h), (j,h); C(j) is `factor j` of block (j,j); T(i,j) is `solve i j` of blocks (i,j), (j,j).
 -- `pivots j` of a block is the row of the pivot that C(j) refuses in it, or none; `factor` is total all the same.
--- The logarithms' sum begins at `emptySum`, and `logs j` adds those of factor j to it.
+-- The logarithms' sum begins at `empty_sum`, and `logs j` adds those of factor j to it.
 pub record Rules : Type 1 where
   pub Block : Type 0
   pub Total : Type 0
@@ -12,7 +12,7 @@ pub record Rules : Type 1 where
   pub pivots : ℕ → Block → Option ℕ
   pub factor : ℕ → Block → Block
   pub solve : ℕ → ℕ → Block → Block → Block
-  pub emptySum : Total
+  pub empty_sum : Total
   pub logs : ℕ → Total → Block → Total
 
 -- the first of two, if there is one
@@ -46,14 +46,14 @@ module _ (R : Rules) where
 
   -- The logarithms' sum after C(0), .., C(n - 1) (Record 4).
   unfoldable pub total : (ℕ → ℕ → R.Block) → ℕ → R.Total
-  total start zero = R.emptySum
+  total start zero = R.empty_sum
   total start (suc j) = R.logs j (total start j) (final start j j)
 
   -- The first pivot that is refused in C(0), .., C(n - 1): block and row.
-  unfoldable pub refusedBefore : (ℕ → ℕ → R.Block) → ℕ → Option (ℕ × ℕ)
-  refusedBefore start zero = none
-  refusedBefore start (suc j) = or_else (refusedBefore start j) (in_block j (R.pivots j (value start j j j)))
+  unfoldable pub refused_before : (ℕ → ℕ → R.Block) → ℕ → Option (ℕ × ℕ)
+  refused_before start zero = none
+  refused_before start (suc j) = or_else (refused_before start j) (in_block j (R.pivots j (value start j j j)))
 
   -- What the Rust's order refuses when the last block is k, if it refuses any pivot (Record 5): 26 names it.
-  abbrev pub refusedAt : ℕ → (ℕ → ℕ → R.Block) → Option (ℕ × ℕ)
-  refusedAt k start = refusedBefore start (suc k)
+  abbrev pub refused_at : ℕ → (ℕ → ℕ → R.Block) → Option (ℕ × ℕ)
+  refused_at k start = refused_before start (suc k)

@@ -2,8 +2,8 @@
 use Rattle.std.specs.Prelude.{ℕ, suc, ◌≤◌, ◌<◌, ◌≡◌, Bool, true, false, cond, ◌&&◌, List, [], ◌∷◌, ltb, eqb}
 use Rattle.std.proofs.Math.Option.{Option, none, some}
 use Rattle.std.proofs.Math.Decide.{ℕ_discrete}
-use Rattle.step_order.specs.Steps.{Step, S, C, T, step-discrete, row, col, index, IsStep, forerunners, rustOrder}
-use Rattle.step_order.specs.Elimination.{Rules, refusedAt}
+use Rattle.step_order.specs.Steps.{Step, S, C, T, step-discrete, row, col, index, IsStep, forerunners, rust_order}
+use Rattle.step_order.specs.Elimination.{Rules, refused_at}
 
 -- ---- the set of done steps, as Record 5's book has it
 
@@ -17,9 +17,9 @@ abbrev pub join : (Step → Bool) → Step → Step → Bool
 join d s t = elim (step-discrete ℕ_discrete t s) [ yes e ↦ true | no e ↦ d t ]
 
 -- the set with all steps of the list in it
-abbrev pub joinAll : (Step → Bool) → List Step → Step → Bool
-joinAll d [] = d
-joinAll d (s ∷ l) = joinAll (join d s) l
+abbrev pub join_all : (Step → Bool) → List Step → Step → Bool
+join_all d [] = d
+join_all d (s ∷ l) = join_all (join d s) l
 
 -- how many steps of the list are outside the set
 abbrev pub outside : (Step → Bool) → List Step → ℕ
@@ -27,8 +27,8 @@ outside d [] = 0
 outside d (s ∷ l) = cond (d s) (outside d l) (suc (outside d l))
 
 -- Steps left (Record 5): those outside the set. The Rust's order has every step once, so it counts them.
-abbrev pub stepsLeft : ℕ → (Step → Bool) → ℕ
-stepsLeft k d = outside d (rustOrder k)
+abbrev pub steps_left : ℕ → (Step → Bool) → ℕ
+steps_left k d = outside d (rust_order k)
 
 -- An order of steps, from the set d on: each, when its turn comes, is not in the set and its forerunners are (Record 5: it is ready).
 abbrev pub Order : ℕ → (Step → Bool) → List Step → Type 0
@@ -86,7 +86,7 @@ module _ (R : Rules) where
 
   -- Begin: no step is done, and the blocks are those that it wrote.
   abbrev pub begun : (ℕ → ℕ → R.Block) → State
-  begun start = record { stage = λ i j. 0; block = start; sum = R.emptySum }
+  begun start = record { stage = λ i j. 0; block = start; sum = R.empty_sum }
 
   -- What step s makes of its target, out of the blocks as they are then (Record 4).
   abbrev pub made : Step → State → R.Block
@@ -101,16 +101,16 @@ module _ (R : Rules) where
   summed (T i j) u = u.sum
 
   -- The row of the pivot that step s refuses, if it does: only C looks at pivots.
-  abbrev pub refusedNow : Step → State → Option ℕ
-  refusedNow (S i j h) u = none
-  refusedNow (C j) u = R.pivots j (u.block j j)
-  refusedNow (T i j) u = none
+  abbrev pub refused_now : Step → State → Option ℕ
+  refused_now (S i j h) u = none
+  refused_now (C j) u = R.pivots j (u.block j j)
+  refused_now (T i j) u = none
 
   -- The row of the pivot that the Rust's order refuses in step s, if it refuses one there.
-  abbrev pub refusedIn : ℕ → (ℕ → ℕ → R.Block) → Step → Option ℕ
-  refusedIn k start (S i j h) = none
-  refusedIn k start (C j) = row_in j (refusedAt R k start)
-  refusedIn k start (T i j) = none
+  abbrev pub refused_in : ℕ → (ℕ → ℕ → R.Block) → Step → Option ℕ
+  refused_in k start (S i j h) = none
+  refused_in k start (C j) = row_in j (refused_at R k start)
+  refused_in k start (T i j) = none
 
   -- The update after an accepted step: its own block, its stage and the sum, nothing else.
   abbrev pub moved : Step → State → State

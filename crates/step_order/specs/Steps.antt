@@ -32,10 +32,10 @@ IsStep k (C j) = j ≤ k
 IsStep k (T i j) = (j < i) × (i ≤ k)
 
 -- The same as a test.
-abbrev pub isStep : ℕ → Step → Bool
-isStep k (S i j h) = ltb h j && (leb j i && leb i k)
-isStep k (C j) = leb j k
-isStep k (T i j) = ltb j i && leb i k
+abbrev pub is_step : ℕ → Step → Bool
+is_step k (S i j h) = ltb h j && (leb j i && leb i k)
+is_step k (C j) = leb j k
+is_step k (T i j) = ltb j i && leb i k
 
 -- A step's forerunners: Record 4's "After".
 abbrev pub forerunners : Step → List Step
@@ -56,15 +56,15 @@ abbrev pub subtractions : ℕ → ℕ → List Step
 subtractions i j = each (λ h. S i j h ∷ []) 0 j
 
 -- The Rust's order (Record 5): j = 0 to k: all S(j,j,h), C(j), then per i > j all S(i,j,h), T(i,j), h and i rising.
-abbrev pub columnSteps : ℕ → ℕ → List Step
-columnSteps k j = subtractions j j ++ (C j ∷ []) ++ each (λ i. subtractions i j ++ (T i j ∷ [])) (suc j) (k - j)
+abbrev pub column_steps : ℕ → ℕ → List Step
+column_steps k j = subtractions j j ++ (C j ∷ []) ++ each (λ i. subtractions i j ++ (T i j ∷ [])) (suc j) (k - j)
 
-unfoldable pub rustOrder : ℕ → List Step
-rustOrder k = each (columnSteps k) 0 (suc k)
+unfoldable pub rust_order : ℕ → List Step
+rust_order k = each (column_steps k) 0 (suc k)
 
 -- The number of steps with K blocks (Record 4).
-abbrev pub stepCount : ℕ → ℕ
-stepCount K = K + K * (K - 1) / 2 + (K - 1) * K * (K + 1) / 6
+abbrev pub step_count : ℕ → ℕ
+step_count K = K + K * (K - 1) / 2 + (K - 1) * K * (K + 1) / 6
 
 -- The list has no step twice.
 abbrev pub Distinct : List Step → Type 0

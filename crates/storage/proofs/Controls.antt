@@ -5,7 +5,7 @@ use mathlib.Core.Bool.{true, false}
 use mathlib.Core.List.{[], ◌∷◌}
 use lib.ListN.{get_or}
 use Rattle.storage.specs.Runs.{start, tab, cells}
-use Rattle.storage.specs.Shape.{packed, diagonal, columns, entries, hasCell, size_of, placeOf, fill, cell}
+use Rattle.storage.specs.Shape.{packed, diagonal, columns, entries, has_cell, size_of, place_of, fill, cell}
 use Rattle.storage.specs.Part.{part, store}
 
 abbrev number : ℕ → ℕ → ℕ
@@ -16,24 +16,24 @@ abbrev rows : ℕ → ℕ
 rows c = get_or (1 ∷ 0 ∷ 1 ∷ []) c 0
 
 -- a triangle of 3 rows, row by row
-pub three-rows : fill (packed 3) number ≡ 0 ∷ 10 ∷ 11 ∷ 20 ∷ 21 ∷ 22 ∷ []
+pub three_rows : fill (packed 3) number ≡ 0 ∷ 10 ∷ 11 ∷ 20 ∷ 21 ∷ 22 ∷ []
 unfolding fill cells tab
-three-rows = refl
+three_rows = refl
 
 -- 2 rows and 3 columns, column by column
-pub two-by-three : fill (columns 2 3) number ≡ 0 ∷ 10 ∷ 1 ∷ 11 ∷ 2 ∷ 12 ∷ []
+pub two_by_three : fill (columns 2 3) number ≡ 0 ∷ 10 ∷ 1 ∷ 11 ∷ 2 ∷ 12 ∷ []
 unfolding fill cells tab
-two-by-three = refl
+two_by_three = refl
 
 -- a diagonal
-pub three-pivots : fill (diagonal 3) number ≡ 0 ∷ 11 ∷ 22 ∷ []
+pub three_pivots : fill (diagonal 3) number ≡ 0 ∷ 11 ∷ 22 ∷ []
 unfolding fill cells tab
-three-pivots = refl
+three_pivots = refl
 
 -- one entry a column
-pub three-entries : fill (entries 3 rows) number ≡ 10 ∷ 1 ∷ 12 ∷ []
+pub three_entries : fill (entries 3 rows) number ≡ 10 ∷ 1 ∷ 12 ∷ []
 unfolding fill cells tab
-three-entries = refl
+three_entries = refl
 
 -- sizes
 pub sizes : (size_of (packed 3) ≡ 6) × (size_of (columns 2 3) ≡ 6) × (size_of (diagonal 3) ≡ 3) × (size_of (entries 3 rows) ≡ 3)
@@ -41,16 +41,16 @@ unfolding start
 sizes = (refl, refl, refl, refl)
 
 -- places
-pub places : (placeOf (packed 3) 2 1 ≡ 4) × (placeOf (columns 2 3) 1 2 ≡ 5) × (placeOf (diagonal 3) 2 2 ≡ 2) × (placeOf (entries 3 rows) 0 1 ≡ 1)
+pub places : (place_of (packed 3) 2 1 ≡ 4) × (place_of (columns 2 3) 1 2 ≡ 5) × (place_of (diagonal 3) 2 2 ≡ 2) × (place_of (entries 3 rows) 0 1 ≡ 1)
 unfolding start
 places = (refl, refl, refl, refl)
 
 -- cells that a shape has
-pub inside : (hasCell (packed 3) 2 2 ≡ true) × (hasCell (columns 2 3) 1 2 ≡ true) × (hasCell (diagonal 3) 2 2 ≡ true) × (hasCell (entries 3 rows) 1 2 ≡ true)
+pub inside : (has_cell (packed 3) 2 2 ≡ true) × (has_cell (columns 2 3) 1 2 ≡ true) × (has_cell (diagonal 3) 2 2 ≡ true) × (has_cell (entries 3 rows) 1 2 ≡ true)
 inside = (refl, refl, refl, refl)
 
 -- and cells that it has not: above the diagonal, past the last row, beside the diagonal, in another row than the entry's
-pub outside : (hasCell (packed 3) 1 2 ≡ false) × (hasCell (columns 2 3) 2 1 ≡ false) × (hasCell (diagonal 3) 2 1 ≡ false) × (hasCell (entries 3 rows) 0 2 ≡ false)
+pub outside : (has_cell (packed 3) 1 2 ≡ false) × (has_cell (columns 2 3) 2 1 ≡ false) × (has_cell (diagonal 3) 2 1 ≡ false) × (has_cell (entries 3 rows) 0 2 ≡ false)
 outside = (refl, refl, refl, refl)
 
 -- a cell read from a list, and one that the list has not

@@ -12,25 +12,25 @@ use Rattle.storage.specs.Shape.{
   columns,
   entries,
   runs,
-  runLength,
+  run_length,
   run_of,
-  inRun,
+  in_run,
   row_at,
-  columnAt,
-  hasCell,
+  column_at,
+  has_cell,
   size_of,
-  placeOf,
+  place_of,
 }
-use Rattle.storage.proofs.Starts.{start-dense, start-single, start-triangle, start-below, same-run, same-cell}
+use Rattle.storage.proofs.Starts.{start_dense, start_single, start_triangle, start_below, same_run, same_cell}
 
 -- cell i of run j is a cell of the block, and j and i are read off it
 pub record Holds (s : Shape) (j i : ℕ) : Type 0 where
-  pub has : hasCell s (row_at s j i) (columnAt s j i) ≡ true
-  pub run : run_of s (row_at s j i) (columnAt s j i) ≡ j
-  pub within : inRun s (row_at s j i) (columnAt s j i) ≡ i
+  pub has : has_cell s (row_at s j i) (column_at s j i) ≡ true
+  pub run : run_of s (row_at s j i) (column_at s j i) ≡ j
+  pub within : in_run s (row_at s j i) (column_at s j i) ≡ i
 
 -- a cell of one of its runs is a cell of the shape
-pub holds : (s : Shape) (j i : ℕ) → j < runs s → i < runLength s j → Holds s j i
+pub holds : (s : Shape) (j i : ℕ) → j < runs s → i < run_length s j → Holds s j i
 holds (packed n) j i h l = let m : i ≤ j = omega arith in record { has = rw (lt-ltb, le-leb); run = refl; within = refl }
 holds (diagonal n) j i h l = record { has = rw (lt-ltb, eq-eqb j j refl); run = refl; within = omega arith }
 holds (columns rows cols) j i h l = record { has = simp lt-ltb; run = refl; within = refl }
@@ -39,12 +39,12 @@ holds (entries cols row) j i h l = record { has = rw (lt-ltb, eq-eqb (row j) (ro
 -- cell (r, c) is a cell of a run, and (r, c) is read off there
 pub record Lies (s : Shape) (r c : ℕ) : Type 0 where
   pub run : run_of s r c < runs s
-  pub within : inRun s r c < runLength s (run_of s r c)
-  pub row : row_at s (run_of s r c) (inRun s r c) ≡ r
-  pub column : columnAt s (run_of s r c) (inRun s r c) ≡ c
+  pub within : in_run s r c < run_length s (run_of s r c)
+  pub row : row_at s (run_of s r c) (in_run s r c) ≡ r
+  pub column : column_at s (run_of s r c) (in_run s r c) ≡ c
 
 -- a cell of the shape is one of its runs' cells
-pub lies : (s : Shape) (r c : ℕ) → hasCell s r c ≡ true → Lies s r c
+pub lies : (s : Shape) (r c : ℕ) → has_cell s r c ≡ true → Lies s r c
 lies (packed n) r c h =
     let k = (and-eq-true_iff (ltb r n) (leb c r)).0 h in
     record { run = ltb-true r n k.0; within = omega (arith, leb-true c r k.1); row = refl; column = refl }
@@ -61,49 +61,49 @@ lies (entries cols row) r c h =
     record { run = ltb-true c cols k.0; within = omega arith; row = sym (eqb-true r (row c) k.1); column = refl }
 
 -- every cell lies inside the block's list
-pub place-below : (s : Shape) (r c : ℕ) → hasCell s r c ≡ true → placeOf s r c < size_of s
-place-below s r c h =
-    let k = lies s r c h in omega (arith, k.within, start-below (runLength s) (run_of s r c) (runs s) k.run)
+pub place_below : (s : Shape) (r c : ℕ) → has_cell s r c ≡ true → place_of s r c < size_of s
+place_below s r c h =
+    let k = lies s r c h in omega (arith, k.within, start_below (run_length s) (run_of s r c) (runs s) k.run)
 
 -- two cells at one place are one cell
-pub place-one-to-one : (s : Shape) (r c r' c' : ℕ) → hasCell s r c ≡ true → hasCell s r' c' ≡ true → placeOf s r c ≡ placeOf s r' c' → (r ≡ r') × (c ≡ c')
-place-one-to-one s r c r' c' h h' e =
+pub place_one_to_one : (s : Shape) (r c r' c' : ℕ) → has_cell s r c ≡ true → has_cell s r' c' ≡ true → place_of s r c ≡ place_of s r' c' → (r ≡ r') × (c ≡ c')
+place_one_to_one s r c r' c' h h' e =
     let k = lies s r c h in
     let k' = lies s r' c' h' in
-    let p = same-run (runLength s) (run_of s r c) (inRun s r c) (run_of s r' c') (inRun s r' c') k.within k'.within e in
-    let q = same-cell (runLength s) (run_of s r c) (inRun s r c) (run_of s r' c') (inRun s r' c') k.within k'.within e in
-    (sym k.row ∙ ap₂ (row_at s) p q ∙ k'.row, sym k.column ∙ ap₂ (columnAt s) p q ∙ k'.column)
+    let p = same_run (run_length s) (run_of s r c) (in_run s r c) (run_of s r' c') (in_run s r' c') k.within k'.within e in
+    let q = same_cell (run_length s) (run_of s r c) (in_run s r c) (run_of s r' c') (in_run s r' c') k.within k'.within e in
+    (sym k.row ∙ ap₂ (row_at s) p q ∙ k'.row, sym k.column ∙ ap₂ (column_at s) p q ∙ k'.column)
 
 -- ---- places and sizes in closed form
 
 -- cell (r, c) of a triangle lies at r (r + 1) / 2 + c
-pub place-packed : (n r c : ℕ) → 2 * placeOf (packed n) r c ≡ r * (r + 1) + 2 * c
-place-packed n r c = omega (arith, start-triangle r)
+pub place_packed : (n r c : ℕ) → 2 * place_of (packed n) r c ≡ r * (r + 1) + 2 * c
+place_packed n r c = omega (arith, start_triangle r)
 
 -- by columns
-pub place-columns : (rows cols r c : ℕ) → placeOf (columns rows cols) r c ≡ c * rows + r
-place-columns rows cols r c = omega (arith, start-dense rows c)
+pub place_columns : (rows cols r c : ℕ) → place_of (columns rows cols) r c ≡ c * rows + r
+place_columns rows cols r c = omega (arith, start_dense rows c)
 
 -- pivot r lies at r
-pub place-diagonal : (n r : ℕ) → placeOf (diagonal n) r r ≡ r
-place-diagonal n r = omega (arith, start-single r)
+pub place_diagonal : (n r : ℕ) → place_of (diagonal n) r r ≡ r
+place_diagonal n r = omega (arith, start_single r)
 
 -- the entry of column c lies at c
-pub place-entries : (cols : ℕ) (row : ℕ → ℕ) (c : ℕ) → placeOf (entries cols row) (row c) c ≡ c
-place-entries cols row c = omega (arith, start-single c)
+pub place_entries : (cols : ℕ) (row : ℕ → ℕ) (c : ℕ) → place_of (entries cols row) (row c) c ≡ c
+place_entries cols row c = omega (arith, start_single c)
 
 -- n (n + 1) / 2 cells
-pub size-packed : (n : ℕ) → 2 * size_of (packed n) ≡ n * (n + 1)
-size-packed = start-triangle
+pub size_packed : (n : ℕ) → 2 * size_of (packed n) ≡ n * (n + 1)
+size_packed = start_triangle
 
 -- rows times columns
-pub size-columns : (rows cols : ℕ) → size_of (columns rows cols) ≡ rows * cols
-size-columns rows cols = omega (arith, start-dense rows cols)
+pub size_columns : (rows cols : ℕ) → size_of (columns rows cols) ≡ rows * cols
+size_columns rows cols = omega (arith, start_dense rows cols)
 
 -- one cell a row
-pub size-diagonal : (n : ℕ) → size_of (diagonal n) ≡ n
-size-diagonal = start-single
+pub size_diagonal : (n : ℕ) → size_of (diagonal n) ≡ n
+size_diagonal = start_single
 
 -- one cell a column
-pub size-entries : (cols : ℕ) (row : ℕ → ℕ) → size_of (entries cols row) ≡ cols
-size-entries cols row = start-single cols
+pub size_entries : (cols : ℕ) (row : ℕ → ℕ) → size_of (entries cols row) ≡ cols
+size_entries cols row = start_single cols

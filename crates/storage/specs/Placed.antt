@@ -16,18 +16,18 @@ abbrev pub block_of : (at rows cols : ℕ) → Block
 block_of at rows cols = record { at = at; rows = rows; cols = cols }
 
 -- a block's cells, as the kernel that is given it takes them
-abbrev pub asColumns : Block → Placed
-asColumns b = record { at = b.at; shape = columns b.rows b.cols }
+abbrev pub as_columns : Block → Placed
+as_columns b = record { at = b.at; shape = columns b.rows b.cols }
 
-abbrev pub asTriangle : Block → Placed
-asTriangle b = record { at = b.at; shape = packed b.rows }
+abbrev pub as_triangle : Block → Placed
+as_triangle b = record { at = b.at; shape = packed b.rows }
 
-abbrev pub asDiagonal : Block → Placed
-asDiagonal b = record { at = b.at; shape = diagonal b.rows }
+abbrev pub as_diagonal : Block → Placed
+as_diagonal b = record { at = b.at; shape = diagonal b.rows }
 
 -- one entry a column, whose row is `row` of the column
-abbrev pub asEntries : (ℕ → ℕ) → Block → Placed
-asEntries row b = record { at = b.at; shape = entries b.cols row }
+abbrev pub as_entries : (ℕ → ℕ) → Block → Placed
+as_entries row b = record { at = b.at; shape = entries b.cols row }
 
 -- it ends within n doubles
 abbrev pub Lies : ℕ → Placed → Type 0
@@ -55,16 +55,16 @@ pub record Product (n : ℕ) (form side : Block → Placed) (t a b : Block) : Ty
   pub cols : b.rows ≡ t.cols
   pub inner : b.cols ≡ a.cols
   pub target : Lies n (form t)
-  pub left : Lies n (asColumns a)
+  pub left : Lies n (as_columns a)
   pub right : Lies n (side b)
-  pub off-left : Apart (form t) (asColumns a)
-  pub off-right : Apart (form t) (side b)
+  pub off_left : Apart (form t) (as_columns a)
+  pub off_right : Apart (form t) (side b)
 
 -- a diagonal t and block a, which was loaded from `src`
 pub record Squares (n : ℕ) (form : Block → Placed) (t a : Block) (src : ℕ) : Type 0 where
   pub rows : a.rows ≡ t.rows
-  pub target : Lies n (asDiagonal t)
+  pub target : Lies n (as_diagonal t)
   pub left : Lies n (form a)
   pub source : Lies n (form (block_of src a.rows a.cols))
-  pub off-left : Apart (asDiagonal t) (form a)
-  pub off-source : Apart (asDiagonal t) (form (block_of src a.rows a.cols))
+  pub off_left : Apart (as_diagonal t) (form a)
+  pub off_source : Apart (as_diagonal t) (form (block_of src a.rows a.cols))

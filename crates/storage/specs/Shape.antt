@@ -21,11 +21,11 @@ runs (columns rows cols) = cols
 runs (entries cols row) = cols
 
 -- how many cells each run has
-abbrev pub runLength : Shape → ℕ → ℕ
-runLength (packed n) = triangle
-runLength (diagonal n) = single
-runLength (columns rows cols) = dense rows
-runLength (entries cols row) = single
+abbrev pub run_length : Shape → ℕ → ℕ
+run_length (packed n) = triangle
+run_length (diagonal n) = single
+run_length (columns rows cols) = dense rows
+run_length (entries cols row) = single
 
 -- the run that cell (r, c) is in
 abbrev pub run_of : Shape → ℕ → ℕ → ℕ
@@ -35,11 +35,11 @@ run_of (columns rows cols) r c = c
 run_of (entries cols row) r c = c
 
 -- which cell of its run cell (r, c) is
-abbrev pub inRun : Shape → ℕ → ℕ → ℕ
-inRun (packed n) r c = c
-inRun (diagonal n) r c = 0
-inRun (columns rows cols) r c = r
-inRun (entries cols row) r c = 0
+abbrev pub in_run : Shape → ℕ → ℕ → ℕ
+in_run (packed n) r c = c
+in_run (diagonal n) r c = 0
+in_run (columns rows cols) r c = r
+in_run (entries cols row) r c = 0
 
 -- the row of cell i of run j
 abbrev pub row_at : Shape → ℕ → ℕ → ℕ
@@ -49,31 +49,31 @@ row_at (columns rows cols) j i = i
 row_at (entries cols row) j i = row j
 
 -- the column of cell i of run j
-abbrev pub columnAt : Shape → ℕ → ℕ → ℕ
-columnAt (packed n) j i = i
-columnAt (diagonal n) j i = j
-columnAt (columns rows cols) j i = j
-columnAt (entries cols row) j i = j
+abbrev pub column_at : Shape → ℕ → ℕ → ℕ
+column_at (packed n) j i = i
+column_at (diagonal n) j i = j
+column_at (columns rows cols) j i = j
+column_at (entries cols row) j i = j
 
 -- whether a block has a cell (r, c)
-abbrev pub hasCell : Shape → ℕ → ℕ → Bool
-hasCell (packed n) r c = ltb r n && leb c r
-hasCell (diagonal n) r c = ltb r n && eqb c r
-hasCell (columns rows cols) r c = ltb c cols && ltb r rows
-hasCell (entries cols row) r c = ltb c cols && eqb r (row c)
+abbrev pub has_cell : Shape → ℕ → ℕ → Bool
+has_cell (packed n) r c = ltb r n && leb c r
+has_cell (diagonal n) r c = ltb r n && eqb c r
+has_cell (columns rows cols) r c = ltb c cols && ltb r rows
+has_cell (entries cols row) r c = ltb c cols && eqb r (row c)
 
 -- how many cells a block has
 abbrev pub size_of : Shape → ℕ
-size_of s = start (runLength s) (runs s)
+size_of s = start (run_length s) (runs s)
 
 -- where cell (r, c) lies in the block's list
-abbrev pub placeOf : Shape → ℕ → ℕ → ℕ
-placeOf s r c = start (runLength s) (run_of s r c) + inRun s r c
+abbrev pub place_of : Shape → ℕ → ℕ → ℕ
+place_of s r c = start (run_length s) (run_of s r c) + in_run s r c
 
 -- the list of the block whose cell (r, c) is f r c
 unfoldable pub fill : {A : Type 0} → Shape → (ℕ → ℕ → A) → List A
-fill s f = cells (runLength s) (runs s) (λ j i. f (row_at s j i) (columnAt s j i))
+fill s f = cells (run_length s) (runs s) (λ j i. f (row_at s j i) (column_at s j i))
 
 -- cell (r, c) of the block l, d where the list has none
 abbrev pub cell : {A : Type 0} → A → Shape → List A → ℕ → ℕ → A
-cell d s l r c = get_or l (placeOf s r c) d
+cell d s l r c = get_or l (place_of s r c) d

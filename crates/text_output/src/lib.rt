@@ -3,7 +3,7 @@ pub mod print_lines;
 
 ghost use Rattle.std.specs.Prelude.{◌≡◌, ◌+◌, ◌≤◌, [], ◌∷◌, length};
 ghost use Rattle.storage.specs.Part.{store};
-ghost use Rattle.factor_output.specs.Print.{number, hexDigit, hexadecimal, word};
+ghost use Rattle.factor_output.specs.Print.{number, hex_digit, hexadecimal, word};
 
 use float_bits::words;
 
@@ -57,7 +57,7 @@ pub fn put_number(out: &mut [u8], at: usize, x: u64) -> usize
 // A lower-case hexadecimal digit.
 fn hex_digit(d: u64) -> u8
     requires { d ≤ 15 }
-    ensures { result ≡ hexDigit d }
+    ensures { result ≡ hex_digit d }
 {
     if d < 10 { 48 + d as u8 } else { 87 + d as u8 }
 }

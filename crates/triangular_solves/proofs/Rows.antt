@@ -10,56 +10,56 @@ use lib.ListN.{length}
 use lib.Ieee.{Float}
 use Rattle.storage.specs.Part.{part}
 use Rattle.layout.specs.declared.Layout.{Layout}
-use Rattle.heading_format.specs.Heading.{validLayout, layout_of}
-use Rattle.profile.specs.Solves.{solvedFor, scaledRow}
-use Rattle.profile.specs.Finish.{inSheetOrder, wOf}
-use Rattle.solution_vectors.specs.Vectors.{blocksAt, withVector, Sized}
-use Rattle.solution_vectors.proofs.Vectors.{length-vector, vector-rows, read_vector, vector_else}
-use Rattle.solution_vectors.proofs.solve_laws.InTurn.{vector-over}
-use Rattle.solution_vectors.proofs.solve_laws.Solves.{sized-solved}
-use Rattle.solution_vectors.specs.result_places.Places.{wAt, resultLengthOf, Solved}
-use Rattle.solution_vectors.proofs.result_places.Parts.{solved-inside, solved-apart}
-use Rattle.layout.specs.Shapes.{lastRows}
+use Rattle.heading_format.specs.Heading.{valid_layout, layout_of}
+use Rattle.profile.specs.Solves.{solved_for, scaled_row}
+use Rattle.profile.specs.Finish.{in_sheet_order, w_of}
+use Rattle.solution_vectors.specs.Vectors.{blocks_at, with_vector, Sized}
+use Rattle.solution_vectors.proofs.Vectors.{length_vector, vector_rows, read_vector, vector_else}
+use Rattle.solution_vectors.proofs.solve_laws.InTurn.{vector_over}
+use Rattle.solution_vectors.proofs.solve_laws.Solves.{sized_solved}
+use Rattle.solution_vectors.specs.result_places.Places.{w_at, result_length_of, Solved}
+use Rattle.solution_vectors.proofs.result_places.Parts.{solved_inside, solved_apart}
+use Rattle.layout.specs.Shapes.{last_rows}
 
 -- w of row r, by a layout that equals the heading's
-solved-row : (h : List ℕ) (w : List Float) (y : Layout) → y ≡ layout_of h → (r : ℕ) → inSheetOrder y (solvedFor h w (scaledRow h w r)) y.k ≡ wOf h w r
-unfolding wOf
-solved-row h w y is r = ap (λ (x : Layout). inSheetOrder x (solvedFor h w (scaledRow h w r)) x.k) is
+solved_row : (h : List ℕ) (w : List Float) (y : Layout) → y ≡ layout_of h → (r : ℕ) → in_sheet_order y (solved_for h w (scaled_row h w r)) y.k ≡ w_of h w r
+unfolding w_of
+solved_row h w y is r = ap (λ (x : Layout). in_sheet_order x (solved_for h w (scaled_row h w r)) x.k) is
 
 -- the w of the first r rows stand in their places
 pub record Rows (h : List ℕ) (w : List Float) (y : Layout) (v : List Float) (r : ℕ) : Type 0 where
-  pub within : r ≤ lastRows y
-  pub long : length v ≡ resultLengthOf y
+  pub within : r ≤ last_rows y
+  pub long : length v ≡ result_length_of y
   pub solved : Solved h w y r v
 
 module _ {h : List ℕ} {w : List Float} {y : Layout} where
   -- the next one's place lies inside
-  pub rows-room : {v : List Float} {r from : ℕ} → Rows h w y v r → r ≤ y.p → from ≡ wAt y r → from + y.q ≤ length v
-  rows-room {v} {r} {from} e m at = omega (arith, solved-inside y r m, e.long)
+  pub rows_room : {v : List Float} {r from : ℕ} → Rows h w y v r → r ≤ y.p → from ≡ w_at y r → from + y.q ≤ length v
+  rows_room {v} {r} {from} e m at = omega (arith, solved_inside y r m, e.long)
 
   -- v of the row in the place of its w, and solved there
-  pub rows_more : y ≡ layout_of h → validLayout y ≡ true → {v v₁ v₂ : List Float} {r : ℕ} → Rows h w y v r → r ≤ y.p → (from : ℕ) → from ≡ wAt y r
-      → Sized y (scaledRow h w r) → v₁ ≡ withVector y from (scaledRow h w r) v → v₂ ≡ withVector y from (solvedFor h w (blocksAt y from v₁)) v₁
+  pub rows_more : y ≡ layout_of h → valid_layout y ≡ true → {v v₁ v₂ : List Float} {r : ℕ} → Rows h w y v r → r ≤ y.p → (from : ℕ) → from ≡ w_at y r
+      → Sized y (scaled_row h w r) → v₁ ≡ with_vector y from (scaled_row h w r) v → v₂ ≡ with_vector y from (solved_for h w (blocks_at y from v₁)) v₁
       → Rows h w y v₂ (r + 1)
   rows_more is ok {v} {v₁} {v₂} {r} e m from at sized p q =
-      let l : List (List Float) = scaledRow h w r in
-      let z : List (List Float) = solvedFor h w l in
-      let fits : from + y.q ≤ length v = rows-room e m at in
-      let done : Sized y z = sized-solved h w y is ok l sized in
-      let same : v₂ ≡ withVector y from z v =
-      q ∙ ap₂ (λ (x : List (List Float)) (u : List Float). withVector y from (solvedFor h w x) u) (ap (blocksAt y from) p ∙ read_vector y ok from l sized v fits) p
-      ∙ vector-over y ok from v fits l z sized done in
+      let l : List (List Float) = scaled_row h w r in
+      let z : List (List Float) = solved_for h w l in
+      let fits : from + y.q ≤ length v = rows_room e m at in
+      let done : Sized y z = sized_solved h w y is ok l sized in
+      let same : v₂ ≡ with_vector y from z v =
+      q ∙ ap₂ (λ (x : List (List Float)) (u : List Float). with_vector y from (solved_for h w x) u) (ap (blocks_at y from) p ∙ read_vector y ok from l sized v fits) p
+      ∙ vector_over y ok from v fits l z sized done in
       record {
         within = omega arith;
-        long = ap length same ∙ length-vector y ok from z done v fits ∙ e.long;
+        long = ap length same ∙ length_vector y ok from z done v fits ∙ e.long;
         solved =
             λ s n. by_cases (dec_lt s r)
-            (λ a. ap (part (wAt y s) y.q) same
-            ∙ vector_else y ok from z done v fits (wAt y s) y.q
-            (⊎_elim (λ b. inl (omega arith)) (λ b. inr (omega arith)) (solved-apart y s r (omega arith) m (λ b. omega arith)))
+            (λ a. ap (part (w_at y s) y.q) same
+            ∙ vector_else y ok from z done v fits (w_at y s) y.q
+            (⊎_elim (λ b. inl (omega arith)) (λ b. inr (omega arith)) (solved_apart y s r (omega arith) m (λ b. omega arith)))
             ∙ e.solved s a)
             (λ a. let b : s ≡ r = omega arith in
-            rw (b, ← at, same) (vector-rows y ok from z done v fits ∙ solved-row h w y is r));
+            rw (b, ← at, same) (vector_rows y ok from z done v fits ∙ solved_row h w y is r));
       }
 
   pub rows_all : {v : List Float} {r n : ℕ} → Rows h w y v r → n ≤ r → Solved h w y n v

@@ -2,8 +2,8 @@
 // sheet order.
 ghost use Rattle.std.specs.Prelude.{◌≡◌, ◌+◌, ◌≤◌, ◌<◌, length};
 ghost use Rattle.heading_format.specs.Fits.{Fits};
-ghost use Rattle.profile.specs.Solves.{backwardSolved};
-ghost use Rattle.solution_vectors.specs.Vectors.{blocksAt, turnedBackward, withVector};
+ghost use Rattle.profile.specs.Solves.{backward_solved};
+ghost use Rattle.solution_vectors.specs.Vectors.{blocks_at, turned_backward, with_vector};
 
 use crate::{block_solves, cross_terms};
 use layout::Layout;
@@ -18,7 +18,7 @@ fn backward_block(
     i: u64,
 )
     requires { Fits layout heading.now (length doubles.now) × (i < layout.k) × (from + layout.q ≤ length v.old) }
-    ensures { v.new ≡ turnedBackward heading.now doubles.now layout from i v.old }
+    ensures { v.new ≡ turned_backward heading.now doubles.now layout from i v.old }
 {
     let mut j = i + 1;
     while j < layout.k {
@@ -37,7 +37,7 @@ pub fn backward_solve_ld(
     from: usize,
 )
     requires { Fits layout heading.now (length doubles.now) × (from + layout.q ≤ length v.old) }
-    ensures { v.new ≡ withVector layout from (backwardSolved heading.now doubles.now (blocksAt layout from v.old) layout.k) v.old }
+    ensures { v.new ≡ with_vector layout from (backward_solved heading.now doubles.now (blocks_at layout from v.old) layout.k) v.old }
 {
     let mut i = layout.k;
     while i > 0 {

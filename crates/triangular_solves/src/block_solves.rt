@@ -2,7 +2,7 @@
 // layout: substitution with a triangle, division by a diagonal. What is left is defined in the crate solution_vectors.
 ghost use Rattle.std.specs.Prelude.{◌≡◌, ◌+◌, ◌≤◌, ◌<◌, length};
 ghost use Rattle.heading_format.specs.Fits.{Fits};
-ghost use Rattle.solution_vectors.specs.Vectors.{solvedForwardIn, solvedBackwardIn};
+ghost use Rattle.solution_vectors.specs.Vectors.{solved_forward_in, solved_backward_in};
 
 use block_places::{block_kinds, sheet_rows};
 use layout::{FactorKind, Layout};
@@ -18,7 +18,7 @@ pub fn forward_in(
     i: u64,
 )
     requires { Fits layout heading.now (length doubles.now) × (i < layout.k) × (from + layout.q ≤ length v.old) }
-    ensures { v.new ≡ solvedForwardIn heading.now doubles.now layout from i v.old }
+    ensures { v.new ≡ solved_forward_in heading.now doubles.now layout from i v.old }
 {
     let z = from + sheet_rows::first_row(layout, i as usize) as usize;
     let b = block_places::block(layout, i, i);
@@ -38,7 +38,7 @@ pub fn backward_in(
     i: u64,
 )
     requires { Fits layout heading.now (length doubles.now) × (i < layout.k) × (from + layout.q ≤ length v.old) }
-    ensures { v.new ≡ solvedBackwardIn heading.now doubles.now layout from i v.old }
+    ensures { v.new ≡ solved_backward_in heading.now doubles.now layout from i v.old }
 {
     let z = from + sheet_rows::first_row(layout, i as usize) as usize;
     let b = block_places::block(layout, i, i);

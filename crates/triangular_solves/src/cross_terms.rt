@@ -1,12 +1,12 @@
 // One pair of a solve (document 01, Record 7; the Rust's `cross_matvec_sub`, `cross_matvec_t_sub`): a block of the vector less a cross block times
 // another block of it, at the places of a layout. What is left is defined in the crate solution_vectors.
 ghost use Rattle.std.specs.Prelude.{◌≡◌, true, ◌+◌, ◌≤◌, ◌<◌, length, drop};
-ghost use Rattle.heading_format.specs.Heading.{validLayout};
+ghost use Rattle.heading_format.specs.Heading.{valid_layout};
 ghost use Rattle.heading_format.specs.Fits.{Fits};
-ghost use Rattle.workspace.specs.Loaded.{rowStart};
+ghost use Rattle.workspace.specs.Loaded.{row_start};
 ghost use Rattle.block_places.specs.Working.{working};
-ghost use Rattle.solution_vectors.specs.Vectors.{subtractedForward, subtractedBackward};
-ghost use Rattle.heading_format.specs.Parts.{headingLength};
+ghost use Rattle.solution_vectors.specs.Vectors.{subtracted_forward, subtracted_backward};
+ghost use Rattle.heading_format.specs.Parts.{heading_length};
 
 use cross_matvec::{matvec_t, sparse_matvec, sparse_matvec_t};
 use heading_format::parts;
@@ -23,8 +23,8 @@ struct Pair {
 
 // Cross block (i, j), and the blocks i and j of the vector that lies in v from `from` on.
 fn pair_at(layout: Layout, v: &[f64], from: usize, i: u64, j: u64) -> Pair
-    requires { (validLayout layout ≡ true) × (j < i) × (i < layout.k) × (from + layout.q ≤ length v.now) }
-    ensures { (result.a ≡ working layout i j) × (result.rows ≡ from + rowStart layout i) × (result.cols ≡ from + rowStart layout j) }
+    requires { (valid_layout layout ≡ true) × (j < i) × (i < layout.k) × (from + layout.q ≤ length v.now) }
+    ensures { (result.a ≡ working layout i j) × (result.rows ≡ from + row_start layout i) × (result.cols ≡ from + row_start layout j) }
 {
     Pair {
         a: block_places::block(layout, i, j),
@@ -35,8 +35,8 @@ fn pair_at(layout: Layout, v: &[f64], from: usize, i: u64, j: u64) -> Pair
 
 // The rows of the entries of the sparse pair.
 fn entry_rows(heading: &[u32]) -> &[u32]
-    requires { headingLength ≤ length heading.now }
-    ensures { result.now ≡ drop headingLength heading.now }
+    requires { heading_length ≤ length heading.now }
+    ensures { result.now ≡ drop heading_length heading.now }
 {
     &heading[parts::HEADING_LENGTH..]
 }
@@ -52,7 +52,7 @@ pub fn subtract_forward(
     j: u64,
 )
     requires { Fits layout heading.now (length doubles.now) × (j < i) × (i < layout.k) × (from + layout.q ≤ length v.old) }
-    ensures { v.new ≡ subtractedForward heading.now doubles.now layout from i j v.old }
+    ensures { v.new ≡ subtracted_forward heading.now doubles.now layout from i j v.old }
 {
     let p = pair_at(layout, v, from, i, j);
     if layout.sparse {
@@ -74,7 +74,7 @@ pub fn subtract_backward(
     i: u64,
 )
     requires { Fits layout heading.now (length doubles.now) × (i < j) × (j < layout.k) × (from + layout.q ≤ length v.old) }
-    ensures { v.new ≡ subtractedBackward heading.now doubles.now layout from j i v.old }
+    ensures { v.new ≡ subtracted_backward heading.now doubles.now layout from j i v.old }
 {
     let p = pair_at(layout, v, from, j, i);
     if layout.sparse {

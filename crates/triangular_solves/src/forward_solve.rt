@@ -1,8 +1,8 @@
 // L z = v, block by block (document 01, Record 7; the Rust's `forward_solve_ld`), in place: the vector lies in v from `from` on in sheet order.
 ghost use Rattle.std.specs.Prelude.{◌≡◌, ◌+◌, ◌≤◌, ◌<◌, length};
 ghost use Rattle.heading_format.specs.Fits.{Fits};
-ghost use Rattle.profile.specs.Solves.{forwardSolved};
-ghost use Rattle.solution_vectors.specs.Vectors.{blocksAt, turnedForward, withVector};
+ghost use Rattle.profile.specs.Solves.{forward_solved};
+ghost use Rattle.solution_vectors.specs.Vectors.{blocks_at, turned_forward, with_vector};
 
 use crate::{block_solves, cross_terms};
 use layout::Layout;
@@ -17,7 +17,7 @@ fn forward_block(
     i: u64,
 )
     requires { Fits layout heading.now (length doubles.now) × (i < layout.k) × (from + layout.q ≤ length v.old) }
-    ensures { v.new ≡ turnedForward heading.now doubles.now layout from i v.old }
+    ensures { v.new ≡ turned_forward heading.now doubles.now layout from i v.old }
 {
     let mut j: u64 = 0;
     while j < i {
@@ -36,7 +36,7 @@ pub fn forward_solve_ld(
     from: usize,
 )
     requires { Fits layout heading.now (length doubles.now) × (from + layout.q ≤ length v.old) }
-    ensures { v.new ≡ withVector layout from (forwardSolved heading.now doubles.now (blocksAt layout from v.old) layout.k) v.old }
+    ensures { v.new ≡ with_vector layout from (forward_solved heading.now doubles.now (blocks_at layout from v.old) layout.k) v.old }
 {
     let mut i: u64 = 0;
     while i < layout.k {

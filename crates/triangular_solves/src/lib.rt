@@ -9,8 +9,8 @@ pub mod scaled_row;
 
 ghost use Rattle.std.specs.Prelude.{◌≡◌, ◌≤◌, length};
 ghost use Rattle.heading_format.specs.Fits.{Fits};
-ghost use Rattle.solution_vectors.specs.result_places.Places.{resultLengthOf, Solved};
-ghost use Rattle.layout.specs.Shapes.{lastRows};
+ghost use Rattle.solution_vectors.specs.result_places.Places.{result_length_of, Solved};
+ghost use Rattle.layout.specs.Shapes.{last_rows};
 
 use layout::Layout;
 use solution_vectors::result_places;
@@ -24,7 +24,7 @@ fn solve_rows(
     from: usize,
     end: usize,
 )
-    requires { Fits layout heading.now (length doubles.now) × (from ≤ end) × (end ≤ lastRows layout) × (length v.old ≡ resultLengthOf layout) × Solved heading.now doubles.now layout from v.old }
+    requires { Fits layout heading.now (length doubles.now) × (from ≤ end) × (end ≤ last_rows layout) × (length v.old ≡ result_length_of layout) × Solved heading.now doubles.now layout from v.old }
     ensures { Solved heading.now doubles.now layout end v.new }
 {
     let mut r = from;
@@ -38,8 +38,8 @@ fn solve_rows(
 
 // Rows 0 to p - 1, then the response's: called twice, the solves are not compiled into the caller, where registers are few.
 pub fn solve_all(layout: Layout, heading: &[u32], doubles: &[f64], v: &mut [f64])
-    requires { Fits layout heading.now (length doubles.now) × (length v.old ≡ resultLengthOf layout) }
-    ensures { Solved heading.now doubles.now layout (lastRows layout) v.new }
+    requires { Fits layout heading.now (length doubles.now) × (length v.old ≡ result_length_of layout) }
+    ensures { Solved heading.now doubles.now layout (last_rows layout) v.new }
 {
     let p = layout.p as usize;
     solve_rows(layout, heading, doubles, v, 0, p);

@@ -11,11 +11,11 @@ use Rattle.storage.specs.Shape.{packed, columns}
 use Rattle.workspace.specs.Compute.{word, words}
 use Rattle.update.specs.Compute.{steps}
 use Rattle.update.specs.Working.{subtracted, solved}
-use Rattle.layout.proofs.Made.{layoutWith}
+use Rattle.layout.proofs.Made.{layout_with}
 
 -- k blocks of m levels; p = 1, so that the last triangle has two rows as well
 abbrev layout : (k : ℕ) (m : List ℕ) (thin : Bool) → Layout
-layout k m thin = layoutWith 3 1 6 k m (0 ∷ 1 ∷ 2 ∷ replicate 5 0) thin thin
+layout k m thin = layout_with 3 1 6 k m (0 ∷ 1 ∷ 2 ∷ replicate 5 0) thin thin
 
 -- three cells of 1.94; two columns of two rows: 1.8, 0.67 and 0.79, 0.42
 abbrev target : List Float
@@ -36,21 +36,21 @@ unfolding steps words
 last_block = refl
 
 -- S(2,2,0) with k = 3 is a factor's: summed first
-middle-block :
+middle_block :
     words (subtracted (layout 3 (2 ∷ 2 ∷ 2 ∷ replicate 5 0) false) (λ x. 0) (λ r c. true) 2 2 0 target source source)
     ≡ 0xbffec91d14e3bcd6 ∷ 0x3fd9bda5119ce070 ∷ 0x3ff50902de00d1b6 ∷ []
 unfolding steps words
-middle-block = refl
+middle_block = refl
 
 -- S(2,1,0) with a sparse pair of one row: product by product
-sparse-pair :
+sparse_pair :
     words (subtracted (layout 2 (2 ∷ 1 ∷ replicate 6 0) true) (λ x. 0) (λ r c. true) 2 1 0 target source entries)
     ≡ 0x3fd9bda5119ce072 ∷ 0x3ff50902de00d1b7 ∷ []
 unfolding steps words
-sparse-pair = refl
+sparse_pair = refl
 
 -- T by a packed factor with rows 1; 0 1; 0.67 0.42 1: product by product, then the division
-packed-solve :
+packed_solve :
     words
     (solved (columns 1 3) (packed 3) (word 0x3ffccccccccccccd ∷ word 0x3fe947ae147ae148 ∷ word 0x3fff0a3d70a3d70a ∷ [])
     (word 0x3ff0000000000000
@@ -62,4 +62,4 @@ packed-solve :
     ∷ []))
     ≡ 0x3ffccccccccccccd ∷ 0x3fe947ae147ae148 ∷ 0x3fd9bda5119ce072 ∷ []
 unfolding steps words
-packed-solve = refl
+packed_solve = refl

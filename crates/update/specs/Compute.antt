@@ -2,8 +2,8 @@
 use Rattle.std.specs.Prelude.{ℕ}
 use Rattle.workspace.specs.Memory.{cleared}
 use Rattle.workspace.specs.Compute.{leaves}
-use Rattle.update.specs.Working.{refusedRow, factored, solved, subtracted, logged, scaled}
+use Rattle.update.specs.Working.{refused_row, factored, solved, subtracted, logged, scaled}
 
 unfoldable pub steps : ℕ
-unfolding leaves refusedRow factored solved subtracted logged scaled cleared
+unfolding leaves refused_row factored solved subtracted logged scaled cleared
 steps = 0

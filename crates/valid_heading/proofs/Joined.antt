@@ -12,12 +12,12 @@ use Rattle.storage.specs.Runs.{tab}
 use Rattle.sheet.specs.Field.{is_finite, is_zero}
 use Rattle.sheet.specs.Run.{Entry}
 use Rattle.sheet.specs.Sheet.{Sheet}
-use Rattle.sheet.specs.Fault.{blockOfRow, Mirror, Fault, zero_word, inside-block, no-mirror}
+use Rattle.sheet.specs.Fault.{block_of_row, Mirror, Fault, zero_word_lem, inside_block, no_mirror}
 use Rattle.sheet.specs.Whole.{Each, EntryInRange, Earlier, Rising}
 use Rattle.sheet_text.specs.written.Written.{Word, Numbered}
 use Rattle.workspace.specs.Loaded.{count_of}
-use Rattle.workspace.proofs.Valid.{inColumn}
-use Rattle.valid_heading.proofs.Tabulated.{each-tab, member-tab, rising-tab, numbered-tab, count-one}
+use Rattle.workspace.proofs.Valid.{in_column}
+use Rattle.valid_heading.proofs.Tabulated.{each_tab, member_tab, rising_tab, numbered_tab, count_one}
 
 module _ (line from n at : ℕ) where
   -- entry i joins row x with row `at`: x is its column, or its row; its word is 1.0
@@ -25,78 +25,78 @@ module _ (line from n at : ℕ) where
   join column i x = record { line = line + i; col = cond column x at; row = cond column at x; word = 0x3ff0000000000000 }
 
   -- First come the n entries whose column is the smaller of the two, then their mirrors: so they rise.
-  abbrev isColumn : ℕ → Bool
-  isColumn i = cond (ltb i n) (ltb from at) (not (ltb from at))
+  abbrev is_column : ℕ → Bool
+  is_column i = cond (ltb i n) (ltb from at) (not (ltb from at))
 
   abbrev level : ℕ → ℕ
   level i = cond (ltb i n) i (i - n)
 
   abbrev joined : ℕ → Entry
-  joined i = join (isColumn i) i (from + level i)
+  joined i = join (is_column i) i (from + level i)
 
-  abbrev pub joinedEntries : List Entry
-  joinedEntries = tab (n + n) joined
+  abbrev pub joined_entries : List Entry
+  joined_entries = tab (n + n) joined
 
-  level-below : (i : ℕ) → i < n + n → level i < n
-  level-below i h = by_cases (dec_lt i n) (λ l. rw (lt-ltb i n l) l) (λ l. rw (le-ltb i n (omega arith)) (omega arith))
+  level_below : (i : ℕ) → i < n + n → level i < n
+  level_below i h = by_cases (dec_lt i n) (λ l. rw (lt-ltb i n l) l) (λ l. rw (le-ltb i n (omega arith)) (omega arith))
 
   -- ---- each entry by itself
 
-  join-range : (q i x : ℕ) (b : Bool) → x < q → at < q → EntryInRange q (join b i x)
+  join_range : (q i x : ℕ) (b : Bool) → x < q → at < q → EntryInRange q (join b i x)
   unfolding is_finite
-  join-range q i x true h g = record { col = h; row = g; finite = refl }
-  join-range q i x false h g = record { col = g; row = h; finite = refl }
+  join_range q i x true h g = record { col = h; row = g; finite = refl }
+  join_range q i x false h g = record { col = g; row = h; finite = refl }
 
-  pub joined-range : (q : ℕ) → from + n ≤ q → at < q → Each (EntryInRange q) joinedEntries
-  joined-range q h g =
-      each-tab (EntryInRange q) (n + n) joined (λ i l. join-range q i (from + level i) (isColumn i) (omega (arith, level-below i l)) g)
+  pub joined_range : (q : ℕ) → from + n ≤ q → at < q → Each (EntryInRange q) joined_entries
+  joined_range q h g =
+      each_tab (EntryInRange q) (n + n) joined (λ i l. join_range q i (from + level i) (is_column i) (omega (arith, level_below i l)) g)
 
-  pub joined_words : Each (λ (e : Entry). Word e.word) joinedEntries
+  pub joined_words : Each (λ (e : Entry). Word e.word) joined_entries
   unfolding is_finite
-  joined_words = each-tab (λ (e : Entry). Word e.word) (n + n) joined (λ i l. (lit< tt, refl))
+  joined_words = each_tab (λ (e : Entry). Word e.word) (n + n) joined (λ i l. (lit< tt, refl))
 
-  pub joined-lines : Numbered line joinedEntries
-  joined-lines = numbered-tab line (n + n) joined (λ i l. refl)
+  pub joined_lines : Numbered line joined_entries
+  joined_lines = numbered_tab line (n + n) joined (λ i l. refl)
 
   -- ---- mirrors
 
-  mirror-sym : (e m : Entry) → Mirror e m → Mirror m e
-  mirror-sym e m h = record { col = sym h.row; row = sym h.col; word = sym h.word }
+  mirror_sym : (e m : Entry) → Mirror e m → Mirror m e
+  mirror_sym e m h = record { col = sym h.row; row = sym h.col; word = sym h.word }
 
-  join-mirror : (b : Bool) (i j x : ℕ) → Mirror (join b i x) (join (not b) j x)
-  join-mirror true i j x = record { col = refl; row = refl; word = refl }
-  join-mirror false i j x = record { col = refl; row = refl; word = refl }
+  join_mirror : (b : Bool) (i j x : ℕ) → Mirror (join b i x) (join (not b) j x)
+  join_mirror true i j x = record { col = refl; row = refl; word = refl }
+  join_mirror false i j x = record { col = refl; row = refl; word = refl }
 
   -- entries i and i + n
   halves : (i : ℕ) → i < n → Mirror (joined i) (joined (i + n))
   halves i h =
       let e : i + n - n ≡ i = omega arith in
-      rw (lt-ltb i n h, le-ltb (i + n) n (omega arith), e) (join-mirror (ltb from at) i (i + n) (from + i))
+      rw (lt-ltb i n h, le-ltb (i + n) n (omega arith), e) (join_mirror (ltb from at) i (i + n) (from + i))
 
-  has-mirror : (i : ℕ) → i < n + n → (j : ℕ) × (j < n + n) × Mirror (joined i) (joined j)
-  has-mirror i h =
+  has_mirror : (i : ℕ) → i < n + n → (j : ℕ) × (j < n + n) × Mirror (joined i) (joined j)
+  has_mirror i h =
       by_cases (dec_lt i n) (λ l. (i + n, omega arith, halves i l))
       (λ l.
       let e : i - n + n ≡ i = omega arith in
-      (i - n, omega arith, mirror-sym (joined (i - n)) (joined i) (subst (λ (x : ℕ). Mirror (joined (i - n)) (joined x)) e (halves (i - n) (omega arith)))))
+      (i - n, omega arith, mirror_sym (joined (i - n)) (joined i) (subst (λ (x : ℕ). Mirror (joined (i - n)) (joined x)) e (halves (i - n) (omega arith)))))
 
   -- ---- no fault: the rows are in another block than `at`
 
-  module _ (sheet : Sheet) (zz : sheet.zz ≡ joinedEntries) (apart : (c : ℕ) → c < n → blockOfRow sheet.blocks (from + c) ≡ blockOfRow sheet.blocks at → ⊥) where
-    join_apart : (b : Bool) (i c : ℕ) → c < n → blockOfRow sheet.blocks (join b i (from + c)).col ≡ blockOfRow sheet.blocks (join b i (from + c)).row → ⊥
+  module _ (sheet : Sheet) (zz : sheet.zz ≡ joined_entries) (apart : (c : ℕ) → c < n → block_of_row sheet.blocks (from + c) ≡ block_of_row sheet.blocks at → ⊥) where
+    join_apart : (b : Bool) (i c : ℕ) → c < n → block_of_row sheet.blocks (join b i (from + c)).col ≡ block_of_row sheet.blocks (join b i (from + c)).row → ⊥
     join_apart true i c h e = apart c h e
     join_apart false i c h e = apart c h (sym e)
 
-    no-fault : (i : ℕ) → i < n + n → Fault sheet (joined i) → ⊥
+    no_fault : (i : ℕ) → i < n + n → Fault sheet (joined i) → ⊥
     unfolding is_zero
-    no-fault i h (zero_word z) = false≢true z
-    no-fault i h (inside-block e d) = join_apart (isColumn i) i (level i) (level-below i h) e
-    no-fault i h (no-mirror f) =
-        let m = has-mirror i h in
-        f (joined m.0) (subst (Memᴰ (joined m.0)) (sym zz) (member-tab (n + n) joined m.0 m.1)) m.2
+    no_fault i h (zero_word_lem z) = false≢true z
+    no_fault i h (inside_block e d) = join_apart (is_column i) i (level i) (level_below i h) e
+    no_fault i h (no_mirror f) =
+        let m = has_mirror i h in
+        f (joined m.0) (subst (Memᴰ (joined m.0)) (sym zz) (member_tab (n + n) joined m.0 m.1)) m.2
 
-    pub joined-sound : Each (λ (e : Entry). Fault sheet e → ⊥) joinedEntries
-    joined-sound = each-tab (λ (e : Entry). Fault sheet e → ⊥) (n + n) joined no-fault
+    pub joined_sound : Each (λ (e : Entry). Fault sheet e → ⊥) joined_entries
+    joined_sound = each_tab (λ (e : Entry). Fault sheet e → ⊥) (n + n) joined no_fault
 
   -- ---- all of them, where the rows end before `at` or begin after it
 
@@ -118,12 +118,12 @@ module _ (line from n at : ℕ) where
             (λ r. rw (lt-ltb i n r, le-ltb j n (omega arith), le-ltb from at (omega arith)) (inl (omega arith)))
             (λ r. rw (le-ltb i n (omega arith), le-ltb j n (omega arith), le-ltb from at (omega arith)) (inl (omega arith))))
 
-    pub joined-rising : Rising joinedEntries
-    joined-rising = rising-tab (n + n) joined earlier
+    pub joined_rising : Rising joined_entries
+    joined_rising = rising_tab (n + n) joined earlier
 
     -- column c of the block has one entry in the m rows from `at` on
-    pub joined-one : (c m : ℕ) → c < n → 1 ≤ m → count_of (inColumn from c at m) joinedEntries ≡ 1
-    joined-one c m h g = go apart
+    pub joined_one : (c m : ℕ) → c < n → 1 ≤ m → count_of (in_column from c at m) joined_entries ≡ 1
+    joined_one c m h g = go apart
       where
         inside : (leb at at && ltb at (at + m)) ≡ true
         inside = rw (le-leb at at (omega arith), lt-ltb at (at + m) (omega arith)) refl
@@ -131,9 +131,9 @@ module _ (line from n at : ℕ) where
         here : eqb (from + c) (from + c) ≡ true
         here = eq-eqb (from + c) (from + c) refl
 
-        go : (from + n ≤ at) ⊎ (at < from) → count_of (inColumn from c at m) joinedEntries ≡ 1
+        go : (from + n ≤ at) ⊎ (at < from) → count_of (in_column from c at m) joined_entries ≡ 1
         go (inl a) =
-            count-one (inColumn from c at m) (n + n) joined c (omega arith)
+            count_one (in_column from c at m) (n + n) joined c (omega arith)
             (rw (lt-ltb c n h, lt-ltb from at (omega arith), here) inside)
             (λ i l o.
             by_cases (dec_lt i n)
@@ -141,7 +141,7 @@ module _ (line from n at : ℕ) where
             (λ r. rw (le-ltb i n (omega arith), lt-ltb from at (omega arith), ne_eqb at (from + c) (λ e. omega arith)) refl))
         go (inr a) =
             let e : c + n - n ≡ c = omega arith in
-            count-one (inColumn from c at m) (n + n) joined (c + n) (omega arith)
+            count_one (in_column from c at m) (n + n) joined (c + n) (omega arith)
             (rw (le-ltb (c + n) n (omega arith), le-ltb from at (omega arith), e, here) inside)
             (λ i l o.
             by_cases (dec_lt i n)

@@ -7,39 +7,39 @@ use mathlib.Core.List.{List}
 use native.Mathlib.Omega.{arith}
 use lib.ListN.{length}
 use Rattle.storage.proofs.Parts.{length_part}
-use Rattle.heading_format.specs.Parts.{order_at, headingLength}
-use Rattle.heading_format.specs.Heading.{layout_of, progressOf, validLayout, validHeading}
-use Rattle.heading_format.proofs.Valid.{is-valid}
+use Rattle.heading_format.specs.Parts.{order_at, heading_length}
+use Rattle.heading_format.specs.Heading.{layout_of, progress_of, valid_layout, valid_heading}
+use Rattle.heading_format.proofs.Valid.{is_valid}
 use Rattle.heading_format.proofs.Fits.{fits, marks}
-use Rattle.heading_format.proofs.Heading.{valid-heading-of}
+use Rattle.heading_format.proofs.Heading.{valid_heading_of}
 use Rattle.valid_heading.specs.Workspace.{IsWorkspace}
-use Rattle.valid_heading.proofs.Layouts.{layout-exactly}
-use Rattle.valid_heading.proofs.Reached.{progress-exactly}
+use Rattle.valid_heading.proofs.Layouts.{layout_exactly}
+use Rattle.valid_heading.proofs.Reached.{progress_exactly}
 
 -- a heading has the sheet indices of eight blocks
-eight-places : (h : List ℕ) → headingLength ≤ length h → length (layout_of h).order ≡ 8
+eight_places : (h : List ℕ) → heading_length ≤ length h → length (layout_of h).order ≡ 8
 unfolding layout_of
-eight-places h long = length_part order_at 8 h (omega arith)
+eight_places h long = length_part order_at 8 h (omega arith)
 
-pub valid-exactly : (h : List ℕ) (many : ℕ) → (validHeading h many ≡ true) ↔ IsWorkspace h many
-valid-exactly h many = (
+pub valid_exactly : (h : List ℕ) (many : ℕ) → (valid_heading h many ≡ true) ↔ IsWorkspace h many
+valid_exactly h many = (
   λ ok. let f = fits h many ok in
       let m = marks h many ok in
       record {
         heading = f.long;
-        sparse-mark = m.0;
-        diagonal-mark = m.1;
-        state-mark = m.2;
-        layout = (layout-exactly (layout_of h) (eight-places h f.long)).0 f.valid;
-        progress = (progress-exactly (layout_of h).k (few f.valid) (progressOf h)).0 f.progress;
+        sparse_mark = m.0;
+        diagonal_mark = m.1;
+        state_mark = m.2;
+        layout = (layout_exactly (layout_of h) (eight_places h f.long)).0 f.valid;
+        progress = (progress_exactly (layout_of h).k (few f.valid) (progress_of h)).0 f.progress;
         rows = f.rows;
         numbers = f.numbers;
         doubles = f.room;
       },
-  λ w. let valid = (layout-exactly (layout_of h) (eight-places h w.heading)).1 w.layout in
-      valid-heading-of h many (layout_of h) (progressOf h) refl refl w.heading w.sparse-mark w.diagonal-mark w.state-mark valid
-      ((progress-exactly (layout_of h).k (few valid) (progressOf h)).1 w.progress) w.numbers w.doubles w.rows,
+  λ w. let valid = (layout_exactly (layout_of h) (eight_places h w.heading)).1 w.layout in
+      valid_heading_of h many (layout_of h) (progress_of h) refl refl w.heading w.sparse_mark w.diagonal_mark w.state_mark valid
+      ((progress_exactly (layout_of h).k (few valid) (progress_of h)).1 w.progress) w.numbers w.doubles w.rows,
 )
   where
-    few : validLayout (layout_of h) ≡ true → (layout_of h).k ≤ 8
-    few ok = (is-valid (layout_of h) ok).blocks.1
+    few : valid_layout (layout_of h) ≡ true → (layout_of h).k ≤ 8
+    few ok = (is_valid (layout_of h) ok).blocks.1

@@ -3,10 +3,10 @@
 pub mod pivot_places;
 
 ghost use Rattle.std.specs.Prelude.{◌≡◌, ◌<◌, ◌≤◌, length};
-ghost use Rattle.heading_format.specs.Heading.{progressOf};
-ghost use Rattle.profile.specs.Deviance.{isFinished};
-ghost use Rattle.views.specs.Views.{stepsMeaning, viewMeaning, stepsLeftOf, determinantOf, pivotOf, pivotView};
-ghost use Rattle.heading_format.specs.Parts.{headingLength};
+ghost use Rattle.heading_format.specs.Heading.{progress_of};
+ghost use Rattle.profile.specs.Deviance.{is_finished};
+ghost use Rattle.views.specs.Views.{steps_meaning, view_meaning, steps_left_of, determinant_of, pivot_of, pivot_view};
+ghost use Rattle.heading_format.specs.Parts.{heading_length};
 ghost use Rattle.heading_format.specs.Fits.{Room};
 
 use block_places::block_kinds;
@@ -34,7 +34,7 @@ const LARGE: usize = 2199023255552;
 
 // How many steps are left; 20 by the heading alone.
 pub fn steps_left(heading: &[u32]) -> StepsLeft
-    ensures { stepsMeaning result ≡ stepsMeaning (stepsLeftOf heading.now) }
+    ensures { steps_meaning result ≡ steps_meaning (steps_left_of heading.now) }
 {
     if heading_check::is_valid_heading(heading, LARGE) {
         let progress = heading::progress(heading);
@@ -45,8 +45,8 @@ pub fn steps_left(heading: &[u32]) -> StepsLeft
 
 // Whether the factor of a workspace is finished.
 fn has_factor(heading: &[u32]) -> bool
-    requires { headingLength ≤ length heading.now }
-    ensures { result ≡ isFinished (progressOf heading.now).state }
+    requires { heading_length ≤ length heading.now }
+    ensures { result ≡ is_finished (progress_of heading.now).state }
 {
     let progress = heading::progress(heading);
     let state = progress.state;
@@ -55,7 +55,7 @@ fn has_factor(heading: &[u32]) -> bool
 
 // The log determinant of a finished factor: 20, 25.
 pub fn log_determinant(heading: &[u32], doubles: &[f64]) -> View
-    ensures { viewMeaning result ≡ viewMeaning (determinantOf heading.now doubles.now) }
+    ensures { view_meaning result ≡ view_meaning (determinant_of heading.now doubles.now) }
 {
     if heading_check::is_valid_heading(heading, doubles.len()) {
         if has_factor(heading) {
@@ -69,7 +69,7 @@ pub fn log_determinant(heading: &[u32], doubles: &[f64]) -> View
 // Pivot r of block j where there is one.
 fn pivot_or_absent(layout: Layout, doubles: &[f64], j: u64, r: u64) -> View
     requires { Room layout (length doubles.now) }
-    ensures { result ≡ pivotView layout doubles.now j r }
+    ensures { result ≡ pivot_view layout doubles.now j r }
 {
     if j <= layout.k {
         if r < block_kinds::rows_of(layout, j) as u64 {
@@ -81,7 +81,7 @@ fn pivot_or_absent(layout: Layout, doubles: &[f64], j: u64, r: u64) -> View
 
 // Pivot `row` of block `block` of a finished factor: 20, 25. Any numbers may be asked for.
 pub fn pivot(heading: &[u32], doubles: &[f64], block: u64, row: u64) -> View
-    ensures { viewMeaning result ≡ viewMeaning (pivotOf heading.now doubles.now block row) }
+    ensures { view_meaning result ≡ view_meaning (pivot_of heading.now doubles.now block row) }
 {
     if heading_check::is_valid_heading(heading, doubles.len()) {
         if has_factor(heading) {

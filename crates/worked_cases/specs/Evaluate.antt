@@ -2,11 +2,11 @@
 use Rattle.std.specs.Prelude.{ℕ, ◌-◌, Bool, false, true, List, [], ◌∷◌, ◌++◌, length, replicate, Float}
 use Rattle.std.specs.Float.Ieee as Ieee
 use Rattle.std.specs.Float.{binary64}
-use Rattle.step_order.specs.Steps.{Step, rustOrder}
-use Rattle.sheet.specs.Text.{ended, with-line, reading}
-use Rattle.sheet.specs.Sheet.{Outcome, accepted, refused, readSheet, Sheet}
+use Rattle.step_order.specs.Steps.{Step, rust_order}
+use Rattle.sheet.specs.Text.{ended, with_line, reading}
+use Rattle.sheet.specs.Sheet.{Outcome, accepted, refused, read_sheet, Sheet}
 use Rattle.refusal.specs.declared.Refusal.{Refusal}
-use Rattle.refusal.specs.Numbers.{refusalOf}
+use Rattle.refusal.specs.Numbers.{refusal_of}
 use Rattle.layout.specs.declared.Pair.{Pair}
 use Rattle.layout.specs.Gate.{pair_of}
 use Rattle.workspace.specs.Answers.{untouched, Outcome as Call}
@@ -14,137 +14,137 @@ use Rattle.workspace.specs.Load as Load
 use Rattle.workspace.specs.Load.{load_of}
 use Rattle.workspace.specs.Compute.{words}
 use Rattle.update.specs.Compute.{steps}
-use Rattle.update.specs.Calls.{beginOf, run_of, begun, stepped}
+use Rattle.update.specs.Calls.{begin_of, run_of, begun, stepped}
 use Rattle.profile.specs.declared.DevianceAnswer.{DevianceAnswer}
 use Rattle.profile.specs.declared.Solve.{Solve}
 use Rattle.profile.specs.declared.Solve.TheVariants.{Solved, Refused}
-use Rattle.profile.specs.Deviance.{profileOf, logDeterminant}
-use Rattle.profile.specs.Finish.{Solving, solveOf, resultList}
+use Rattle.profile.specs.Deviance.{profile_of, log_determinant}
+use Rattle.profile.specs.Finish.{Solving, solve_of, result_list}
 use Rattle.factor_output.specs.Program as Program
-use Rattle.factor_output.specs.Worked.{sheetLines, thetaLines, outputLines}
-use Rattle.worked_cases.specs.Table.{oneReadingLine, one_word, CountCase, GateCase, StepCase}
+use Rattle.factor_output.specs.Worked.{sheet_lines, theta_lines, output_lines}
+use Rattle.worked_cases.specs.Table.{one_reading_line, one_word, CountCase, GateCase, StepCase}
 use Rattle.layout.specs.declared.Layout.{Layout}
 use Rattle.workspace.specs.Memory.{Workspace}
-use Rattle.workspace.specs.Loaded.{withStorage, layoutOfSheet}
-use Rattle.heading_format.specs.Parts.{headingLength}
+use Rattle.workspace.specs.Loaded.{with_storage, layout_of_sheet}
+use Rattle.heading_format.specs.Parts.{heading_length}
 
-unfoldable pub sheetBytes : List ℕ
+unfoldable pub sheet_bytes : List ℕ
 unfolding ended
-sheetBytes = ended sheetLines
+sheet_bytes = ended sheet_lines
 
 -- the sheet with n = p = 1
-unfoldable pub oneReadingBytes : List ℕ
+unfoldable pub one_reading_bytes : List ℕ
 unfolding ended
-oneReadingBytes = ended (with-line 1 oneReadingLine sheetLines)
+one_reading_bytes = ended (with_line 1 one_reading_line sheet_lines)
 
-unfoldable pub inputBytes : List ℕ
+unfoldable pub input_bytes : List ℕ
 unfolding ended
-inputBytes = ended (sheetLines ++ thetaLines)
+input_bytes = ended (sheet_lines ++ theta_lines)
 
-unfoldable pub outputBytes : List ℕ
+unfoldable pub output_bytes : List ℕ
 unfolding ended
-outputBytes = ended outputLines
+output_bytes = ended output_lines
 
 -- a sheet loaded into a workspace that has room for the worked sheet's 14 doubles
 unfoldable pub loaded : List ℕ → Call
 unfolding steps reading load_of
-loaded s = load_of s (replicate headingLength 0) (replicate 14 (Ieee.of_bits binary64 0))
+loaded s = load_of s (replicate heading_length 0) (replicate 14 (Ieee.of_bits binary64 0))
 
 -- the same, begun with one theta, and some steps done
-unfoldable pub stepsDone : List ℕ → ℕ → List Step → Call
-unfolding loaded beginOf run_of
-stepsDone s theta l =
+unfoldable pub steps_done : List ℕ → ℕ → List Step → Call
+unfolding loaded begin_of run_of
+steps_done s theta l =
     let w = (loaded s).left in
-    run_of (beginOf w.heading w.doubles (Ieee.of_bits binary64 theta ∷ [])).left l
+    run_of (begin_of w.heading w.doubles (Ieee.of_bits binary64 theta ∷ [])).left l
 
 -- the Rust's order
 unfoldable pub finished : List ℕ → ℕ → Call
-unfolding stepsDone rustOrder
-finished s theta = stepsDone s theta (rustOrder 1)
+unfolding steps_done rust_order
+finished s theta = steps_done s theta (rust_order 1)
 
-unfoldable pub logDeterminantBits : List ℕ → ℕ → ℕ
+unfoldable pub log_determinant_bits : List ℕ → ℕ → ℕ
 unfolding finished
-logDeterminantBits s theta = let w = (finished s theta).left in Ieee.to_bits binary64 (logDeterminant w.heading w.doubles)
+log_determinant_bits s theta = let w = (finished s theta).left in Ieee.to_bits binary64 (log_determinant w.heading w.doubles)
 
 unfoldable pub solving : List ℕ → ℕ → Bool → Solving
-unfolding finished solveOf
+unfolding finished solve_of
 solving s theta reml =
     let w = (finished s theta).left in
-    solveOf w.heading w.doubles reml (replicate 6 (Ieee.of_bits binary64 0))
+    solve_of w.heading w.doubles reml (replicate 6 (Ieee.of_bits binary64 0))
 
 unfoldable pub profiled : List ℕ → ℕ → Bool → DevianceAnswer
-unfolding loaded profileOf
-profiled s theta reml = let w = (loaded s).left in (profileOf w.heading w.doubles (Ieee.of_bits binary64 theta ∷ []) reml).answer
+unfolding loaded profile_of
+profiled s theta reml = let w = (loaded s).left in (profile_of w.heading w.doubles (Ieee.of_bits binary64 theta ∷ []) reml).answer
 
-unfoldable pub sigma2Bits : Solve → ℕ
+unfoldable pub sigma2_bits : Solve → ℕ
 unfolding Ieee.to_bits
-sigma2Bits (Solved s) = Ieee.to_bits binary64 s.sigma2
-sigma2Bits (Refused r) = 0
+sigma2_bits (Solved s) = Ieee.to_bits binary64 s.sigma2
+sigma2_bits (Refused r) = 0
 
 -- ---- sheets of several blocks, in a workspace of 200 doubles
-unfoldable pub thetaIn : List ℕ → Outcome → List Float
+unfoldable pub theta_in : List ℕ → Outcome → List Float
 unfolding reading
-thetaIn s (accepted sheet starts) = (Program.thetaLines s sheet.counts.k (record { at = starts.end; line = starts.line; number = 0 })).items
-thetaIn s (refused number line) = []
+theta_in s (accepted sheet starts) = (Program.theta_lines s sheet.counts.k (record { at = starts.end; line = starts.line; number = 0 })).items
+theta_in s (refused number line) = []
 
 -- load of a sheet as read, in which 5 to 9 are not looked for
-unfoldable pub loadedFirst : Outcome → Call
-unfolding steps Load.loadSheet
-loadedFirst (accepted sheet starts) = Load.loadSheet sheet (replicate headingLength 0) (replicate 200 (Ieee.of_bits binary64 0))
-loadedFirst (refused number line) = untouched [] [] number line 0
+unfoldable pub loaded_first : Outcome → Call
+unfolding steps Load.load_sheet
+loaded_first (accepted sheet starts) = Load.load_sheet sheet (replicate heading_length 0) (replicate 200 (Ieee.of_bits binary64 0))
+loaded_first (refused number line) = untouched [] [] number line 0
 
 -- the words of the solution's list of a sheet with its theta part
-unfoldable pub solutionBits : List ℕ → ℕ → ℕ → List ℕ
-unfolding steps reading thetaIn loadedFirst beginOf run_of rustOrder solveOf words
-solutionBits s k n =
-    let o = readSheet s in
-    let w = (loadedFirst o).left in
-    let b = (beginOf w.heading w.doubles (thetaIn s o)).left in
-    let v = (run_of b (rustOrder k)).left in
-    words (solveOf v.heading v.doubles false (replicate n (Ieee.of_bits binary64 0))).result
+unfoldable pub solution_bits : List ℕ → ℕ → ℕ → List ℕ
+unfolding steps reading theta_in loaded_first begin_of run_of rust_order solve_of words
+solution_bits s k n =
+    let o = read_sheet s in
+    let w = (loaded_first o).left in
+    let b = (begin_of w.heading w.doubles (theta_in s o)).left in
+    let v = (run_of b (rust_order k)).left in
+    words (solve_of v.heading v.doubles false (replicate n (Ieee.of_bits binary64 0))).result
 
 -- ---- a pair too small to be stored sparse, worked by the rules for a sparse one: no heading is tested
-unfoldable pub stepsUntested : Workspace → List Step → Workspace
+unfoldable pub steps_untested : Workspace → List Step → Workspace
 unfolding steps stepped
-stepsUntested v [] = v
-stepsUntested v (s ∷ l) = stepsUntested (stepped v.heading v.doubles s) l
+steps_untested v [] = v
+steps_untested v (s ∷ l) = steps_untested (stepped v.heading v.doubles s) l
 
-abbrev pub storedSparse : Sheet → Layout
-storedSparse sheet = withStorage (layoutOfSheet sheet) true true
+abbrev pub stored_sparse : Sheet → Layout
+stored_sparse sheet = with_storage (layout_of_sheet sheet) true true
 
-unfoldable pub sparseBits : List ℕ → Outcome → List ℕ
-unfolding thetaIn Load.headingOf Load.doublesOf layoutOfSheet begun stepsUntested rustOrder resultList words
-sparseBits s (accepted sheet starts) =
-    let h = Load.headingOf sheet (storedSparse sheet) in
-    let v = stepsUntested (begun h (Load.doublesOf sheet (storedSparse sheet)) (thetaIn s (accepted sheet starts))) (rustOrder 2) in
-    words (resultList v.heading v.doubles)
-sparseBits s (refused number line) = []
+unfoldable pub sparse_bits : List ℕ → Outcome → List ℕ
+unfolding theta_in Load.heading_of Load.doubles_of layout_of_sheet begun steps_untested rust_order result_list words
+sparse_bits s (accepted sheet starts) =
+    let h = Load.heading_of sheet (stored_sparse sheet) in
+    let v = steps_untested (begun h (Load.doubles_of sheet (stored_sparse sheet)) (theta_in s (accepted sheet starts))) (rust_order 2) in
+    words (result_list v.heading v.doubles)
+sparse_bits s (refused number line) = []
 
 -- ---- the rows of the table
-unfoldable pub stepCounts : List CountCase → List ℕ
-unfolding rustOrder
-stepCounts [] = []
-stepCounts (c ∷ l) = length (rustOrder (c.blocks - 1)) ∷ stepCounts l
+unfoldable pub step_counts : List CountCase → List ℕ
+unfolding rust_order
+step_counts [] = []
+step_counts (c ∷ l) = length (rust_order (c.blocks - 1)) ∷ step_counts l
 
-unfoldable pub gateVerdicts : List GateCase → List Pair
+unfoldable pub gate_verdicts : List GateCase → List Pair
 unfolding steps pair_of
-gateVerdicts [] = []
-gateVerdicts (g ∷ l) = pair_of g.k g.rows g.cols g.oneEach g.entries ∷ gateVerdicts l
+gate_verdicts [] = []
+gate_verdicts (g ∷ l) = pair_of g.k g.rows g.cols g.one_each g.entries ∷ gate_verdicts l
 
-unfoldable pub stepRefusals : List StepCase → List Refusal
-unfolding stepsDone
-stepRefusals [] = []
-stepRefusals (c ∷ l) = refusalOf (stepsDone sheetBytes one_word c.steps).answer ∷ stepRefusals l
+unfoldable pub step_refusals : List StepCase → List Refusal
+unfolding steps_done
+step_refusals [] = []
+step_refusals (c ∷ l) = refusal_of (steps_done sheet_bytes one_word c.steps).answer ∷ step_refusals l
 
 -- one column of each
-abbrev pub countsSaid : List CountCase → List ℕ
-countsSaid [] = []
-countsSaid (c ∷ l) = c.steps ∷ countsSaid l
+abbrev pub counts_said : List CountCase → List ℕ
+counts_said [] = []
+counts_said (c ∷ l) = c.steps ∷ counts_said l
 
-abbrev pub verdictsSaid : List GateCase → List Pair
-verdictsSaid [] = []
-verdictsSaid (g ∷ l) = g.verdict ∷ verdictsSaid l
+abbrev pub verdicts_said : List GateCase → List Pair
+verdicts_said [] = []
+verdicts_said (g ∷ l) = g.verdict ∷ verdicts_said l
 
-abbrev pub refusalsSaid : List StepCase → List Refusal
-refusalsSaid [] = []
-refusalsSaid (c ∷ l) = c.refusal ∷ refusalsSaid l
+abbrev pub refusals_said : List StepCase → List Refusal
+refusals_said [] = []
+refusals_said (c ∷ l) = c.refusal ∷ refusals_said l

@@ -4,8 +4,8 @@ use Rattle.std.specs.Prelude.{ℕ, List, [], ◌∷◌}
 use Prim.Native.String.{String}
 
 -- two blocks, the second a packed triangle
-abbrev pub denseInput : List String
-denseInput =
+abbrev pub dense_input : List String
+dense_input =
     "size 40 2 5 2 1"
     ∷ "block 2 1"
     ∷ "block 3 1"
@@ -51,8 +51,8 @@ denseInput =
     ∷ "theta 1 3ff08f5c28f5c28f"
     ∷ []
 
-abbrev pub denseOutput : List String
-denseOutput =
+abbrev pub dense_output : List String
+dense_output =
     "pivot 0 0 400829e009c7fc91"
     ∷ "pivot 0 1 400552210338986c"
     ∷ "pivot 0 2 40018ec6d3a67941"
@@ -63,8 +63,8 @@ denseOutput =
     ∷ "pivot 2 2 4012cfaa196fec98"
     ∷ []
 
-abbrev pub denseSolution : List ℕ
-denseSolution =
+abbrev pub dense_solution : List ℕ
+dense_solution =
     0x3f89df9976cbb7ae
     ∷ 0xbfaf0bc58c007b80
     ∷ 0x3fa01c974013eed1
@@ -98,8 +98,8 @@ denseSolution =
     ∷ []
 
 -- two blocks, one entry in each column, the second a diagonal
-abbrev pub diagonalInput : List String
-diagonalInput =
+abbrev pub diagonal_input : List String
+diagonal_input =
     "size 30 1 5 2 1"
     ∷ "block 2 1"
     ∷ "block 3 1"
@@ -131,8 +131,8 @@ diagonalInput =
     ∷ "theta 1 3ff0b4395810624e"
     ∷ []
 
-abbrev pub diagonalOutput : List String
-diagonalOutput =
+abbrev pub diagonal_output : List String
+diagonal_output =
     "pivot 0 0 40013b3145fe6517"
     ∷ "pivot 0 1 4008f584254b86b7"
     ∷ "pivot 0 2 4007870f5cd145fc"
@@ -142,8 +142,8 @@ diagonalOutput =
     ∷ "pivot 2 1 4011e3ee14ea843f"
     ∷ []
 
-abbrev pub diagonalSolution : List ℕ
-diagonalSolution =
+abbrev pub diagonal_solution : List ℕ
+diagonal_solution =
     0xbfa934a8be55f892
     ∷ 0xbf8cd7ccaa1596b2
     ∷ 0x3f972b7c521b31d0
@@ -169,8 +169,8 @@ diagonalSolution =
     ∷ []
 
 -- the same with 3 and 7 levels
-abbrev pub wideInput : List String
-wideInput =
+abbrev pub wide_input : List String
+wide_input =
     "size 60 2 10 2 1"
     ∷ "block 3 1"
     ∷ "block 7 1"
@@ -238,8 +238,8 @@ wideInput =
     ∷ "theta 1 3ffe5604189374bc"
     ∷ []
 
-abbrev pub wideOutput : List String
-wideOutput =
+abbrev pub wide_output : List String
+wide_output =
     "pivot 0 0 400f1d8adb940d23"
     ∷ "pivot 0 1 40121677d265f118"
     ∷ "pivot 0 2 40158f3195d17944"
@@ -255,8 +255,8 @@ wideOutput =
     ∷ "pivot 2 2 4013b69d7cea3df9"
     ∷ []
 
-abbrev pub wideSolution : List ℕ
-wideSolution =
+abbrev pub wide_solution : List ℕ
+wide_solution =
     0xbfb080778dda812f
     ∷ 0x3f84bad3dbad8970
     ∷ 0x3f9f7beea96b8ddb
@@ -315,8 +315,8 @@ wideSolution =
     ∷ []
 
 -- three blocks, equal ones in sheet order
-abbrev pub threeInput : List String
-threeInput =
+abbrev pub three_input : List String
+three_input =
     "size 25 1 5 3 1"
     ∷ "block 1 1"
     ∷ "block 2 1"
@@ -354,8 +354,8 @@ threeInput =
     ∷ "theta 2 3fd6666666666666"
     ∷ []
 
-abbrev pub threeOutput : List String
-threeOutput =
+abbrev pub three_output : List String
+three_output =
     "pivot 0 0 400195804aadc475"
     ∷ "pivot 0 1 4000613ac0aacabb"
     ∷ "pivot 1 0 3ff5a0195dbdcfa6"
@@ -365,8 +365,8 @@ threeOutput =
     ∷ "pivot 3 1 4014e556edd398f2"
     ∷ []
 
-abbrev pub threeSolution : List ℕ
-threeSolution =
+abbrev pub three_solution : List ℕ
+three_solution =
     0xbfb6b941fcd0f9d7
     ∷ 0xbfc18ecde4e02068
     ∷ 0x3fa085cea00ade2c
@@ -392,8 +392,8 @@ threeSolution =
     ∷ []
 
 -- the solution of `wide` by the rules for a sparse pair
-abbrev pub sparseSolution : List ℕ
-sparseSolution =
+abbrev pub sparse_solution : List ℕ
+sparse_solution =
     0xbfb080778dda812f
     ∷ 0x3f84bad3dbad896f
     ∷ 0x3f9f7beea96b8ddb

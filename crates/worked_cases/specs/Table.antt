@@ -8,56 +8,56 @@ use Rattle.layout.specs.declared.Pair.{Pair}
 use Rattle.layout.specs.declared.Pair.TheVariants.{Dense, Sparse, Refused}
 
 -- the size line of the same sheet with n = p
-abbrev pub oneReadingLine : String
-oneReadingLine = "size 1 1 1 1 1"
+abbrev pub one_reading_line : String
+one_reading_line = "size 1 1 1 1 1"
 
 -- ---- words: 0, 1, 2, 1/2; the nearest double to 1/3; 2 ln 2
-abbrev pub zeroWord : ℕ
-zeroWord = 0
+abbrev pub zero_word : ℕ
+zero_word = 0
 
 abbrev pub one_word : ℕ
 one_word = 0x3ff0000000000000
 
-abbrev pub twoWord : ℕ
-twoWord = 0x4000000000000000
+abbrev pub two_word : ℕ
+two_word = 0x4000000000000000
 
-abbrev pub halfWord : ℕ
-halfWord = 0x3fe0000000000000
+abbrev pub half_word : ℕ
+half_word = 0x3fe0000000000000
 
-abbrev pub thirdWord : ℕ
-thirdWord = 0x3fd5555555555555
+abbrev pub third_word : ℕ
+third_word = 0x3fd5555555555555
 
 -- ln 2 is the double 3fe62e42fefa39ef
-abbrev pub twoLn2Word : ℕ
-twoLn2Word = 0x3ff62e42fefa39ef
+abbrev pub two_ln2_word : ℕ
+two_ln2_word = 0x3ff62e42fefa39ef
 
 -- beta, b, u, L_X, w of y, w of the column, by ML and by REML
-abbrev pub solutionWords : List ℕ
-solutionWords = one_word ∷ halfWord ∷ halfWord ∷ twoWord ∷ one_word ∷ halfWord ∷ []
+abbrev pub solution_words : List ℕ
+solution_words = one_word ∷ half_word ∷ half_word ∷ two_word ∷ one_word ∷ half_word ∷ []
 
 -- ---- K, and the number of steps
 pub record CountCase : Type 0 where
   pub blocks : ℕ
   pub steps : ℕ
 
-abbrev pub countCases : List CountCase
-countCases = record { blocks = 2; steps = 4 } ∷ record { blocks = 3; steps = 10 } ∷ []
+abbrev pub count_cases : List CountCase
+count_cases = record { blocks = 2; steps = 4 } ∷ record { blocks = 3; steps = 10 } ∷ []
 
 -- ---- the gate: a pair of this many rows and columns among k blocks; whether each column has one entry, and how many entries there are
 pub record GateCase : Type 0 where
   pub k : ℕ
   pub rows : ℕ
   pub cols : ℕ
-  pub oneEach : Bool
+  pub one_each : Bool
   pub entries : ℕ
   pub verdict : Pair
 
-abbrev pub gateCases : List GateCase
-gateCases =
-    record { k = 2; rows = 2; cols = 50000; oneEach = true; entries = 50000; verdict = Dense }
-    ∷ record { k = 2; rows = 2; cols = 50001; oneEach = true; entries = 50001; verdict = Refused 11 }
-    ∷ record { k = 2; rows = 3; cols = 33334; oneEach = true; entries = 33334; verdict = Sparse }
-    ∷ record { k = 8; rows = 316; cols = 316; oneEach = false; entries = 99856; verdict = Dense }
+abbrev pub gate_cases : List GateCase
+gate_cases =
+    record { k = 2; rows = 2; cols = 50000; one_each = true; entries = 50000; verdict = Dense }
+    ∷ record { k = 2; rows = 2; cols = 50001; one_each = true; entries = 50001; verdict = Refused 11 }
+    ∷ record { k = 2; rows = 3; cols = 33334; one_each = true; entries = 33334; verdict = Sparse }
+    ∷ record { k = 8; rows = 316; cols = 316; one_each = false; entries = 99856; verdict = Dense }
     ∷ []
 
 -- ---- steps from the worked sheet just begun, and what the last of them answers
@@ -65,6 +65,6 @@ pub record StepCase : Type 0 where
   pub steps : List Step
   pub refusal : Refusal
 
-abbrev pub stepCases : List StepCase
-stepCases =
+abbrev pub step_cases : List StepCase
+step_cases =
     record { steps = T 1 0 ∷ []; refusal = refusal 24 0 0 } ∷ record { steps = C 0 ∷ C 0 ∷ []; refusal = refusal 23 0 0 } ∷ []

@@ -8,21 +8,21 @@ use mathlib.Core.Option.{some}
 use lib.ListN.{replicate, set, take, drop}
 use lib.Ieee.{Float, nan, inf}
 use Rattle.refusal.specs.declared.Answer.TheVariants.{Accepted}
-use Rattle.refusal.specs.Numbers.{refusal, refusalOf, refuse}
+use Rattle.refusal.specs.Numbers.{refusal, refusal_of, refuse}
 use Rattle.storage.specs.Runs.{tab}
 use Rattle.sheet.specs.Text.{reading}
 use Rattle.sheet.specs.Run.{Entry}
 use Rattle.sheet.specs.Sheet.{Sheet}
 use Rattle.layout.specs.Blocks.{sum}
-use Rattle.heading_format.specs.Heading.{sheetLevels, layout_of}
+use Rattle.heading_format.specs.Heading.{sheet_levels, layout_of}
 use Rattle.workspace.specs.Compute.{leaves, word, words}
-use Rattle.workspace.specs.Memory.{thetaOf}
-use Rattle.workspace.specs.Answers.{Outcome, untouched, firstInfinite}
-use Rattle.workspace.specs.Loaded.{layoutOfSheet, entryRowIn, row_of}
-use Rattle.workspace.specs.Load.{loadSheet, load_of}
-use Rattle.workspace.specs.Response.{Response, response, replaceOf}
-use Rattle.heading_format.specs.Parts.{progressAt, progressEnd, headingLength}
-use Rattle.sheet.proofs.Made.{countsWith}
+use Rattle.workspace.specs.Memory.{theta_of}
+use Rattle.workspace.specs.Answers.{Outcome, untouched, first_infinite}
+use Rattle.workspace.specs.Loaded.{layout_of_sheet, entry_row_in, row_of}
+use Rattle.workspace.specs.Load.{load_sheet, load_of}
+use Rattle.workspace.specs.Response.{Response, response, replace_of}
+use Rattle.heading_format.specs.Parts.{progress_at, progress_end, heading_length}
+use Rattle.sheet.proofs.Made.{counts_with}
 
 abbrev at : ℕ → ℕ → ℕ → Entry
 at col row w = record { line = 0; col = col; row = row; word = w }
@@ -30,7 +30,7 @@ at col row w = record { line = 0; col = col; row = row; word = w }
 abbrev sheet : Sheet
 sheet =
     record {
-      counts = countsWith 5 1 3 2 1;
+      counts = counts_with 5 1 3 2 1;
       blocks = record { m = 1; e = 1 } ∷ record { m = 2; e = 1 } ∷ [];
       zz = at 0 0 1 ∷ at 0 1 2 ∷ at 0 2 3 ∷ at 1 0 2 ∷ at 1 1 4 ∷ at 2 0 3 ∷ [];
       zx = 6 ∷ 7 ∷ 8 ∷ [];
@@ -42,8 +42,8 @@ sheet =
 
 -- a workspace with room for two doubles and one number more
 unfoldable loaded : ℕ → Outcome
-unfolding leaves loadSheet words
-loaded room = loadSheet sheet (replicate 129 7) (replicate room (word 99))
+unfolding leaves load_sheet words
+loaded room = load_sheet sheet (replicate 129 7) (replicate room (word 99))
 
 -- no bytes: 2 at line 1, and no second place
 no_bytes : load_of [] (replicate 3 7) [] ≡ untouched (replicate 3 7) [] 2 1 0
@@ -51,22 +51,22 @@ unfolding load_of reading
 no_bytes = refl
 
 -- diagonals 4, absent and 1; the pair by columns; Z'X over Z'y, column by column, of block 1 and then of block 0; the triangle; then +0.0; the rest stays
-load-writes :
+load_writes :
     words (loaded 33).left.doubles
     ≡ 4 ∷ 0 ∷ 1 ∷ 2 ∷ 3 ∷ 7 ∷ 10 ∷ 8 ∷ 11 ∷ 6 ∷ 9 ∷ 12 ∷ 13 ∷ 14 ∷ (replicate 17 0 ++ (99 ∷ 99 ∷ []))
 unfolding loaded
-load-writes = refl
+load_writes = refl
 
 -- n p q k, levels, sheet indexes, no sparse pair, block 1 a diagonal; progress none, ten steps left
-heading-writes :
+heading_writes :
     take 24 (loaded 33).left.heading
     ≡ 5 ∷ 1 ∷ 3 ∷ 2 ∷ 2 ∷ 1 ∷ 0 ∷ 0 ∷ 0 ∷ 0 ∷ 0 ∷ 0 ∷ 1 ∷ 0 ∷ 0 ∷ 0 ∷ 0 ∷ 0 ∷ 0 ∷ 0 ∷ 0 ∷ 1 ∷ 0 ∷ 10 ∷ []
 unfolding loaded
-heading-writes = refl
+heading_writes = refl
 
-heading-rest : drop 24 (loaded 33).left.heading ≡ replicate 104 0 ++ (7 ∷ [])
+heading_rest : drop 24 (loaded 33).left.heading ≡ replicate 104 0 ++ (7 ∷ [])
 unfolding loaded
-heading-rest = refl
+heading_rest = refl
 
 -- 31 doubles are enough, 30 are 12 and stay as they are
 just_enough : (loaded 31).answer ≡ Accepted
@@ -78,74 +78,74 @@ unfolding loaded
 too_short = refl
 
 -- a heading of 127 numbers is too short as well
-short-heading : loadSheet sheet (replicate 127 7) (replicate 31 (word 99)) ≡ untouched (replicate 127 7) (replicate 31 (word 99)) 12 0 0
+short_heading : load_sheet sheet (replicate 127 7) (replicate 31 (word 99)) ≡ untouched (replicate 127 7) (replicate 31 (word 99)) 12 0 0
 unfolding loaded
-short-heading = refl
+short_heading = refl
 
 -- ---- a response: Z'y by sheet rows, X'y, y'y, on a workspace whose working doubles are 99
 unfoldable replaced : Response → Outcome
-unfolding loaded replaceOf
-replaced r = let v = (loaded 33).left in replaceOf v.heading (take 14 v.doubles ++ replicate 19 (word 99)) r
+unfolding loaded replace_of
+replaced r = let v = (loaded 33).left in replace_of v.heading (take 14 v.doubles ++ replicate 19 (word 99)) r
 
 abbrev good : Response
 good = response (word 20 ∷ word 21 ∷ word 22 ∷ []) (word 23 ∷ []) (word 24 ∷ [])
 
-response-writes :
+response_writes :
     words (replaced good).left.doubles
     ≡ 4 ∷ 0 ∷ 1 ∷ 2 ∷ 3 ∷ 7 ∷ 21 ∷ 8 ∷ 22 ∷ 6 ∷ 20 ∷ 12 ∷ 23 ∷ 24 ∷ replicate 19 99
 unfolding replaced
-response-writes = refl
+response_writes = refl
 
 -- every length before any word, and the place of a word
-lengths-first : refusalOf (replaced (response (word 20 ∷ nan ∷ word 22 ∷ []) [] (nan ∷ []))).answer ≡ refusal 13 1 0
+lengths_first : refusal_of (replaced (response (word 20 ∷ nan ∷ word 22 ∷ []) [] (nan ∷ []))).answer ≡ refusal 13 1 0
 unfolding replaced
-lengths-first = refl
+lengths_first = refl
 
-last-length : refusalOf (replaced (response (word 20 ∷ nan ∷ word 22 ∷ []) (nan ∷ []) [])).answer ≡ refusal 13 2 0
+last_length : refusal_of (replaced (response (word 20 ∷ nan ∷ word 22 ∷ []) (nan ∷ []) [])).answer ≡ refusal 13 2 0
 unfolding replaced
-last-length = refl
+last_length = refl
 
-second_word : refusalOf (replaced (response (word 20 ∷ nan ∷ word 22 ∷ []) (nan ∷ []) (nan ∷ []))).answer ≡ refusal 14 0 1
+second_word : refusal_of (replaced (response (word 20 ∷ nan ∷ word 22 ∷ []) (nan ∷ []) (nan ∷ []))).answer ≡ refusal 14 0 1
 unfolding replaced
 second_word = refl
 
-third-list : refusalOf (replaced (response (word 20 ∷ word 21 ∷ word 22 ∷ []) (word 23 ∷ []) (inf true ∷ []))).answer ≡ refusal 14 2 0
+third_list : refusal_of (replaced (response (word 20 ∷ word 21 ∷ word 22 ∷ []) (word 23 ∷ []) (inf true ∷ []))).answer ≡ refusal 14 2 0
 unfolding replaced
-third-list = refl
+third_list = refl
 
 -- 14 names the first of two; the largest doubles are finite
-first-of-two : firstInfinite 0 (word 0xffefffffffffffff ∷ word 0x7fefffffffffffff ∷ inf true ∷ nan ∷ []) ≡ some 2
-unfolding leaves firstInfinite
-first-of-two = refl
+first_of_two : first_infinite 0 (word 0xffefffffffffffff ∷ word 0x7fefffffffffffff ∷ inf true ∷ nan ∷ []) ≡ some 2
+unfolding leaves first_infinite
+first_of_two = refl
 
 -- An update that is under way ends, and so does a finished one: state 2, no step left, each target at its last stage.
-ends-update :
-    take progressEnd (replaceOf (set (loaded 33).left.heading progressAt 1) (loaded 33).left.doubles good).left.heading
-    ≡ take progressEnd (loaded 33).left.heading
-unfolding loaded replaceOf
-ends-update = refl
+ends_update :
+    take progress_end (replace_of (set (loaded 33).left.heading progress_at 1) (loaded 33).left.doubles good).left.heading
+    ≡ take progress_end (loaded 33).left.heading
+unfolding loaded replace_of
+ends_update = refl
 
 abbrev finished : List ℕ
-finished = take progressAt (loaded 33).left.heading ++ (2 ∷ 0 ∷ 1 ∷ 1 ∷ 2 ∷ 1 ∷ 2 ∷ 3 ∷ replicate 98 0)
+finished = take progress_at (loaded 33).left.heading ++ (2 ∷ 0 ∷ 1 ∷ 1 ∷ 2 ∷ 1 ∷ 2 ∷ 3 ∷ replicate 98 0)
 
-ends-finished :
-    (replaceOf finished (loaded 33).left.doubles good).left.heading
-    ≡ take headingLength (loaded 33).left.heading
-unfolding loaded replaceOf
-ends-finished = refl
+ends_finished :
+    (replace_of finished (loaded 33).left.doubles good).left.heading
+    ≡ take heading_length (loaded 33).left.heading
+unfolding loaded replace_of
+ends_finished = refl
 
 -- a heading against Record 5, here steps left one too many, is 20 before any list is looked at, and all stays
-heading-first :
-    replaceOf (set (loaded 33).left.heading 23 11) (loaded 33).left.doubles (response [] [] [])
+heading_first :
+    replace_of (set (loaded 33).left.heading 23 11) (loaded 33).left.doubles (response [] [] [])
     ≡ untouched (set (loaded 33).left.heading 23 11) (loaded 33).left.doubles 20 0 0
-unfolding loaded replaceOf
-heading-first = refl
+unfolding loaded replace_of
+heading_first = refl
 
 -- ---- the gate: three blocks of 400, 400 and 1 levels are refused with 10, pair (1,0), though the workspace is too short as well
 abbrev wide : Sheet
 wide =
     record {
-      counts = countsWith 5 1 801 3 1;
+      counts = counts_with 5 1 801 3 1;
       blocks = record { m = 1; e = 1 } ∷ record { m = 400; e = 1 } ∷ record { m = 400; e = 1 } ∷ [];
       zz = [];
       zx = [];
@@ -155,20 +155,20 @@ wide =
       yy = 14;
     }
 
-pair-refused : loadSheet wide [] [] ≡ untouched [] [] 10 1 0
-unfolding leaves loadSheet
-pair-refused = refl
+pair_refused : load_sheet wide [] [] ≡ untouched [] [] 10 1 0
+unfolding leaves load_sheet
+pair_refused = refl
 
 -- and two of 400 levels without an entry with 11
-pair-full : loadSheet (record { counts = countsWith 5 1 800 2 1; blocks = record { m = 400; e = 1 } ∷ record { m = 400; e = 1 } ∷ []; zz = []; zx = []; zy = []; xx = 12 ∷ []; xy = 13 ∷ []; yy = 14 }) [] [] ≡ untouched [] [] 11 1 0
-unfolding leaves loadSheet
-pair-full = refl
+pair_full : load_sheet (record { counts = counts_with 5 1 800 2 1; blocks = record { m = 400; e = 1 } ∷ record { m = 400; e = 1 } ∷ []; zz = []; zx = []; zy = []; xx = 12 ∷ []; xy = 13 ∷ []; yy = 14 }) [] [] ≡ untouched [] [] 11 1 0
+unfolding leaves load_sheet
+pair_full = refl
 
 -- the row, in block 1, of the entry of each column: here block 1 starts at row 2 of the sheet
 abbrev swapped : Sheet
 swapped =
     record {
-      counts = countsWith 5 1 4 2 1;
+      counts = counts_with 5 1 4 2 1;
       blocks = record { m = 2; e = 1 } ∷ record { m = 2; e = 1 } ∷ [];
       zz = at 0 3 1 ∷ at 1 2 1 ∷ at 2 1 1 ∷ at 3 0 1 ∷ [];
       zx = [];
@@ -178,11 +178,11 @@ swapped =
       yy = 14;
     }
 
-entry-rows : tab 2 (entryRowIn swapped (layoutOfSheet swapped)) ≡ 1 ∷ 0 ∷ []
-unfolding leaves layoutOfSheet row_of sum sheetLevels
-entry-rows = refl
+entry_rows : tab 2 (entry_row_in swapped (layout_of_sheet swapped)) ≡ 1 ∷ 0 ∷ []
+unfolding leaves layout_of_sheet row_of sum sheet_levels
+entry_rows = refl
 
 -- kept theta is in sheet order: of 20, 21, sorted block 0 has 21
-kept-theta : words (tab 2 (thetaOf (loaded 33).left.heading (replicate 14 (word 1) ++ (word 20 ∷ word 21 ∷ replicate 15 (word 1))))) ≡ 21 ∷ 20 ∷ []
+kept_theta : words (tab 2 (theta_of (loaded 33).left.heading (replicate 14 (word 1) ++ (word 20 ∷ word 21 ∷ replicate 15 (word 1))))) ≡ 21 ∷ 20 ∷ []
 unfolding loaded words layout_of
-kept-theta = refl
+kept_theta = refl

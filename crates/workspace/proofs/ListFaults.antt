@@ -15,9 +15,9 @@ use Rattle.sheet.specs.Field as Field
 use Rattle.sheet.specs.Whole.{Each, Finite}
 use Rattle.layout.specs.declared.Layout.{Layout}
 use Rattle.layout.specs.Shapes.{pick}
-use Rattle.workspace.specs.Answers.{is_finite, firstInfinite, unlessAt, lengths, lengthFault, wordFault, first_of, listFault}
+use Rattle.workspace.specs.Answers.{is_finite, first_infinite, unless_at, lengths, length_fault, word_fault, first_of, list_fault}
 use Rattle.workspace.specs.Loaded.{double}
-use Rattle.workspace.specs.Response.{Response, lists_of, responseLengths, Prescribed}
+use Rattle.workspace.specs.Response.{Response, lists_of, response_lengths, Prescribed}
 
 -- where the first of two has number 0, both have
 neither : (f g : Refusal) → (first_of f g).number ≡ 0 → (f.number ≡ 0) × (g.number ≡ 0)
@@ -28,15 +28,15 @@ neither f g e = go (eqb f.number 0) refl e
     go false q e = absurd (eqb-false f.number 0 q e)
 
 -- no fault: every list has its length
-all_right : (i : ℕ) (prescribed actual : List ℕ) → length prescribed ≡ length actual → (lengthFault i prescribed actual).number ≡ 0 → actual ≡ prescribed
-unfolding lengthFault
+all_right : (i : ℕ) (prescribed actual : List ℕ) → length prescribed ≡ length actual → (length_fault i prescribed actual).number ≡ 0 → actual ≡ prescribed
+unfolding length_fault
 all_right i [] [] m e = refl
 all_right i [] (x ∷ actual) m e = absurd (omega arith)
 all_right i (n ∷ prescribed) [] m e = absurd (omega arith)
 all_right i (n ∷ prescribed) (x ∷ actual) m e = go (all_right (suc i) prescribed actual (omega arith)) (eqb x n) refl e
   where
-    go : ((lengthFault (suc i) prescribed actual).number ≡ 0 → actual ≡ prescribed) → (b : Bool) → eqb x n ≡ b
-        → (pick b (lengthFault (suc i) prescribed actual) (refusal 13 i 0)).number ≡ 0 → x ∷ actual ≡ n ∷ prescribed
+    go : ((length_fault (suc i) prescribed actual).number ≡ 0 → actual ≡ prescribed) → (b : Bool) → eqb x n ≡ b
+        → (pick b (length_fault (suc i) prescribed actual) (refusal 13 i 0)).number ≡ 0 → x ∷ actual ≡ n ∷ prescribed
     go rest true q e = ap₂ (λ (a : ℕ) (l : List ℕ). a ∷ l) (eqb-true x n q) (rest e)
     go rest false q e = absurd (omega arith)
 
@@ -45,37 +45,37 @@ abbrev pub AllFinite : List Float → Type 0
 AllFinite l = Each (λ (x : Float). is_finite x ≡ true) l
 
 -- where no index is found
-none-infinite : (i : ℕ) (l : List Float) → firstInfinite i l ≡ none → AllFinite l
-unfolding firstInfinite
-none-infinite i [] e = tt
-none-infinite i (x ∷ l) e = go (none-infinite (suc i) l) (is_finite x) refl e
+none_infinite : (i : ℕ) (l : List Float) → first_infinite i l ≡ none → AllFinite l
+unfolding first_infinite
+none_infinite i [] e = tt
+none_infinite i (x ∷ l) e = go (none_infinite (suc i) l) (is_finite x) refl e
   where
-    go : (firstInfinite (suc i) l ≡ none → AllFinite l) → (b : Bool) → is_finite x ≡ b → pick b (firstInfinite (suc i) l) (some i) ≡ none → AllFinite (x ∷ l)
+    go : (first_infinite (suc i) l ≡ none → AllFinite l) → (b : Bool) → is_finite x ≡ b → pick b (first_infinite (suc i) l) (some i) ≡ none → AllFinite (x ∷ l)
     go rest true q e = (q, rest e)
     go rest false q e = absurd (let z : ◌≡◌ {A = ℕ} 0 1 = cc in omega arith)
 
 -- no fault: every number of every list is finite
-no-infinite : (i : ℕ) (lists : List (List Float)) → (wordFault i lists).number ≡ 0 → Each AllFinite lists
-unfolding wordFault
-no-infinite i [] e = tt
-no-infinite i (l ∷ lists) e = go (no-infinite (suc i) lists) (firstInfinite 0 l) refl e
+no_infinite : (i : ℕ) (lists : List (List Float)) → (word_fault i lists).number ≡ 0 → Each AllFinite lists
+unfolding word_fault
+no_infinite i [] e = tt
+no_infinite i (l ∷ lists) e = go (no_infinite (suc i) lists) (first_infinite 0 l) refl e
   where
-    go : ((wordFault (suc i) lists).number ≡ 0 → Each AllFinite lists) → (o : Option ℕ) → firstInfinite 0 l ≡ o
-        → (unlessAt o (λ a. refusal 14 i a) (wordFault (suc i) lists)).number ≡ 0 → Each AllFinite (l ∷ lists)
-    go rest none q e = (none-infinite 0 l q, rest e)
+    go : ((word_fault (suc i) lists).number ≡ 0 → Each AllFinite lists) → (o : Option ℕ) → first_infinite 0 l ≡ o
+        → (unless_at o (λ a. refusal 14 i a) (word_fault (suc i) lists)).number ≡ 0 → Each AllFinite (l ∷ lists)
+    go rest none q e = (none_infinite 0 l q, rest e)
     go rest (some a) q e = absurd (omega arith)
 
 -- a response without a fault
-pub no-fault : (y : Layout) (r : Response) → (listFault (responseLengths y) (lists_of r)).number ≡ 0 → Prescribed y r × Each AllFinite (lists_of r)
-no-fault y r e =
-    let n = neither (lengthFault 0 (responseLengths y) (lengths (lists_of r))) (wordFault 0 (lists_of r)) e in
-    (all_right 0 (responseLengths y) (lengths (lists_of r)) refl n.0, no-infinite 0 (lists_of r) n.1)
+pub no_fault : (y : Layout) (r : Response) → (list_fault (response_lengths y) (lists_of r)).number ≡ 0 → Prescribed y r × Each AllFinite (lists_of r)
+no_fault y r e =
+    let n = neither (length_fault 0 (response_lengths y) (lengths (lists_of r))) (word_fault 0 (lists_of r)) e in
+    (all_right 0 (response_lengths y) (lengths (lists_of r)) refl n.0, no_infinite 0 (lists_of r) n.1)
 
 -- the exponent's bits of a finite double are not all ones
-finite-fields : (s : Bool) (x t : ℕ) → is_finite (of_fields binary64 s x t) ≡ true → not (eqb x (ones binary64)) ≡ true
+finite_fields : (s : Bool) (x t : ℕ) → is_finite (of_fields binary64 s x t) ≡ true → not (eqb x (ones binary64)) ≡ true
 unfolding of_fields
-finite-fields s zero t e = refl
-finite-fields s (suc x) t e = go (eqb (suc x) (ones binary64)) (eqb t 0) e
+finite_fields s zero t e = refl
+finite_fields s (suc x) t e = go (eqb (suc x) (ones binary64)) (eqb t 0) e
   where
     go : (b c : Bool) → is_finite (cond b (cond c (inf s) nan) (odd 53 s (4503599627370496 + t) x 1074)) ≡ true → not b ≡ true
     go true true e = e
@@ -83,6 +83,6 @@ finite-fields s (suc x) t e = go (eqb (suc x) (ones binary64)) (eqb t 0) e
     go false c e = refl
 
 -- a finite double has a finite word
-pub finite-word : (w : ℕ) → is_finite (double w) ≡ true → Finite w
+pub finite_word : (w : ℕ) → is_finite (double w) ≡ true → Finite w
 unfolding of_bits Field.is_finite
-finite-word w e = finite-fields _ (w % 9223372036854775808 / 4503599627370496) (w % 4503599627370496) e
+finite_word w e = finite_fields _ (w % 9223372036854775808 / 4503599627370496) (w % 4503599627370496) e

@@ -5,7 +5,7 @@ use Rattle.std.specs.Float.{nan, inf, fin}
 use Rattle.refusal.specs.declared.Refusal.{Refusal}
 use Rattle.refusal.specs.declared.Answer.{Answer}
 use Rattle.refusal.specs.declared.Answer.TheVariants.{Accepted, Refused}
-use Rattle.refusal.specs.Numbers.{refusal, noRefusal}
+use Rattle.refusal.specs.Numbers.{refusal, no_refusal}
 use Rattle.layout.specs.Shapes.{pick}
 use Rattle.workspace.specs.Memory.{Workspace}
 
@@ -33,14 +33,14 @@ is_finite nan = false
 is_finite (inf s) = false
 is_finite (fin s m e) = true
 
-unfoldable pub firstInfinite : ℕ → List Float → Option ℕ
-firstInfinite i [] = none
-firstInfinite i (x ∷ l) = let rest = firstInfinite (suc i) l in pick (is_finite x) rest (some i)
+unfoldable pub first_infinite : ℕ → List Float → Option ℕ
+first_infinite i [] = none
+first_infinite i (x ∷ l) = let rest = first_infinite (suc i) l in pick (is_finite x) rest (some i)
 
 -- go on, or refuse where there is an index
-abbrev pub unlessAt : {A : Type 0} → Option ℕ → (ℕ → A) → A → A
-unlessAt none bad good = good
-unlessAt (some i) bad good = bad i
+abbrev pub unless_at : {A : Type 0} → Option ℕ → (ℕ → A) → A → A
+unless_at none bad good = good
+unless_at (some i) bad good = bad i
 
 -- ---- what is wrong with the lists that a call is lent, number 0 where nothing is; i is the number of the first list
 -- 13: the first list whose length is not the prescribed one
@@ -48,25 +48,25 @@ abbrev pub lengths : List (List Float) → List ℕ
 lengths [] = []
 lengths (l ∷ lists) = length l ∷ lengths lists
 
-unfoldable pub lengthFault : ℕ → List ℕ → List ℕ → Refusal
-lengthFault i [] actual = noRefusal
-lengthFault i (n ∷ prescribed) [] = refusal 13 i 0
-lengthFault i (n ∷ prescribed) (m ∷ actual) = let rest = lengthFault (suc i) prescribed actual in pick (eqb m n) rest (refusal 13 i 0)
+unfoldable pub length_fault : ℕ → List ℕ → List ℕ → Refusal
+length_fault i [] actual = no_refusal
+length_fault i (n ∷ prescribed) [] = refusal 13 i 0
+length_fault i (n ∷ prescribed) (m ∷ actual) = let rest = length_fault (suc i) prescribed actual in pick (eqb m n) rest (refusal 13 i 0)
 
 -- 14: the first list with a number that is infinite or NaN, and that number's index
-unfoldable pub wordFault : ℕ → List (List Float) → Refusal
-unfolding firstInfinite
-wordFault i [] = noRefusal
-wordFault i (l ∷ lists) = let rest = wordFault (suc i) lists in unlessAt (firstInfinite 0 l) (λ a. refusal 14 i a) rest
+unfoldable pub word_fault : ℕ → List (List Float) → Refusal
+unfolding first_infinite
+word_fault i [] = no_refusal
+word_fault i (l ∷ lists) = let rest = word_fault (suc i) lists in unless_at (first_infinite 0 l) (λ a. refusal 14 i a) rest
 
 -- the first of two, where its number is 0 the second
 abbrev pub first_of : Refusal → Refusal → Refusal
 first_of a b = pick (eqb a.number 0) b a
 
 -- every length comes before any word
-abbrev pub listFault : List ℕ → List (List Float) → Refusal
-listFault prescribed lists = first_of (lengthFault 0 prescribed (lengths lists)) (wordFault 0 lists)
+abbrev pub list_fault : List ℕ → List (List Float) → Refusal
+list_fault prescribed lists = first_of (length_fault 0 prescribed (lengths lists)) (word_fault 0 lists)
 
 -- go on, or refuse where there is a number
-abbrev pub unlessRefused : {A : Type 0} → Refusal → (Refusal → A) → A → A
-unlessRefused f bad good = pick (eqb f.number 0) good (bad f)
+abbrev pub unless_refused : {A : Type 0} → Refusal → (Refusal → A) → A → A
+unless_refused f bad good = pick (eqb f.number 0) good (bad f)

@@ -2,21 +2,21 @@
 use Rattle.std.specs.Prelude.{ℕ, List, [], ◌∷◌, Float}
 use Rattle.std.specs.Float.Ieee as Ieee
 use Rattle.std.specs.Float.{binary64}
-use Rattle.square_root.specs.Root.{sqrtOf}
-use Rattle.logarithm.specs.Ln.{lnOf}
+use Rattle.square_root.specs.Root.{sqrt_of}
+use Rattle.logarithm.specs.Ln.{ln_of}
 use Rattle.storage.specs.Runs.{start, tab, cells}
 use Rattle.storage.specs.Shape.{fill}
 use Rattle.storage.specs.Part.{store}
-use Rattle.step_order.specs.Steps.{rustOrder}
-use Rattle.rules.specs.Sums.{sumFrom, subtractFrom, logsFrom}
-use Rattle.rules.specs.Cholesky.{forward, rows, firstBad}
+use Rattle.step_order.specs.Steps.{rust_order}
+use Rattle.rules.specs.Sums.{sum_from, subtract_from, logs_from}
+use Rattle.rules.specs.Cholesky.{forward, rows, first_bad}
 use Rattle.rules.specs.Solves.{backward}
-use Rattle.layout.specs.Shapes.{loadedAt, workingAt, sum_at}
+use Rattle.layout.specs.Shapes.{loaded_at, working_at, sum_at}
 use Rattle.heading_format.specs.Heading.{written}
 
 -- the definitions that do not open by themselves
 unfoldable pub leaves : ℕ
-unfolding start tab cells fill store sumFrom subtractFrom logsFrom forward rows firstBad backward sqrtOf lnOf Ieee.add Ieee.sub Ieee.mul Ieee.div Ieee.le Ieee.lt Ieee.eq Ieee.of_int Ieee.of_bits Ieee.to_bits loadedAt workingAt sum_at written rustOrder
+unfolding start tab cells fill store sum_from subtract_from logs_from forward rows first_bad backward sqrt_of ln_of Ieee.add Ieee.sub Ieee.mul Ieee.div Ieee.le Ieee.lt Ieee.eq Ieee.of_int Ieee.of_bits Ieee.to_bits loaded_at working_at sum_at written rust_order
 leaves = 0
 
 abbrev pub word : ℕ → Float

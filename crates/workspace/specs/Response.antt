@@ -6,11 +6,11 @@ use Rattle.storage.specs.Shape.{fill}
 use Rattle.storage.specs.Part.{store}
 use Rattle.rules.specs.Arithmetic.{ieee}
 use Rattle.layout.specs.declared.Layout.{Layout}
-use Rattle.layout.specs.Shapes.{Target, target, pick, across, loadedShape, loadedAt, responseRow}
-use Rattle.heading_format.specs.Heading.{layout_of, entryRow, validHeading, idle}
-use Rattle.workspace.specs.Memory.{cell_of, loadedBlock, headingWith}
-use Rattle.workspace.specs.Answers.{Outcome, accept, unchanged, untouched, lengths, lengthFault, wordFault, listFault, unlessRefused}
-use Rattle.workspace.specs.Loaded.{sheetRow}
+use Rattle.layout.specs.Shapes.{Target, target, pick, across, loaded_shape, loaded_at, response_row}
+use Rattle.heading_format.specs.Heading.{layout_of, entry_row, valid_heading, idle}
+use Rattle.workspace.specs.Memory.{cell_of, loaded_block, heading_with}
+use Rattle.workspace.specs.Answers.{Outcome, accept, unchanged, untouched, lengths, length_fault, word_fault, list_fault, unless_refused}
+use Rattle.workspace.specs.Loaded.{sheet_row}
 
 -- Z'y by sheet rows, X'y, and y'y, a list of one number
 pub record Response : Type 0 where
@@ -25,41 +25,41 @@ response zy xy yy = record { zy = zy; xy = xy; yy = yy }
 abbrev pub lists_of : Response → List (List Float)
 lists_of r = r.zy ∷ r.xy ∷ r.yy ∷ []
 
-abbrev pub responseLengths : Layout → List ℕ
-responseLengths y = y.q ∷ y.p ∷ 1 ∷ []
+abbrev pub response_lengths : Layout → List ℕ
+response_lengths y = y.q ∷ y.p ∷ 1 ∷ []
 
 -- a response of these lengths
 abbrev pub Prescribed : Layout → Response → Type 0
-Prescribed y r = lengths (lists_of r) ≡ responseLengths y
+Prescribed y r = lengths (lists_of r) ≡ response_lengths y
 
 -- the response's row of the last block: y'y in its corner, X'y left of it, Z'y in the fixed rows of block j
-abbrev pub responseCell : Layout → Response → ℕ → ℕ → Float
-responseCell y r j c =
-    pick (eqb j y.k) (cond (eqb c (responseRow y)) (get_or r.yy 0 ieee.zero) (get_or r.xy c ieee.zero)) (get_or r.zy (sheetRow y j c) ieee.zero)
+abbrev pub response_cell : Layout → Response → ℕ → ℕ → Float
+response_cell y r j c =
+    pick (eqb j y.k) (cond (eqb c (response_row y)) (get_or r.yy 0 ieee.zero) (get_or r.xy c ieee.zero)) (get_or r.zy (sheet_row y j c) ieee.zero)
 
 module _ (h : List ℕ) (w : List Float) (new : Response) where
   -- loaded block (k, j) with the new response in its row
-  unfoldable pub respondedBlock : ℕ → List Float
-  unfolding loadedShape
-  respondedBlock j =
+  unfoldable pub responded_block : ℕ → List Float
+  unfolding loaded_shape
+  responded_block j =
       let y = layout_of h in
-      let s = loadedShape y (entryRow h) y.k j in
-      fill s (λ r c. cond (eqb r (responseRow y)) (responseCell y new j c) (cell_of s (loadedBlock h w y.k j) r c))
+      let s = loaded_shape y (entry_row h) y.k j in
+      fill s (λ r c. cond (eqb r (response_row y)) (response_cell y new j c) (cell_of s (loaded_block h w y.k j) r c))
 
   -- all blocks (k, j)
-  unfoldable pub storeResponse : List Target → List Float → List Float
-  unfolding respondedBlock loadedAt
-  storeResponse [] v = v
-  storeResponse (t ∷ l) v = storeResponse l (store (loadedAt (layout_of h) t.row t.col) (respondedBlock t.col) v)
+  unfoldable pub store_response : List Target → List Float → List Float
+  unfolding responded_block loaded_at
+  store_response [] v = v
+  store_response (t ∷ l) v = store_response l (store (loaded_at (layout_of h) t.row t.col) (responded_block t.col) v)
 
   unfoldable pub responded : Outcome
-  unfolding storeResponse across
+  unfolding store_response across
   responded =
       let k = (layout_of h).k in
-      accept (headingWith h (idle k)) (storeResponse (across k k ++ (target k k ∷ [])) w)
+      accept (heading_with h (idle k)) (store_response (across k k ++ (target k k ∷ [])) w)
 
   -- 20; 13, every length first; 14
-  unfoldable pub replaceOf : Outcome
-  unfolding validHeading lengthFault wordFault responded
-  replaceOf =
-      pick (validHeading h (length w)) (unlessRefused (listFault (responseLengths (layout_of h)) (lists_of new)) (unchanged h w) responded) (untouched h w 20 0 0)
+  unfoldable pub replace_of : Outcome
+  unfolding valid_heading length_fault word_fault responded
+  replace_of =
+      pick (valid_heading h (length w)) (unless_refused (list_fault (response_lengths (layout_of h)) (lists_of new)) (unchanged h w) responded) (untouched h w 20 0 0)

@@ -1,7 +1,7 @@
 -- `begin::begin_valid`: 13, 14, or all is written.
 use mathlib.Core.Path.{sym, ◌∙◌}
 use Rattle.heading_format.proofs.Fits.{fits}
-use Rattle.begin.proofs.Outcome.{wrong-length, not_finite, ready, accepted}
+use Rattle.begin.proofs.Outcome.{wrong_length, not_finite, ready, accepted}
 use borrow.Author.Rules.{rules}
 use Rattle.begin.proofs.begin_valid.Statement.{statement}
 use Rattle.begin.proofs.begin_valid.Tie as tie
@@ -11,7 +11,7 @@ layout-requires c κs = let s = c.before.before.before.before in (fits s.args.he
 
 returns : tie.Need-returns
 returns c = let s = c.before.before.before.before.before.before.before.before in let a = s.args in
-    wrong-length a.heading.now a.doubles.now a.theta.now s.pre _ c.before.before.before.layout.ensures (λ e. c.before.if1.true (e ∙ sym c.before.before.theta-length.ensures)) _ c.refused.ensures
+    wrong_length a.heading.now a.doubles.now a.theta.now s.pre _ c.before.before.before.layout.ensures (λ e. c.before.if1.true (e ∙ sym c.before.before.theta-length.ensures)) _ c.refused.ensures
 
 returns-2 : tie.Need-returns-2
 returns-2 c = let s = c.before.before.before.before.before.before.before.before.before.before in let a = s.args in

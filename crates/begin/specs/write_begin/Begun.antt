@@ -3,10 +3,10 @@ use Rattle.std.specs.Prelude.{ℕ, ◌≡◌, List, [], ◌∷◌, Float}
 use Rattle.storage.specs.Part.{store}
 use Rattle.rules.specs.Arithmetic.{ieee}
 use Rattle.layout.specs.declared.Layout.{Layout}
-use Rattle.layout.specs.Shapes.{targets, thetaAt, sum_at}
-use Rattle.begin.specs.scaled_blocks.Scaled.{scaledBlocks}
+use Rattle.layout.specs.Shapes.{targets, theta_at, sum_at}
+use Rattle.begin.specs.scaled_blocks.Scaled.{scaled_blocks}
 
 -- w' is w begun, whatever the rows of a sparse pair's entries are
 abbrev pub DoublesBegun : Layout → List Float → List Float → List Float → Type 0
 DoublesBegun y theta w w' =
-    (row : ℕ → ℕ) → w' ≡ store (sum_at y) (ieee.zero ∷ []) (scaledBlocks y row theta (targets y.k) (store (thetaAt y) theta w))
+    (row : ℕ → ℕ) → w' ≡ store (sum_at y) (ieee.zero ∷ []) (scaled_blocks y row theta (targets y.k) (store (theta_at y) theta w))

@@ -9,27 +9,27 @@ use lib.Seq.{get_or-take}
 use Rattle.layout.specs.declared.Layout.{Layout}
 use Rattle.layout.specs.Blocks.{sorted, sum}
 use Rattle.layout.specs.Shapes.{levels}
-use Rattle.layout.proofs.Sums.{sum_same, sum_over, over-sorted}
-use Rattle.heading_format.specs.Heading.{sheetLevels, validLayout}
-use Rattle.heading_format.proofs.Valid.{is-valid}
-use Rattle.heading_format.proofs.Sorted.{length-sorted, same_lists, levels-at}
-use Rattle.workspace.specs.Loaded.{rowStart}
+use Rattle.layout.proofs.Sums.{sum_same, sum_over, over_sorted}
+use Rattle.heading_format.specs.Heading.{sheet_levels, valid_layout}
+use Rattle.heading_format.proofs.Valid.{is_valid}
+use Rattle.heading_format.proofs.Sorted.{length_sorted, same_lists, levels_at_lem}
+use Rattle.workspace.specs.Loaded.{row_start}
 use Rattle.block_places.proofs.sheet_rows.Rows.{rows_end}
 
-module _ (y : Layout) (ok : validLayout y ≡ true) where
-  abbrev sheetM : ℕ → ℕ
-  sheetM = sheetLevels y y.k
+module _ (y : Layout) (ok : valid_layout y ≡ true) where
+  abbrev sheet_m : ℕ → ℕ
+  sheet_m = sheet_levels y y.k
 
   -- the levels of the sheet's blocks are those of the sorted ones
-  pub all-rows : sum sheetM y.k ≡ y.q
-  all-rows =
-      let l : List ℕ = sorted sheetM y.k in
-      let n : length l ≡ y.k = length-sorted sheetM y.k in
-      let at : (j : ℕ) → j < y.k → sheetM (get_or l j 0) ≡ levels y j =
-      λ j h. ap sheetM (ap (λ (z : List ℕ). get_or z j 0) (sym (same_lists (take y.k y.order) l (is-valid y ok).order)) ∙ get_or-take y.k y.order j 0 h) ∙ levels-at y ok j h in
-      sym (over-sorted sheetM sheetM y.k) ∙ sym (sum_over sheetM l) ∙ ap (sum (λ i. sheetM (get_or l i 0))) n
-      ∙ sum_same (λ i. sheetM (get_or l i 0)) (levels y) y.k at ∙ sym (is-valid y ok).total
+  pub all_rows : sum sheet_m y.k ≡ y.q
+  all_rows =
+      let l : List ℕ = sorted sheet_m y.k in
+      let n : length l ≡ y.k = length_sorted sheet_m y.k in
+      let at : (j : ℕ) → j < y.k → sheet_m (get_or l j 0) ≡ levels y j =
+      λ j h. ap sheet_m (ap (λ (z : List ℕ). get_or z j 0) (sym (same_lists (take y.k y.order) l (is_valid y ok).order)) ∙ get_or-take y.k y.order j 0 h) ∙ levels_at_lem y ok j h in
+      sym (over_sorted sheet_m sheet_m y.k) ∙ sym (sum_over sheet_m l) ∙ ap (sum (λ i. sheet_m (get_or l i 0))) n
+      ∙ sum_same (λ i. sheet_m (get_or l i 0)) (levels y) y.k at ∙ sym (is_valid y ok).total
 
   -- a block's rows are among the q rows
-  pub rows-within : (j : ℕ) → j < y.k → rowStart y j + levels y j ≤ y.q
-  rows-within j h = omega (arith, rows_end y ok j h, all-rows)
+  pub rows_within : (j : ℕ) → j < y.k → row_start y j + levels y j ≤ y.q
+  rows_within j h = omega (arith, rows_end y ok j h, all_rows)

@@ -1,25 +1,25 @@
 -- Which sorted block has a row of the sheet, and what a program keeps of a layout to find it (document 01, Record 3).
 use Rattle.std.specs.Prelude.{ℕ, zero, suc, ◌+◌, ◌*◌, ◌≤◌, ◌<◌, ◌≡◌, cond, List, get_or}
 use Rattle.layout.specs.declared.Layout.{Layout}
-use Rattle.layout.specs.Shapes.{loadedAt}
+use Rattle.layout.specs.Shapes.{loaded_at}
 use Rattle.layout.specs.Blocks.{sum}
-use Rattle.heading_format.specs.Heading.{sheetLevels}
-use Rattle.workspace.specs.Loaded.{rowStart, in_block}
+use Rattle.heading_format.specs.Heading.{sheet_levels}
+use Rattle.workspace.specs.Loaded.{row_start, in_block}
 use Rattle.block_places.specs.declared.sheet_rows.Map.{Map}
 
 -- the one of the first n sorted blocks that has row x, or k where none has
-unfoldable pub blockOfRow : Layout → ℕ → ℕ → ℕ
-unfolding sum sheetLevels
-blockOfRow y zero x = y.k
-blockOfRow y (suc j) x = let rest = blockOfRow y j x in cond (in_block y j x) j rest
+unfoldable pub block_of_row : Layout → ℕ → ℕ → ℕ
+unfolding sum sheet_levels
+block_of_row y zero x = y.k
+block_of_row y (suc j) x = let rest = block_of_row y j x in cond (in_block y j x) j rest
 
 -- where the rows of each sorted block start in the sheet
 abbrev pub FirstRows : Layout → List ℕ → Type 0
-FirstRows y l = (j : ℕ) → j < y.k → get_or l j 0 ≡ rowStart y j
+FirstRows y l = (j : ℕ) → j < y.k → get_or l j 0 ≡ row_start y j
 
 -- where each loaded block starts among the doubles
 abbrev pub BlockStarts : Layout → List ℕ → Type 0
-BlockStarts y l = (i j : ℕ) → j ≤ i → i ≤ y.k → get_or l (i * 9 + j) 0 ≡ loadedAt y i j
+BlockStarts y l = (i j : ℕ) → j ≤ i → i ≤ y.k → get_or l (i * 9 + j) 0 ≡ loaded_at y i j
 
 -- a layout's map has both
 pub record Maps (y : Layout) (m : Map) : Type 0 where

@@ -23,9 +23,9 @@ along f s a b zero = s
 along f s a b (suc n) = f (along f s a b n) (ieee.times (a n) (b n))
 
 -- how a product is taken in: added, or subtracted
-abbrev pub addOrSubtract : Bool → Float → Float → Float
-addOrSubtract false = ieee.plus
-addOrSubtract true = ieee.minus
+abbrev pub add_or_subtract : Bool → Float → Float → Float
+add_or_subtract false = ieee.plus
+add_or_subtract true = ieee.minus
 
 -- a factor, negated where the product is subtracted
 abbrev pub signed_of : Bool → Float → Float
@@ -33,15 +33,15 @@ signed_of false x = x
 signed_of true x = neg x
 
 -- one product more in each of several sums: m times the double at p + i
-abbrev pub oneMore : (Float → Float → Float) → List Float → ℕ → Float → (ℕ → Float) → ℕ → Float
-oneMore f w p m s i = f (s i) (ieee.times (at w (p + i)) m)
+abbrev pub one_more : (Float → Float → Float) → List Float → ℕ → Float → (ℕ → Float) → ℕ → Float
+one_more f w p m s i = f (s i) (ieee.times (at w (p + i)) m)
 
 -- four products more, of columns that are `rows` and `step` apart
-abbrev pub fourMore : (Float → Float → Float) → (acc : List Float) (n : ℕ) (w : List Float) (p rows : ℕ) (v : List Float) (q step : ℕ) → List Float
-fourMore f acc n w p rows v q step =
+abbrev pub four_more : (Float → Float → Float) → (acc : List Float) (n : ℕ) (w : List Float) (p rows : ℕ) (v : List Float) (q step : ℕ) → List Float
+four_more f acc n w p rows v q step =
     run 0 n
-    (oneMore f w (p + rows + rows + rows) (at v (q + step + step + step))
-    (oneMore f w (p + rows + rows) (at v (q + step + step)) (oneMore f w (p + rows) (at v (q + step)) (oneMore f w p (at v q) (at acc)))))
+    (one_more f w (p + rows + rows + rows) (at v (q + step + step + step))
+    (one_more f w (p + rows + rows) (at v (q + step + step)) (one_more f w (p + rows) (at v (q + step)) (one_more f w p (at v q) (at acc)))))
     acc
 
 -- each of the first n doubles with the products of row i of the block at a of w, whose columns have `rows` cells, and row r of the block at b of v

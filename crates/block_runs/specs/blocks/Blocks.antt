@@ -13,12 +13,12 @@ abbrev pub entry : ℕ → ℕ → List Float → ℕ → Float
 entry off n w x = get_or (part off n w) x ieee.zero
 
 -- the row of the entry of sparse column x, from the heading h
-abbrev pub rowFrom : List ℕ → ℕ → ℕ → ℕ
-rowFrom h first x = get_or h (first + x) 0
+abbrev pub row_from : List ℕ → ℕ → ℕ → ℕ
+row_from h first x = get_or h (first + x) 0
 
 -- each of n entries lies in one of m rows
 abbrev pub RowsBelow : List ℕ → ℕ → ℕ → ℕ → Type 0
-RowsBelow h first n m = (x : ℕ) → x < n → rowFrom h first x < m
+RowsBelow h first n m = (x : ℕ) → x < n → row_from h first x < m
 
 -- for every shape that has n cells: what holds of a run of doubles cell by cell, holds of it as a dense block and as a list of entries
 abbrev pub EachShape : ℕ → (Shape → Type 0) → Type 0

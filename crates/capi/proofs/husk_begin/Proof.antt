@@ -2,8 +2,8 @@
 use mathlib.Core.Path.{refl}
 use borrow.Author.Tests.{lt-ltb, le-ltb}
 use Rattle.refusal.specs.Numbers.{Meaning}
-use Rattle.capi.specs.Told.{toldAnswer}
-use Rattle.capi.proofs.Laws.{call-told}
+use Rattle.capi.specs.Told.{told_answer}
+use Rattle.capi.proofs.Laws.{call_told}
 use borrow.Author.Rules.{rules}
 use Rattle.capi.proofs.husk_begin.Statement.{statement}
 use Rattle.capi.proofs.husk_begin.Tie as tie
@@ -13,7 +13,7 @@ returns-2 c =
     let p = c.before.before.before.before.before.before.before.before in
     let test = p.before.before.before in
     let l = test.before.before.before.before.before.args.answer.now in
-    rw (le-ltb _ _ test.if1.left) (call-told (λ (m : Meaning). toldAnswer m l) p.begin.ensures.0 c.before.before.tell-answer.ensures p.begin.ensures.1)
+    rw (le-ltb _ _ test.if1.left) (call_told (λ (m : Meaning). told_answer m l) p.begin.ensures.0 c.before.before.tell-answer.ensures p.begin.ensures.1)
 
 pub husk-begin-spec : {M : Type 1} → statement M
 husk-begin-spec = tie.close (tie.spec (λ c. rw (lt-ltb _ _ c.if1.true) refl) (λ c κs. search rules)

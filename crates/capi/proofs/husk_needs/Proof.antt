@@ -2,7 +2,7 @@
 use mathlib.Core.Path.{refl, ap, ◌∙◌}
 use borrow.Author.Tests.{lt-ltb, le-ltb}
 use Rattle.load.specs.room.Needs.{NeedsMeaning}
-use Rattle.capi.specs.Told.{toldNeeds}
+use Rattle.capi.specs.Told.{told_needs}
 use borrow.Author.Rules.{rules}
 use Rattle.capi.proofs.husk_needs.Statement.{statement}
 use Rattle.capi.proofs.husk_needs.Tie as tie
@@ -11,7 +11,7 @@ returns-2 : tie.Need-returns-2
 returns-2 c =
     let p = c.before.before.before.before in
     let l = p.before.before.before.before.args.answer.now in
-    rw (le-ltb _ _ p.before.if1.left) (c.before.before.tell-needs.ensures ∙ ap (λ (m : NeedsMeaning). toldNeeds m l) p.needs.ensures)
+    rw (le-ltb _ _ p.before.if1.left) (c.before.before.tell-needs.ensures ∙ ap (λ (m : NeedsMeaning). told_needs m l) p.needs.ensures)
 
 pub husk-needs-spec : {M : Type 1} → statement M
 husk-needs-spec = tie.close (tie.spec (λ c. rw (lt-ltb _ _ c.if1.true) refl) (λ c κs. search rules)

@@ -5,8 +5,8 @@ use Rattle.step_order.specs.Steps.{Step}
 use Rattle.refusal.specs.Numbers.{Meaning, meaning}
 use Rattle.workspace.specs.Answers.{Outcome}
 use Rattle.update.specs.Calls.{step_of}
-use Rattle.capi.specs.Told.{toldAnswer}
-use Rattle.capi.proofs.Laws.{call-told}
+use Rattle.capi.specs.Told.{told_answer}
+use Rattle.capi.proofs.Laws.{call_told}
 use borrow.Author.Rules.{rules}
 use Rattle.capi.proofs.husk_step.Statement.{statement}
 use Rattle.capi.proofs.husk_step.Tie as tie
@@ -23,7 +23,7 @@ returns-3 c =
     let answered = p.step.ensures.0 ∙ ap (λ (s : Step). meaning (called s).answer) p.before.name.ensures in
     let left = p.step.ensures.1 ∙ ap (λ (s : Step). (called s).left) p.before.name.ensures in
     rw (le-ltb _ _ test.before.if1.left, le-ltb _ _ test.if2.left)
-    (call-told (λ (m : Meaning). toldAnswer m a.answer.now) answered c.before.before.tell-answer.ensures left)
+    (call_told (λ (m : Meaning). told_answer m a.answer.now) answered c.before.before.tell-answer.ensures left)
 
 pub husk-step-spec : {M : Type 1} → statement M
 husk-step-spec = tie.close (tie.spec (λ c. rw (lt-ltb _ _ c.if1.true) refl) returns-2 (λ c κs. search rules)

@@ -2,7 +2,7 @@
 use mathlib.Core.Path.{refl, ap, ◌∙◌}
 use borrow.Author.Tests.{lt-ltb, le-ltb}
 use Rattle.views.specs.Views.{StepsMeaning}
-use Rattle.capi.specs.Told.{toldSteps}
+use Rattle.capi.specs.Told.{told_steps}
 use borrow.Author.Rules.{rules}
 use Rattle.capi.proofs.husk_steps_left.Statement.{statement}
 use Rattle.capi.proofs.husk_steps_left.Tie as tie
@@ -11,7 +11,7 @@ returns-2 : tie.Need-returns-2
 returns-2 c =
     let p = c.before.before.before.before in
     let l = p.before.before.before.before.args.answer.now in
-    rw (le-ltb _ _ p.before.if1.left) (c.before.before.tell-steps.ensures ∙ ap (λ (m : StepsMeaning). toldSteps m l) p.steps-left.ensures)
+    rw (le-ltb _ _ p.before.if1.left) (c.before.before.tell-steps.ensures ∙ ap (λ (m : StepsMeaning). told_steps m l) p.steps-left.ensures)
 
 pub husk-steps-left-spec : {M : Type 1} → statement M
 husk-steps-left-spec = tie.close (tie.spec (λ c. rw (lt-ltb _ _ c.if1.true) refl) (λ c κs. search rules)

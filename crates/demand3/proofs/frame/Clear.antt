@@ -5,39 +5,39 @@ use mathlib.Core.List.{List}
 use native.Mathlib.Omega.{arith}
 use lib.ListN.{length, take, drop, length-replicate}
 use lib.Ieee.{Float}
-use Rattle.storage.proofs.Parts.{length-store, take-store, drop-store}
+use Rattle.storage.proofs.Parts.{length_store, take_store, drop_store}
 use Rattle.rules.specs.Arithmetic.{ieee}
 use Rattle.layout.specs.declared.Layout.{Layout}
-use Rattle.layout.specs.Shapes.{loadedLength, thetaAt, workingEnd, doublesNeeded}
-use Rattle.workspace.specs.Memory.{zeros, workingZeros, cleared}
-use Rattle.layout.proofs.Places.{theta-inside}
+use Rattle.layout.specs.Shapes.{loaded_length, theta_at, working_end, doubles_needed}
+use Rattle.workspace.specs.Memory.{zeros, working_zeros, cleared}
+use Rattle.layout.proofs.Places.{theta_inside}
 
 -- the zeros reach from theta to the end of the workspace
-pub zeros-length : (y : Layout) → loadedLength y + length (zeros y) ≡ doublesNeeded y
+pub zeros_length : (y : Layout) → loaded_length y + length (zeros y) ≡ doubles_needed y
 unfolding zeros
-zeros-length y = omega (arith, theta-inside y, length-replicate (doublesNeeded y - loadedLength y) ieee.zero)
+zeros_length y = omega (arith, theta_inside y, length-replicate (doubles_needed y - loaded_length y) ieee.zero)
 
 -- those of a refused pivot to the end of the working doubles
-working-length : (y : Layout) → thetaAt y + length (workingZeros y) ≡ workingEnd y
-unfolding workingZeros
-working-length y = omega (arith, theta-inside y, length-replicate (workingEnd y - thetaAt y) ieee.zero)
+working_length : (y : Layout) → theta_at y + length (working_zeros y) ≡ working_end y
+unfolding working_zeros
+working_length y = omega (arith, theta_inside y, length-replicate (working_end y - theta_at y) ieee.zero)
 
-module _ (y : Layout) (w : List Float) (room : doublesNeeded y ≤ length w) where
+module _ (y : Layout) (w : List Float) (room : doubles_needed y ≤ length w) where
   -- so they fit
-  zeros-fit : thetaAt y + length (workingZeros y) ≤ length w
-  zeros-fit = omega (arith, working-length y)
+  zeros_fit : theta_at y + length (working_zeros y) ≤ length w
+  zeros_fit = omega (arith, working_length y)
 
   -- the length stays
-  pub cleared-length : length (cleared y w) ≡ length w
+  pub cleared_length : length (cleared y w) ≡ length w
   unfolding cleared
-  cleared-length = length-store (thetaAt y) (workingZeros y) w zeros-fit
+  cleared_length = length_store (theta_at y) (working_zeros y) w zeros_fit
 
   -- the loaded numbers stay
-  pub cleared-loaded : take (loadedLength y) (cleared y w) ≡ take (loadedLength y) w
+  pub cleared_loaded : take (loaded_length y) (cleared y w) ≡ take (loaded_length y) w
   unfolding cleared
-  cleared-loaded = take-store (thetaAt y) (workingZeros y) w zeros-fit
+  cleared_loaded = take_store (theta_at y) (working_zeros y) w zeros_fit
 
   -- what lies behind the workspace stays
-  pub cleared-behind : drop (doublesNeeded y) (cleared y w) ≡ drop (doublesNeeded y) w
+  pub cleared_behind : drop (doubles_needed y) (cleared y w) ≡ drop (doubles_needed y) w
   unfolding cleared
-  cleared-behind = drop-store (thetaAt y) (workingZeros y) w zeros-fit (doublesNeeded y) (omega (arith, working-length y))
+  cleared_behind = drop_store (theta_at y) (working_zeros y) w zeros_fit (doubles_needed y) (omega (arith, working_length y))

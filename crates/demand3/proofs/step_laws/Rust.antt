@@ -9,89 +9,89 @@ use native.Mathlib.Omega.{arith}
 use lib.ListN.{length}
 use lib.Ieee.{Float}
 use borrow.Author.Tests.{eq-eqb, ne_eqb}
-use Rattle.step_order.specs.Steps.{Step, S, C, T, col, rustOrder}
-use Rattle.step_order.specs.Progress.{joinAll, row_in, refusedIn}
-use Rattle.step_order.proofs.Next.{rust-order}
-use Rattle.step_order.proofs.Theorems.{rust-complete}
+use Rattle.step_order.specs.Steps.{Step, S, C, T, col, rust_order}
+use Rattle.step_order.specs.Progress.{join_all, row_in, refused_in}
+use Rattle.step_order.proofs.Next.{rust_order_lem}
+use Rattle.step_order.proofs.Theorems.{rust_complete}
 use Rattle.sheet.specs.Sheet.{Sheet}
 use Rattle.refusal.specs.declared.Answer.{Answer}
 use Rattle.refusal.specs.declared.Answer.TheVariants.{Accepted, Refused}
 use Rattle.refusal.specs.Numbers.{refuse}
-use Rattle.layout.specs.Shapes.{loadedLength}
-use Rattle.workspace.specs.Memory.{workingBlock, logSum, zeros}
-use Rattle.workspace.specs.Answers.{firstInfinite}
-use Rattle.workspace.specs.Load.{headingOf}
-use Rattle.update.specs.Calls.{beginOf}
-use Rattle.book.specs.Book.{book, nothing, layout, last, fresh, rust, inStep, bookOf}
-use Rattle.book.specs.Values.{rulesHere, startHere, finalValue, logsAfter, refusedPivot}
+use Rattle.layout.specs.Shapes.{loaded_length}
+use Rattle.workspace.specs.Memory.{working_block, log_sum, zeros}
+use Rattle.workspace.specs.Answers.{first_infinite}
+use Rattle.workspace.specs.Load.{heading_of}
+use Rattle.update.specs.Calls.{begin_of}
+use Rattle.book.specs.Book.{book, nothing, layout, last, fresh, rust, in_step, book_of}
+use Rattle.book.specs.Values.{rules_here, start_here, final_value, logs_after, refused_pivot}
 use Rattle.demand3.proofs.invariant.Invariant.{Site, Invariant}
-use Rattle.demand3.proofs.invariant.Open.{fresh-site, fresh-invariant}
-use Rattle.demand3.proofs.invariant.Begin.{begin-invariant}
-use Rattle.demand3.proofs.step_laws.Run.{Through, Stopped, run-comes}
-use Rattle.demand3.proofs.step_laws.Finished.{finished-factor, finished-sum, finished-none}
+use Rattle.demand3.proofs.invariant.Open.{fresh_site, fresh_invariant}
+use Rattle.demand3.proofs.invariant.Begin.{begin_invariant}
+use Rattle.demand3.proofs.step_laws.Run.{Through, Stopped, run_comes}
+use Rattle.demand3.proofs.step_laws.Finished.{finished_factor, finished_sum, finished_none}
 
 -- the answer to a refused pivot, and in a step to the row of one
-abbrev pub answerFor : Option (ℕ × ℕ) → Answer
-answerFor none = Accepted
-answerFor (some p) = refuse 26 p.0 p.1
+abbrev pub answer_for : Option (ℕ × ℕ) → Answer
+answer_for none = Accepted
+answer_for (some p) = refuse 26 p.0 p.1
 
 abbrev pub answer_in : Step → Option ℕ → Answer
 answer_in s none = Accepted
 answer_in s (some r) = refuse 26 (col s) r
 
 -- C(j) answers the refused pivot where that lies in block j
-answer-in : (sheet : Sheet) (j : ℕ) (q : Option (ℕ × ℕ)) → inStep sheet (C j) (answerFor q) ≡ answer_in (C j) (row_in j q)
-answer-in sheet j none = refl
-answer-in sheet j (some p) = by_cases (ℕ_discrete p.0 j) (λ e. rw (eq-eqb p.0 j e, e)) (λ e. rw (ne_eqb p.0 j e))
+answer_in_lem : (sheet : Sheet) (j : ℕ) (q : Option (ℕ × ℕ)) → in_step sheet (C j) (answer_for q) ≡ answer_in (C j) (row_in j q)
+answer_in_lem sheet j none = refl
+answer_in_lem sheet j (some p) = by_cases (ℕ_discrete p.0 j) (λ e. rw (eq-eqb p.0 j e, e)) (λ e. rw (ne_eqb p.0 j e))
 
 -- S and T refuse no pivot
-never-in : (sheet : Sheet) (i j x : ℕ) (a : Answer) → (inStep sheet (S i j x) a ≡ Accepted) × (inStep sheet (T i j) a ≡ Accepted)
-never-in sheet i j x Accepted = (refl, refl)
-never-in sheet i j x (Refused r) = (refl, refl)
+never_in : (sheet : Sheet) (i j x : ℕ) (a : Answer) → (in_step sheet (S i j x) a ≡ Accepted) × (in_step sheet (T i j) a ≡ Accepted)
+never_in sheet i j x Accepted = (refl, refl)
+never_in sheet i j x (Refused r) = (refl, refl)
 
-module _ (sheet : Sheet) (h : List ℕ) (w : List Float) (here : Site sheet h w) (loaded theta : List Float) (many : length loaded ≡ loadedLength (layout sheet))
-    (theta-many : length theta ≡ last sheet) (finite : firstInfinite 0 theta ≡ none) where
+module _ (sheet : Sheet) (h : List ℕ) (w : List Float) (here : Site sheet h w) (loaded theta : List Float) (many : length loaded ≡ loaded_length (layout sheet))
+    (theta_many : length theta ≡ last sheet) (finite : first_infinite 0 theta ≡ none) where
   -- the two lists of a freshly loaded workspace
   abbrev h' : List ℕ
-  h' = headingOf sheet (layout sheet)
+  h' = heading_of sheet (layout sheet)
 
   abbrev w' : List Float
   w' = loaded ++ zeros (layout sheet)
 
   -- begin, then the Rust's order: all steps done, or a pivot refused
-  ends : Through sheet h' w' (fresh-site sheet h w here loaded many) loaded theta (joinAll nothing (rustOrder (last sheet))) (rust sheet loaded theta)
-      ⊎ Stopped sheet h' w' (fresh-site sheet h w here loaded many) loaded theta (rust sheet loaded theta)
+  ends : Through sheet h' w' (fresh_site sheet h w here loaded many) loaded theta (join_all nothing (rust_order (last sheet))) (rust sheet loaded theta)
+      ⊎ Stopped sheet h' w' (fresh_site sheet h w here loaded many) loaded theta (rust sheet loaded theta)
   ends =
-      run-comes sheet h' w' (fresh-site sheet h w here loaded many) loaded theta (rustOrder (last sheet)) nothing (beginOf h' w' theta).left
-      (begin-invariant sheet h' w' (fresh-site sheet h w here loaded many) (bookOf loaded) (fresh sheet loaded) (fresh-invariant sheet h w here loaded many) theta theta-many finite)
-      (rust-order (last sheet))
+      run_comes sheet h' w' (fresh_site sheet h w here loaded many) loaded theta (rust_order (last sheet)) nothing (begin_of h' w' theta).left
+      (begin_invariant sheet h' w' (fresh_site sheet h w here loaded many) (book_of loaded) (fresh sheet loaded) (fresh_invariant sheet h w here loaded many) theta theta_many finite)
+      (rust_order_lem (last sheet))
 
   -- it answers the pivot that it refuses, if there is one
-  pub rust-answer : (rust sheet loaded theta).answer ≡ answerFor (refusedPivot sheet loaded theta)
-  rust-answer =
+  pub rust_answer : (rust sheet loaded theta).answer ≡ answer_for (refused_pivot sheet loaded theta)
+  rust_answer =
       ⊎_elim
       (λ t. t.answer
-      ∙ sym (ap answerFor (finished-none sheet h' w' loaded theta (joinAll nothing (rustOrder (last sheet))) (rust sheet loaded theta).left t.stands (rust-complete (last sheet)).1)))
-      (λ t. t.answer ∙ sym (ap answerFor t.pivot)) ends
+      ∙ sym (ap answer_for (finished_none sheet h' w' loaded theta (join_all nothing (rust_order (last sheet))) (rust sheet loaded theta).left t.stands (rust_complete (last sheet)).1)))
+      (λ t. t.answer ∙ sym (ap answer_for t.pivot)) ends
 
   -- what that says of one step
-  pub in_step : (s : Step) → inStep sheet s (rust sheet loaded theta).answer ≡ answer_in s (refusedIn (rulesHere sheet loaded theta) (last sheet) (startHere sheet loaded theta) s)
-  in_step (S i j x) = (never-in sheet i j x (rust sheet loaded theta).answer).0
-  in_step (C j) = ap (inStep sheet (C j)) rust-answer ∙ answer-in sheet j (refusedPivot sheet loaded theta)
-  in_step (T i j) = (never-in sheet i j 0 (rust sheet loaded theta).answer).1
+  pub in_step_lem : (s : Step) → in_step sheet s (rust sheet loaded theta).answer ≡ answer_in s (refused_in (rules_here sheet loaded theta) (last sheet) (start_here sheet loaded theta) s)
+  in_step_lem (S i j x) = (never_in sheet i j x (rust sheet loaded theta).answer).0
+  in_step_lem (C j) = ap (in_step sheet (C j)) rust_answer ∙ answer_in_lem sheet j (refused_pivot sheet loaded theta)
+  in_step_lem (T i j) = (never_in sheet i j 0 (rust sheet loaded theta).answer).1
 
   -- where it refuses none: the factor and the sum
-  module _ (none-refused : refusedPivot sheet loaded theta ≡ none) where
+  module _ (none_refused : refused_pivot sheet loaded theta ≡ none) where
     -- all steps were done
-    pub through : Invariant sheet (headingOf sheet (layout sheet)) (loaded ++ zeros (layout sheet)) (book loaded theta (some (joinAll nothing (rustOrder (last sheet)))))
+    pub through : Invariant sheet (heading_of sheet (layout sheet)) (loaded ++ zeros (layout sheet)) (book loaded theta (some (join_all nothing (rust_order (last sheet)))))
         (rust sheet loaded theta).left
     through = ⊎_elim (λ t. t.stands) (λ t. absurd (let z : ◌≡◌ {A = ℕ} 0 1 = cc t.pivot in omega arith)) ends
 
-    pub rust-factor : (i j : ℕ) → j ≤ i → i ≤ last sheet
-        → workingBlock (rust sheet loaded theta).left.heading (rust sheet loaded theta).left.doubles i j ≡ finalValue sheet loaded theta i j
-    rust-factor =
-        finished-factor sheet h' w' loaded theta (joinAll nothing (rustOrder (last sheet))) (rust sheet loaded theta).left through (rust-complete (last sheet)).1
+    pub rust_factor : (i j : ℕ) → j ≤ i → i ≤ last sheet
+        → working_block (rust sheet loaded theta).left.heading (rust sheet loaded theta).left.doubles i j ≡ final_value sheet loaded theta i j
+    rust_factor =
+        finished_factor sheet h' w' loaded theta (join_all nothing (rust_order (last sheet))) (rust sheet loaded theta).left through (rust_complete (last sheet)).1
 
-    pub rust-sum : logSum (rust sheet loaded theta).left.heading (rust sheet loaded theta).left.doubles ≡ logsAfter sheet loaded theta (suc (last sheet))
-    rust-sum =
-        finished-sum sheet h' w' loaded theta (joinAll nothing (rustOrder (last sheet))) (rust sheet loaded theta).left through (rust-complete (last sheet)).1
+    pub rust_sum : log_sum (rust sheet loaded theta).left.heading (rust sheet loaded theta).left.doubles ≡ logs_after sheet loaded theta (suc (last sheet))
+    rust_sum =
+        finished_sum sheet h' w' loaded theta (join_all nothing (rust_order (last sheet))) (rust sheet loaded theta).left through (rust_complete (last sheet)).1

@@ -11,32 +11,32 @@ use lib.Ieee.{Float}
 use borrow.Author.Tests.{eqb-true, lt-ltb, le-ltb}
 use Rattle.refusal.specs.declared.Answer.{Answer}
 use Rattle.refusal.specs.declared.Answer.TheVariants.{Accepted}
-use Rattle.storage.proofs.Parts.{part_same, drop-store}
-use Rattle.step_order.specs.Steps.{rustOrder}
+use Rattle.storage.proofs.Parts.{part_same, drop_store}
+use Rattle.step_order.specs.Steps.{rust_order}
 use Rattle.rules.specs.Arithmetic.{ieee}
 use Rattle.sheet.specs.declared.Cursor.{Cursor}
 use Rattle.sheet.specs.declared.Reading.TheVariants.{Refused as Unread}
 use Rattle.sheet.specs.declared.Starts.{Starts}
-use Rattle.sheet.specs.Sheet.{Sheet, accepted, readSheet}
-use Rattle.sheet.specs.Fault.{faultNumber}
+use Rattle.sheet.specs.Sheet.{Sheet, accepted, read_sheet}
+use Rattle.sheet.specs.Fault.{fault_number}
 use Rattle.sheet.specs.Answer.{judged}
-use Rattle.sheet.proofs.Answers.{judged-refused, checked-fine}
+use Rattle.sheet.proofs.Answers.{judged_refused, checked_fine}
 use Rattle.sheet.proofs.Whole.{read_whole, all_lines}
 use Rattle.layout.specs.declared.Layout.{Layout}
-use Rattle.heading_format.specs.Heading.{layout_of, validHeading, underWay}
+use Rattle.heading_format.specs.Heading.{layout_of, valid_heading, under_way}
 use Rattle.heading_format.proofs.Fits.{fits}
-use Rattle.heading_format.proofs.Valid.{is-valid}
-use Rattle.workspace.specs.Memory.{headingWith}
+use Rattle.heading_format.proofs.Valid.{is_valid}
+use Rattle.workspace.specs.Memory.{heading_with}
 use Rattle.workspace.specs.Answers.{Outcome, workspace}
-use Rattle.workspace.specs.Load.{loadSheet}
-use Rattle.update.specs.Calls.{run_of, beginOf}
-use Rattle.update.proofs.progress_laws.Kept.{layout-kept}
-use Rattle.update.proofs.progress_laws.Calls.{begin-accepted, run-kept}
+use Rattle.workspace.specs.Load.{load_sheet}
+use Rattle.update.specs.Calls.{run_of, begin_of}
+use Rattle.update.proofs.progress_laws.Kept.{layout_kept}
+use Rattle.update.proofs.progress_laws.Calls.{begin_accepted, run_kept}
 use Rattle.profile_deviance.specs.ready_step.ReadyInTurn.{is_refused, ReadyInTurn, Ran}
-use Rattle.profile_deviance.proofs.ready_step.Turns.{just-begun}
-use Rattle.load_numbers.proofs.sheet_words.Facts.{few-entries}
-use Rattle.factor_output.specs.Print.{refusedLine}
-use Rattle.factor_output.specs.Program.{bytesHeld, numbersHeld, doublesHeld, printSteps, afterBegin, factorWith, thetaLines, afterLoad, afterSheet, afterRead, printOf}
+use Rattle.profile_deviance.proofs.ready_step.Turns.{just_begun}
+use Rattle.load_numbers.proofs.sheet_words.Facts.{few_entries}
+use Rattle.factor_output.specs.Print.{refused_line}
+use Rattle.factor_output.specs.Program.{bytes_held, numbers_held, doubles_held, print_steps, after_begin, factor_with, theta_lines, after_load, after_sheet, after_read, print_of}
 use Rattle.factor_text.specs.refusal_text.Text.{Text}
 use Rattle.sheet.specs.declared.Counts.{Counts}
 
@@ -48,108 +48,108 @@ answered f a b n old out e t = subst (λ (x : Answer). Text (f x) n old out) (sy
 -- ---- begin
 module _ (h : List ℕ) (w theta : List Float) where
   -- what an accepted begin leaves waits for the steps in the Rust's order, with the same blocks
-  pub begun-underway : (a : Answer) (h₁ : List ℕ) (w₁ : List Float) → length w₁ ≡ length w → record { answer = a; left = workspace h₁ w₁ } ≡ beginOf h w theta → a ≡ Accepted
-      → ReadyInTurn (workspace h₁ w₁) (rustOrder (length theta)) × ((layout_of h₁).k ≡ length theta)
-  begun-underway a h₁ w₁ long e q =
-      let b = begin-accepted h w theta (ap (λ (o : Outcome). o.answer) (sym e) ∙ q) in
-      let left : h₁ ≡ headingWith h (underWay (layout_of h).k) = ap (λ (o : Outcome). o.left.heading) e ∙ b.2 in
+  pub begun_underway : (a : Answer) (h₁ : List ℕ) (w₁ : List Float) → length w₁ ≡ length w → record { answer = a; left = workspace h₁ w₁ } ≡ begin_of h w theta → a ≡ Accepted
+      → ReadyInTurn (workspace h₁ w₁) (rust_order (length theta)) × ((layout_of h₁).k ≡ length theta)
+  begun_underway a h₁ w₁ long e q =
+      let b = begin_accepted h w theta (ap (λ (o : Outcome). o.answer) (sym e) ∙ q) in
+      let left : h₁ ≡ heading_with h (under_way (layout_of h).k) = ap (λ (o : Outcome). o.left.heading) e ∙ b.2 in
       let same : (layout_of h₁).k ≡ length theta =
-      ap (λ (x : List ℕ). (layout_of x).k) left ∙ ap (λ (y : Layout). y.k) (layout-kept h (fits h (length w) b.0).long (underWay (layout_of h).k)) ∙ sym b.1 in
-      (subst (λ (k : ℕ). ReadyInTurn (workspace h₁ w₁) (rustOrder k)) same (just-begun h (workspace h₁ w₁) (ap (validHeading h) long ∙ b.0) left), same)
+      ap (λ (x : List ℕ). (layout_of x).k) left ∙ ap (λ (y : Layout). y.k) (layout_kept h (fits h (length w) b.0).long (under_way (layout_of h).k)) ∙ sym b.1 in
+      (subst (λ (k : ℕ). ReadyInTurn (workspace h₁ w₁) (rust_order k)) same (just_begun h (workspace h₁ w₁) (ap (valid_heading h) long ∙ b.0) left), same)
 
   -- the text of begin's outcome
-  pub begin-out : (k : ℕ) (a : Answer) (h₁ : List ℕ) (w₁ : List Float) (n : ℕ) (old out : List ℕ) → record { answer = a; left = workspace h₁ w₁ } ≡ beginOf h w theta
-      → Text (afterBegin a (workspace h₁ w₁) k) n old out → Text (factorWith (workspace h w) k theta) n old out
-  unfolding factorWith
-  begin-out k a h₁ w₁ n old out e t = subst (λ (o : Outcome). Text (afterBegin o.answer o.left k) n old out) e t
+  pub begin_out : (k : ℕ) (a : Answer) (h₁ : List ℕ) (w₁ : List Float) (n : ℕ) (old out : List ℕ) → record { answer = a; left = workspace h₁ w₁ } ≡ begin_of h w theta
+      → Text (after_begin a (workspace h₁ w₁) k) n old out → Text (factor_with (workspace h w) k theta) n old out
+  unfolding factor_with
+  begin_out k a h₁ w₁ n old out e t = subst (λ (o : Outcome). Text (after_begin o.answer o.left k) n old out) e t
 
 -- ---- the steps
 -- a workspace has at most eight blocks
-pub few-blocks : (h : List ℕ) (w : List Float) (k : ℕ) → validHeading h (length w) ≡ true → (layout_of h).k ≡ k → k ≤ 8
-few-blocks h w k ok e = omega (arith, (is-valid (layout_of h) (fits h (length w) ok).valid).blocks.1)
+pub few_blocks : (h : List ℕ) (w : List Float) (k : ℕ) → valid_heading h (length w) ≡ true → (layout_of h).k ≡ k → k ≤ 8
+few_blocks h w k ok e = omega (arith, (is_valid (layout_of h) (fits h (length w) ok).valid).blocks.1)
 
 -- what an accepted run leaves is a workspace
-pub run-valid-heading : (h : List ℕ) (w : List Float) (k : ℕ) (a : Answer) (h₁ : List ℕ) (w₁ : List Float) → ReadyInTurn (workspace h w) (rustOrder k)
-    → Ran (workspace h w) (rustOrder k) (record { answer = a; left = workspace h₁ w₁ }) → a ≡ Accepted → validHeading h₁ (length w₁) ≡ true
-run-valid-heading h w k a h₁ w₁ u r q = (r.next [] (subst (ReadyInTurn (workspace h w)) (sym (append-nil (rustOrder k))) u) (ap is_refused q)).valid
+pub run_valid_heading : (h : List ℕ) (w : List Float) (k : ℕ) (a : Answer) (h₁ : List ℕ) (w₁ : List Float) → ReadyInTurn (workspace h w) (rust_order k)
+    → Ran (workspace h w) (rust_order k) (record { answer = a; left = workspace h₁ w₁ }) → a ≡ Accepted → valid_heading h₁ (length w₁) ≡ true
+run_valid_heading h w k a h₁ w₁ u r q = (r.next [] (subst (ReadyInTurn (workspace h w)) (sym (append-nil (rust_order k))) u) (ap is_refused q)).valid
 
 -- what the run leaves is printed as the steps' outcome
-pub run_out : (h : List ℕ) (w : List Float) (k : ℕ) (a : Answer) (h₁ : List ℕ) (w₁ : List Float) (n : ℕ) (old out : List ℕ) → validHeading h (length w) ≡ true → (layout_of h).k ≡ k
-    → record { answer = a; left = workspace h₁ w₁ } ≡ run_of (workspace h w) (rustOrder k) → Text (printSteps a (workspace h₁ w₁) (layout_of h₁).k) n old out
-    → Text (afterBegin Accepted (workspace h w) k) n old out
+pub run_out : (h : List ℕ) (w : List Float) (k : ℕ) (a : Answer) (h₁ : List ℕ) (w₁ : List Float) (n : ℕ) (old out : List ℕ) → valid_heading h (length w) ≡ true → (layout_of h).k ≡ k
+    → record { answer = a; left = workspace h₁ w₁ } ≡ run_of (workspace h w) (rust_order k) → Text (print_steps a (workspace h₁ w₁) (layout_of h₁).k) n old out
+    → Text (after_begin Accepted (workspace h w) k) n old out
 run_out h w k a h₁ w₁ n old out ok is e t =
     let q : (layout_of h₁).k ≡ k =
-    ap (λ (o : Outcome). (layout_of o.left.heading).k) e ∙ ap (λ (y : Layout). y.k) (run-kept (workspace h w) (rustOrder k)) ∙ is in
-    subst (λ (o : Outcome). Text (printSteps o.answer o.left k) n old out) e (subst (λ (x : ℕ). Text (printSteps a (workspace h₁ w₁) x) n old out) q t)
+    ap (λ (o : Outcome). (layout_of o.left.heading).k) e ∙ ap (λ (y : Layout). y.k) (run_kept (workspace h w) (rust_order k)) ∙ is in
+    subst (λ (o : Outcome). Text (print_steps o.answer o.left k) n old out) e (subst (λ (x : ℕ). Text (print_steps a (workspace h₁ w₁) x) n old out) q t)
 
 -- ---- the theta part
 -- both tests pass, so no line was refused
-pub theta-number : (a : ℕ) (b : Bool) → (eqb a 0 && b) ≡ true → a ≡ 0
-theta-number a b t = eqb-true a 0 ((and-eq-true_iff (eqb a 0) b).0 t).0
+pub theta_number : (a : ℕ) (b : Bool) → (eqb a 0 && b) ≡ true → a ≡ 0
+theta_number a b t = eqb-true a 0 ((and-eq-true_iff (eqb a 0) b).0 t).0
 
 module _ (s : List ℕ) (z : Starts) (h : List ℕ) (w : List Float) where
   abbrev start : Cursor
   start = record { at = z.end; line = z.line; number = 0 }
 
   -- it is in form and the last of the input
-  pub theta-good : (c : Cursor) (theta : List Float) (n : ℕ) (old out : List ℕ) → c ≡ (thetaLines s z.counts.k start).past → (eqb c.number 0 && eqb c.at (length s)) ≡ true
-      → theta ≡ (thetaLines s z.counts.k start).items → length theta ≡ z.counts.k → Text (factorWith (workspace h w) (length theta) theta) n old out
-      → Text (afterLoad Accepted (workspace h w) z.counts s z) n old out
-  theta-good c theta n old out e t q long p =
+  pub theta_good : (c : Cursor) (theta : List Float) (n : ℕ) (old out : List ℕ) → c ≡ (theta_lines s z.counts.k start).past → (eqb c.number 0 && eqb c.at (length s)) ≡ true
+      → theta ≡ (theta_lines s z.counts.k start).items → length theta ≡ z.counts.k → Text (factor_with (workspace h w) (length theta) theta) n old out
+      → Text (after_load Accepted (workspace h w) z.counts s z) n old out
+  theta_good c theta n old out e t q long p =
       rw (← e, t, ← q, ← long) p
 
   -- or 2, with the line
-  pub theta-bad : (c : Cursor) (n : ℕ) (old out : List ℕ) → c ≡ (thetaLines s z.counts.k start).past → (eqb c.number 0 && eqb c.at (length s)) ≡ false
-      → Text (refusedLine 2 c.line 0) n old out → Text (afterLoad Accepted (workspace h w) z.counts s z) n old out
-  theta-bad c n old out e t p = rw (← e, t) p
+  pub theta_bad : (c : Cursor) (n : ℕ) (old out : List ℕ) → c ≡ (theta_lines s z.counts.k start).past → (eqb c.number 0 && eqb c.at (length s)) ≡ false
+      → Text (refused_line 2 c.line 0) n old out → Text (after_load Accepted (workspace h w) z.counts s z) n old out
+  theta_bad c n old out e t p = rw (← e, t) p
 
 -- ---- the sheet
 module _ (s : List ℕ) (z : Starts) where
   -- its blocks are at most eight, and its lines few
-  pub few-lines : (sheet : Sheet) → readSheet s ≡ accepted sheet z → (z.counts.k ≤ 8) × (z.line + z.counts.k < 9223372036854775808)
-  few-lines sheet e =
+  pub few_lines : (sheet : Sheet) → read_sheet s ≡ accepted sheet z → (z.counts.k ≤ 8) × (z.line + z.counts.k < 9223372036854775808)
+  few_lines sheet e =
       let t = (read_whole s sheet z e).shape in
       let c = sheet.counts in
-      let k : z.counts.k ≤ 8 = subst (λ (x : _). x.k ≤ 8) (sym t.same-counts) t.counts.k in
-      let zz = few-entries c.q sheet.zz t.zz t.zz-rising in
+      let k : z.counts.k ≤ 8 = subst (λ (x : _). x.k ≤ 8) (sym t.same_counts) t.counts.k in
+      let zz = few_entries c.q sheet.zz t.zz t.zz_rising in
       let qq = mul-le-mul t.counts.q t.counts.q in
       let qp = mul-le-mul t.counts.q t.counts.p.1 in
       let pp = mul-le-mul t.counts.p.1 t.counts.p.1 in
       (k, omega (arith, k, zz, qq, qp, pp, all_lines (read_whole s sheet z e), t.counts.k, t.counts.q, t.counts.p.1))
 
-  pub sheet-out : (sheet : Sheet) → readSheet s ≡ accepted sheet z → faultNumber sheet ≡ 0 → (a : Answer) (h : List ℕ) (w : List Float) (n : ℕ) (old out : List ℕ)
-      → record { answer = a; left = workspace h w } ≡ loadSheet sheet (replicate numbersHeld 0) (replicate doublesHeld ieee.zero)
-      → Text (afterLoad a (workspace h w) z.counts s z) n old out → Text (afterRead (readSheet s) s) n old out
-  sheet-out sheet e fine a h w n old out q t =
+  pub sheet_out : (sheet : Sheet) → read_sheet s ≡ accepted sheet z → fault_number sheet ≡ 0 → (a : Answer) (h : List ℕ) (w : List Float) (n : ℕ) (old out : List ℕ)
+      → record { answer = a; left = workspace h w } ≡ load_sheet sheet (replicate numbers_held 0) (replicate doubles_held ieee.zero)
+      → Text (after_load a (workspace h w) z.counts s z) n old out → Text (after_read (read_sheet s) s) n old out
+  sheet_out sheet e fine a h w n old out q t =
       subst (λ (l : List ℕ). Text l n old out)
-      (sym (checked-fine (λ number line. refusedLine number line 0) (λ sheet starts. afterSheet sheet s starts) (readSheet s) sheet z e fine))
-      (subst (λ (o : Outcome). Text (afterLoad o.answer o.left sheet.counts s z) n old out) q (subst (λ (x : Counts). Text (afterLoad a (workspace h w) x s z) n old out) (read_whole s sheet z e).shape.same-counts t))
+      (sym (checked_fine (λ number line. refused_line number line 0) (λ sheet starts. after_sheet sheet s starts) (read_sheet s) sheet z e fine))
+      (subst (λ (o : Outcome). Text (after_load o.answer o.left sheet.counts s z) n old out) q (subst (λ (x : Counts). Text (after_load a (workspace h w) x s z) n old out) (read_whole s sheet z e).shape.same_counts t))
 
 -- ---- what the sheet's reader answered
 -- what is printed stands in the first n bytes, and those behind are as they were
 abbrev pub Printed : List ℕ → ℕ → List ℕ → List ℕ → Type 0
-Printed s n old out = (n ≤ 131072) × (take n out ≡ printOf s) × (drop n out ≡ drop n old)
+Printed s n old out = (n ≤ 131072) × (take n out ≡ print_of s) × (drop n out ≡ drop n old)
 
 module _ (s : List ℕ) (n : ℕ) (old out : List ℕ) (room : 131072 ≤ length old) where
   -- the text that it prints
-  text_out : (l : List ℕ) → l ≡ printOf s → Text l n old out → Printed s n old out
+  text_out : (l : List ℕ) → l ≡ print_of s → Text l n old out → Printed s n old out
   text_out l p t =
       let e : length l ≡ n = omega (arith, t.1.0) in (
         t.0,
         ap (take n) t.1.1 ∙ part_same 0 l old (omega (arith, e, t.0)) n e ∙ p,
-        ap (drop n) t.1.1 ∙ drop-store 0 l old (omega (arith, e, t.0)) n (omega (arith, e)),
+        ap (drop n) t.1.1 ∙ drop_store 0 l old (omega (arith, e, t.0)) n (omega (arith, e)),
       )
 
   -- more than the program holds
-  pub long-out : bytesHeld < length s → Text (refusedLine 12 0 0) n old out → Printed s n old out
-  unfolding printOf
-  long-out h t = text_out (refusedLine 12 0 0) (rw (lt-ltb bytesHeld (length s) h) refl) t
+  pub long_out : bytes_held < length s → Text (refused_line 12 0 0) n old out → Printed s n old out
+  unfolding print_of
+  long_out h t = text_out (refused_line 12 0 0) (rw (lt-ltb bytes_held (length s) h) refl) t
 
-  module _ (h : length s ≤ bytesHeld) where
-    pub read_out : Text (afterRead (readSheet s) s) n old out → Printed s n old out
-    unfolding printOf
-    read_out t = text_out _ (rw (le-ltb bytesHeld (length s) h) refl) t
+  module _ (h : length s ≤ bytes_held) where
+    pub read_out : Text (after_read (read_sheet s) s) n old out → Printed s n old out
+    unfolding print_of
+    read_out t = text_out _ (rw (le-ltb bytes_held (length s) h) refl) t
 
-    pub unread-out : (number line : ℕ) → judged (readSheet s) ≡ Unread number line → Text (refusedLine number line 0) n old out → Printed s n old out
-    unread-out number line a t =
-        read_out (subst (λ (l : List ℕ). Text l n old out) (sym (judged-refused (λ number line. refusedLine number line 0) (λ sheet starts. afterSheet sheet s starts) (readSheet s) number line a)) t)
+    pub unread_out : (number line : ℕ) → judged (read_sheet s) ≡ Unread number line → Text (refused_line number line 0) n old out → Printed s n old out
+    unread_out number line a t =
+        read_out (subst (λ (l : List ℕ). Text l n old out) (sym (judged_refused (λ number line. refused_line number line 0) (λ sheet starts. after_sheet sheet s starts) (read_sheet s) number line a)) t)

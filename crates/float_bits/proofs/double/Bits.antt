@@ -12,27 +12,27 @@ use lib.Ieee.Nearest.{div_same}
 use lib.Ieee.Positive.{positive, num, den}
 
 -- a pattern up to that of +infinity, with either sign, is no NaN's
-pub no-nan-bits : (n : ℕ) → n % 2 ^ 63 ≤ 2047 * 2 ^ 52 → T (not (nan_bits binary64 n))
-no-nan-bits n h = subst (λ (b : Bool). T (not b)) (sym (nan_bits_above binary64 n ∙ le-ltb 9218868437227405312 (n % 2 ^ 63) h)) tt
+pub no_nan_bits : (n : ℕ) → n % 2 ^ 63 ≤ 2047 * 2 ^ 52 → T (not (nan_bits binary64 n))
+no_nan_bits n h = subst (λ (b : Bool). T (not b)) (sym (nan_bits_above binary64 n ∙ le-ltb 9218868437227405312 (n % 2 ^ 63) h)) tt
 
-pub number-below : (n : ℕ) → n ≤ 2047 * 2 ^ 52 → T (not (nan_bits binary64 n))
-number-below n h = no-nan-bits n (omega arith)
+pub number_below : (n : ℕ) → n ≤ 2047 * 2 ^ 52 → T (not (nan_bits binary64 n))
+number_below n h = no_nan_bits n (omega arith)
 
 -- a float that equals itself is no NaN
-pub equal-itself : (x : Float) → eq x x ≡ true → T (not (is_nan x))
+pub equal_itself : (x : Float) → eq x x ≡ true → T (not (is_nan x))
 unfolding eq is_nan
-equal-itself nan t = absurd (true≢false (sym t))
-equal-itself (inf s) t = tt
-equal-itself (fin s m e) t = tt
+equal_itself nan t = absurd (true≢false (sym t))
+equal_itself (inf s) t = tt
+equal_itself (fin s m e) t = tt
 
 -- ---- the bits of a normal double
 fields_at : (x t : ℕ) → suc x < 2047 → of_fields binary64 false (suc x) t ≡ odd 53 false (2 ^ 52 + t) x 1074
 unfolding of_fields
 fields_at x t h = ap (λ (b : Bool). cond b (cond (eqb t 0) (inf false) nan) (odd 53 false (2 ^ 52 + t) x 1074)) (ne_eqb (suc x) 2047 (λ (e : suc x ≡ 2047). omega arith))
 
-pub normal-bits : (k s : ℕ) → k < 2046 → 2 ^ 52 ≤ s → s < 2 ^ 53 → of_bits binary64 (k * 4503599627370496 + s) ≡ odd 53 false s k 1074
+pub normal_bits : (k s : ℕ) → k < 2046 → 2 ^ 52 ≤ s → s < 2 ^ 53 → of_bits binary64 (k * 4503599627370496 + s) ≡ odd 53 false s k 1074
 unfolding of_bits
-normal-bits k s h l u =
+normal_bits k s h l u =
     let n = k * 4503599627370496 + s in
     let a : leb (2 ^ 63) n ≡ false = lt-leb (2 ^ 63) n (omega arith) in
     let b : n % 2 ^ 63 / 2 ^ 52 ≡ suc k = omega arith in

@@ -12,15 +12,15 @@ use lib.Ieee.Digits.{size_reaches, size-lt, size-le}
 use Rattle.float_bits.specs.declared.double.Parts.{Parts}
 use Rattle.float_bits.specs.double.Parts.{field, digits, places, leading, parts_of}
 
-pub size-pos : (q : ℕ) → 0 < q → 0 < size q
-size-pos q h = omega (arith, none)
+pub size_pos : (q : ℕ) → 0 < q → 0 < size q
+size_pos q h = omega (arith, none)
   where
     none : ¬ (size q ≤ 0)
     none l = let x : q < 2 ^ 0 = lt_of_lt_of_le (size-lt q) (pow_mono l) in omega arith
 
-pub places-le : (q : ℕ) → 0 < q → places q ≤ 52
+pub places_le : (q : ℕ) → 0 < q → places q ≤ 52
 unfolding places
-places-le q h = omega (arith, size-pos q h)
+places_le q h = omega (arith, size_pos q h)
 
 -- ---- a number of places that brings the leading digit to the 53rd is `places`
 module _ (q p : ℕ) (lo : 2 ^ 52 ≤ q * 2 ^ p) (hi : q * 2 ^ p < 2 ^ 53) where
@@ -43,9 +43,9 @@ module _ (q p : ℕ) (lo : 2 ^ 52 ≤ q * 2 ^ p) (hi : q * 2 ^ p < 2 ^ 53) where
       none : ¬ (q ≤ 0)
       none l = let e : q ≡ 0 = omega arith in omega (arith, ap (λ (n : ℕ). n * 2 ^ p) e)
 
-  pub places-are : p ≡ places q
+  pub places_are : p ≡ places q
   unfolding places
-  places-are = omega (arith, reach, no_more (size-pos q some), size-pos q some)
+  places_are = omega (arith, reach, no_more (size_pos q some), size_pos q some)
 
 -- ---- the digits in their place are 53
 module _ (q : ℕ) (P : 0 < q) (l : q < 2 ^ 53) where
@@ -58,7 +58,7 @@ module _ (q : ℕ) (P : 0 < q) (l : q < 2 ^ 53) where
   pub lead_low : 2 ^ 52 ≤ q * 2 ^ places q
   unfolding places
   lead_low =
-      let z : 0 < size q = size-pos q P in
+      let z : 0 < size q = size_pos q P in
       let x : 2 ^ (size q - 1) ≤ q = size_reaches q (size q - 1) (omega arith) in
       subst (λ (n : ℕ). n ≤ q * 2 ^ (53 - size q)) (exps (size q - 1) (53 - size q) 52 (omega (arith, few))) (mul-le-mul_right (2 ^ (53 - size q)) x)
 
@@ -75,16 +75,16 @@ pub record Lifting (q m t : ℕ) : Type 0 where
   pub less : m < 2 ^ 53
   pub most : t ≤ 52
 
-pub lift-start : (q : ℕ) → q < 2 ^ 52 → Lifting q q 52
-lift-start q l = record { is = omega arith; less = omega arith; most = omega arith }
+pub lift_start : (q : ℕ) → q < 2 ^ 52 → Lifting q q 52
+lift_start q l = record { is = omega arith; less = omega arith; most = omega arith }
 
-pub lift-some : (q m t : ℕ) → 0 < q → Lifting q m t → m < 2 ^ 52 → 0 < t
-lift-some q m zero p i h = let e : m ≡ q * 2 ^ 52 = i.is in omega arith
-lift-some q m (suc t) p i h = omega arith
+pub lift_some : (q m t : ℕ) → 0 < q → Lifting q m t → m < 2 ^ 52 → 0 < t
+lift_some q m zero p i h = let e : m ≡ q * 2 ^ 52 = i.is in omega arith
+lift_some q m (suc t) p i h = omega arith
 
-pub lift-on : (q m t : ℕ) → 0 < q → Lifting q m t → m < 2 ^ 52 → Lifting q (m * 2) (t - 1)
-lift-on q m t p i h =
-    let s : 0 < t = lift-some q m t p i h in
+pub lift_on : (q m t : ℕ) → 0 < q → Lifting q m t → m < 2 ^ 52 → Lifting q (m * 2) (t - 1)
+lift_on q m t p i h =
+    let s : 0 < t = lift_some q m t p i h in
     let e : 52 - (t - 1) ≡ suc (52 - t) = omega (arith, i.most) in
     record {
       is = omega (arith, i.is, ap (λ (n : ℕ). q * n) (ap (λ (n : ℕ). 2 ^ n) e ∙ pow-suc 2 (52 - t)));
@@ -92,10 +92,10 @@ lift-on q m t p i h =
       most = omega (arith, i.most);
     }
 
-pub lift-end : (q m t : ℕ) → Lifting q m t → 2 ^ 52 ≤ m → both m t ≡ leading q 0
+pub lift_end : (q m t : ℕ) → Lifting q m t → 2 ^ 52 ≤ m → both m t ≡ leading q 0
 unfolding leading
-lift-end q m t i h =
-    let e : 52 - t ≡ places q = places-are q (52 - t) (omega (arith, i.is)) (omega (arith, i.is)) in
+lift_end q m t i h =
+    let e : 52 - t ≡ places q = places_are q (52 - t) (omega (arith, i.is)) (omega (arith, i.is)) in
     let f : t ≡ 0 + 52 - places q = omega (arith, i.most) in
     ap₂ both (i.is ∙ ap (λ (n : ℕ). q * 2 ^ n) e) f
 
@@ -103,33 +103,33 @@ lift-end q m t i h =
 pub full : (q k : ℕ) → 2 ^ 52 ≤ q → q < 2 ^ 53 → both q (k + 52) ≡ leading q k
 unfolding leading
 full q k l h =
-    let e : 0 ≡ places q = places-are q 0 (omega arith) (omega arith) in
+    let e : 0 ≡ places q = places_are q 0 (omega arith) (omega arith) in
     let a : q ≡ q * 2 ^ places q = omega (arith, ap (λ (n : ℕ). q * 2 ^ n) e) in
     let b : k + 52 ≡ k + 52 - places q = omega arith in
     ap₂ both a b
 
 -- ---- the parts of a pattern, by its exponent's field
-digits-subnormal : (n : ℕ) → field n ≡ 0 → digits n ≡ n % 2 ^ 52
-digits-subnormal n e = ap (λ (b : Bool). cond b (n % 2 ^ 52) (2 ^ 52 + n % 2 ^ 52)) (eq-eqb (field n) 0 e)
+digits_subnormal : (n : ℕ) → field n ≡ 0 → digits n ≡ n % 2 ^ 52
+digits_subnormal n e = ap (λ (b : Bool). cond b (n % 2 ^ 52) (2 ^ 52 + n % 2 ^ 52)) (eq-eqb (field n) 0 e)
 
-digits-normal : (n : ℕ) → (field n ≡ 0 → ⊥) → digits n ≡ 2 ^ 52 + n % 2 ^ 52
-digits-normal n f = ap (λ (b : Bool). cond b (n % 2 ^ 52) (2 ^ 52 + n % 2 ^ 52)) (ne_eqb (field n) 0 f)
+digits_normal : (n : ℕ) → (field n ≡ 0 → ⊥) → digits n ≡ 2 ^ 52 + n % 2 ^ 52
+digits_normal n f = ap (λ (b : Bool). cond b (n % 2 ^ 52) (2 ^ 52 + n % 2 ^ 52)) (ne_eqb (field n) 0 f)
 
-pub some-digits : (n : ℕ) → field n ≡ 0 → 0 < digits n → 0 < n % 2 ^ 52
-some-digits n e h = omega (arith, digits-subnormal n e)
+pub some_digits : (n : ℕ) → field n ≡ 0 → 0 < digits n → 0 < n % 2 ^ 52
+some_digits n e h = omega (arith, digits_subnormal n e)
 
 pub subnormal : (n : ℕ) (r : Parts) → field n ≡ 0 → r ≡ leading (n % 2 ^ 52) 0 → r ≡ parts_of n
 unfolding parts_of
 subnormal n r e i =
     let z : 0 ≡ field n - 1 = omega (arith, e) in
-    i ∙ ap₂ leading (sym (digits-subnormal n e)) z
+    i ∙ ap₂ leading (sym (digits_subnormal n e)) z
 
 pub normal : (n : ℕ) → (field n ≡ 0 → ⊥) → both (2 ^ 52 + n % 2 ^ 52) (field n + 51) ≡ parts_of n
 unfolding parts_of
 normal n f =
     let z : field n + 51 ≡ field n - 1 + 52 = above (field n) f in
     ap (both (2 ^ 52 + n % 2 ^ 52)) z ∙ full (2 ^ 52 + n % 2 ^ 52) (field n - 1) (omega arith) (omega (arith, mod-lt n {m = 2 ^ 52} (lit< tt)))
-    ∙ ap (λ (q : ℕ). leading q (field n - 1)) (sym (digits-normal n f))
+    ∙ ap (λ (q : ℕ). leading q (field n - 1)) (sym (digits_normal n f))
   where
     above : (k : ℕ) → (k ≡ 0 → ⊥) → k + 51 ≡ k - 1 + 52
     above zero g = absurd (g refl)

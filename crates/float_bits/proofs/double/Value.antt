@@ -15,7 +15,7 @@ use Rattle.float_bits.specs.double.Parts.{field, digits, scale, places, leading,
 use Rattle.float_bits.specs.declared.double.Parts.{Parts}
 use Rattle.float_bits.specs.declared.double.Kind.TheVariants.{Positive}
 use Rattle.float_bits.specs.double.Kind.{kind_of}
-use Rattle.float_bits.proofs.double.Leading.{places-le, lead_low, lead_high}
+use Rattle.float_bits.proofs.double.Leading.{places_le, lead_low, lead_high}
 
 -- ---- from one fraction to another of the same size
 carry : (R Q v P a c : ℕ) → 0 < P → a * P ≡ v * c → R * P ≡ v * Q → R * c ≡ a * Q
@@ -48,9 +48,9 @@ signed (inf t) s a c p h = h
 signed (fin true m e) s a c p h = absurd p
 signed (fin false m e) s a c p h = (refl, h.1)
 
-bits-value : (x : Float) → T (fits binary64 x) → T (positive x) → HasValue x false (digits (to_bits binary64 x) * 2 ^ scale (to_bits binary64 x)) (2 ^ 1074)
+bits_value : (x : Float) → T (fits binary64 x) → T (positive x) → HasValue x false (digits (to_bits binary64 x) * 2 ^ scale (to_bits binary64 x)) (2 ^ 1074)
 unfolding of_bits
-bits-value x f p =
+bits_value x f p =
     let n = to_bits binary64 x in
     signed x (leb (top binary64) n) _ _ p
     (subst (λ (y : ℕ). HasValue x (leb (top binary64) n) (cond (eqb y 0) (n % 2 ^ 52) (2 ^ 52 + n % 2 ^ 52) * 2 ^ (y - 1)) (2 ^ 1074)) (Pow.field n 11 52)
@@ -64,13 +64,13 @@ digits_lt n = go (eqb (field n) 0) (n % 2 ^ 52) (mod-lt n (lit< tt))
     go true t h = omega arith
     go false t h = omega arith
 
-pub digits-pos : (x : Float) → T (fits binary64 x) → T (positive x) → 0 < digits (to_bits binary64 x)
-digits-pos x f p =
+pub digits_pos : (x : Float) → T (fits binary64 x) → T (positive x) → 0 < digits (to_bits binary64 x)
+digits_pos x f p =
     let n = to_bits binary64 x in
-    first_pos (digits n) (2 ^ scale n) (value_pos x (digits n * 2 ^ scale n) (2 ^ 1074) p (lit< tt) (bits-value x f p))
+    first_pos (digits n) (2 ^ scale n) (value_pos x (digits n * 2 ^ scale n) (2 ^ 1074) p (lit< tt) (bits_value x f p))
 
-scale-le : (n : ℕ) → scale n ≤ 2046
-scale-le n = omega (arith, mod-lt (n / 2 ^ 52) {m = 2 ^ 11} (lit< tt))
+scale_le : (n : ℕ) → scale n ≤ 2046
+scale_le n = omega (arith, mod-lt (n / 2 ^ 52) {m = 2 ^ 11} (lit< tt))
 
 -- ---- the parts
 moved : (q p k j : ℕ) → j + p ≡ k + 52 → q * 2 ^ p * 2 ^ j * 2 ^ 1074 ≡ q * 2 ^ k * 2 ^ 1126
@@ -90,41 +90,41 @@ module _ (x : Float) (f : T (fits binary64 x)) (p : T (positive x)) where
   unfolding significand exponent leading parts_of
   value =
       rescale x false (q * 2 ^ k) (2 ^ 1074) (q * 2 ^ places q * 2 ^ (k + 52 - places q)) (2 ^ 1126) (lit< tt)
-      (moved q (places q) k (k + 52 - places q) (omega (arith, places-le q (digits-pos x f p)))) (bits-value x f p)
+      (moved q (places q) k (k + 52 - places q) (omega (arith, places_le q (digits_pos x f p)))) (bits_value x f p)
 
-  pub significand-low : 2 ^ 52 ≤ significand x
+  pub significand_low : 2 ^ 52 ≤ significand x
   unfolding significand leading parts_of
-  significand-low = lead_low q (digits-pos x f p) (digits_lt (to_bits binary64 x))
+  significand_low = lead_low q (digits_pos x f p) (digits_lt (to_bits binary64 x))
 
-  pub significand-high : significand x < 2 ^ 53
+  pub significand_high : significand x < 2 ^ 53
   unfolding significand leading parts_of
-  significand-high = lead_high q (digits-pos x f p) (digits_lt (to_bits binary64 x))
+  significand_high = lead_high q (digits_pos x f p) (digits_lt (to_bits binary64 x))
 
-  pub exponent-le : exponent x ≤ 2098
+  pub exponent_le : exponent x ≤ 2098
   unfolding exponent leading parts_of
-  exponent-le = omega (arith, scale-le (to_bits binary64 x))
+  exponent_le = omega (arith, scale_le (to_bits binary64 x))
 
-positive-in-place : (x : Float) → T (fits binary64 x) → T (positive x) → InPlace (parts_of (to_bits binary64 x))
+positive_in_place : (x : Float) → T (fits binary64 x) → T (positive x) → InPlace (parts_of (to_bits binary64 x))
 unfolding significand exponent
-positive-in-place x f p = record { low = significand-low x f p; high = significand-high x f p; most = exponent-le x f p }
+positive_in_place x f p = record { low = significand_low x f p; high = significand_high x f p; most = exponent_le x f p }
 
-pub kind-positive : (x : Float) (p : Parts) → kind_of x ≡ Positive p → T (positive x)
+pub kind_positive : (x : Float) (p : Parts) → kind_of x ≡ Positive p → T (positive x)
 unfolding kind_of
-kind-positive nan p e = let z : ◌≡◌ {A = ℕ} 0 1 = cc in omega arith
-kind-positive (inf true) p e = let z : ◌≡◌ {A = ℕ} 0 1 = cc in omega arith
-kind-positive (inf false) p e = let z : ◌≡◌ {A = ℕ} 0 1 = cc in omega arith
-kind-positive (fin s zero d) p e = let z : ◌≡◌ {A = ℕ} 0 1 = cc in absurd (omega arith)
-kind-positive (fin true (suc m) d) p e = let z : ◌≡◌ {A = ℕ} 0 1 = cc in omega arith
-kind-positive (fin false (suc m) d) p e = lt→ltb 0 (suc m) (zero-lt-suc m)
+kind_positive nan p e = let z : ◌≡◌ {A = ℕ} 0 1 = cc in omega arith
+kind_positive (inf true) p e = let z : ◌≡◌ {A = ℕ} 0 1 = cc in omega arith
+kind_positive (inf false) p e = let z : ◌≡◌ {A = ℕ} 0 1 = cc in omega arith
+kind_positive (fin s zero d) p e = let z : ◌≡◌ {A = ℕ} 0 1 = cc in absurd (omega arith)
+kind_positive (fin true (suc m) d) p e = let z : ◌≡◌ {A = ℕ} 0 1 = cc in omega arith
+kind_positive (fin false (suc m) d) p e = lt→ltb 0 (suc m) (zero-lt-suc m)
 
-pub kind-parts : (x : Float) (p : Parts) → kind_of x ≡ Positive p → parts_of (to_bits binary64 x) ≡ p
+pub kind_parts : (x : Float) (p : Parts) → kind_of x ≡ Positive p → parts_of (to_bits binary64 x) ≡ p
 unfolding kind_of
-kind-parts nan p e = cc
-kind-parts (inf true) p e = cc
-kind-parts (inf false) p e = cc
-kind-parts (fin s zero d) p e = cc
-kind-parts (fin true (suc m) d) p e = cc
-kind-parts (fin false (suc m) d) p e = cc
+kind_parts nan p e = cc
+kind_parts (inf true) p e = cc
+kind_parts (inf false) p e = cc
+kind_parts (fin s zero d) p e = cc
+kind_parts (fin true (suc m) d) p e = cc
+kind_parts (fin false (suc m) d) p e = cc
 
 pub in_place : (x : Float) (p : Parts) → T (fits binary64 x) → kind_of x ≡ Positive p → InPlace p
-in_place x p f e = subst InPlace (kind-parts x p e) (positive-in-place x f (kind-positive x p e))
+in_place x p f e = subst InPlace (kind_parts x p e) (positive_in_place x f (kind_positive x p e))

@@ -33,17 +33,17 @@ product x y =
     expanded 4294967296 x y (x / 4294967296) (x % 4294967296) (y / 4294967296) (y % 4294967296) (div-add-mod' x 4294967296) (div-add-mod' y 4294967296)
 
 -- over the products p = x * y, hh, hl, lh, ll
-pub high-of : (p hh hl lh ll : ℕ) → p ≡ hh * 18446744073709551616 + (hl + lh) * 4294967296 + ll
+pub high_of : (p hh hl lh ll : ℕ) → p ≡ hh * 18446744073709551616 + (hl + lh) * 4294967296 + ll
     → hh + (hl + ll / 4294967296) / 4294967296 + (lh + (hl + ll / 4294967296) % 4294967296) / 4294967296 ≡ p / 2 ^ 64
-high-of p hh hl lh ll e = omega arith
+high_of p hh hl lh ll e = omega arith
 
 pub low_of : (p hh hl lh ll : ℕ) → p ≡ hh * 18446744073709551616 + (hl + lh) * 4294967296 + ll
     → (hl % 4294967296 + lh % 4294967296 + ll / 4294967296) % 4294967296 * 4294967296 + ll % 4294967296 ≡ p % 2 ^ 64
 low_of p hh hl lh ll e = omega arith
 
 -- ---- the choice
-pub one-above : (a b : ℕ) → b < a → (◌≡◌ {A = ℕ} 1 (cond (ltb b a) 1 0)) × (1 ≤ 1)
-one-above a b h = (ap (λ (t : Bool). cond t 1 0) (sym (lt-ltb b a h)), lit≤ tt)
+pub one_above : (a b : ℕ) → b < a → (◌≡◌ {A = ℕ} 1 (cond (ltb b a) 1 0)) × (1 ≤ 1)
+one_above a b h = (ap (λ (t : Bool). cond t 1 0) (sym (lt-ltb b a h)), lit≤ tt)
 
 pub none_above : (a b : ℕ) → a ≤ b → (◌≡◌ {A = ℕ} 0 (cond (ltb b a) 1 0)) × (0 ≤ 1)
 none_above a b h = (ap (λ (t : Bool). cond t 1 0) (sym (le-ltb b a h)), lit≤ tt)

@@ -7,7 +7,7 @@ use lib.Dec.{T, leb}
 use lib.Ieee.{Float, nan, inf, fin, binary64, div, ne, is_nan, of_bits, to_bits}
 use lib.Ieee.Bits.{nan_bits_is, nan_bits_above}
 use lib.Ieee.Compare.{differs_from_itself, nan_differs}
-use Rattle.float_bits.specs.words.Words.{rank, agreesOf}
+use Rattle.float_bits.specs.words.Words.{rank, agrees_of}
 
 -- ---- NaNs
 no : {A : Type 0} → true ≡ false → A
@@ -19,21 +19,21 @@ the_nan nan e = refl
 the_nan (inf s) e = no (sym e)
 the_nan (fin s m x) e = no (sym e)
 
-none-over-none : div binary64 (of_bits binary64 0) (of_bits binary64 0) ≡ nan
+none_over_none : div binary64 (of_bits binary64 0) (of_bits binary64 0) ≡ nan
 unfolding div of_bits
-none-over-none = refl
+none_over_none = refl
 
-pub nan-of-bits : (n : ℕ) → 9218868437227405312 < n % 9223372036854775808 → div binary64 (of_bits binary64 0) (of_bits binary64 0) ≡ of_bits binary64 n
-nan-of-bits n h =
-    none-over-none
+pub nan_of_bits : (n : ℕ) → 9218868437227405312 < n % 9223372036854775808 → div binary64 (of_bits binary64 0) (of_bits binary64 0) ≡ of_bits binary64 n
+nan_of_bits n h =
+    none_over_none
     ∙ the_nan (of_bits binary64 n) (sym (nan_bits_is binary64 n) ∙ nan_bits_above binary64 n ∙ lt-ltb 9218868437227405312 (n % 9223372036854775808) h)
 
-nan-bits : 9221120237041090560 ≡ to_bits binary64 nan
+nan_bits : 9221120237041090560 ≡ to_bits binary64 nan
 unfolding to_bits
-nan-bits = refl
+nan_bits = refl
 
 pub bits_of_nan : (x : Float) → ne x x ≡ true → 9221120237041090560 ≡ to_bits binary64 x
-bits_of_nan x t = nan-bits ∙ sym (ap (to_bits binary64) (differs_from_itself x (subst T (sym t) tt)))
+bits_of_nan x t = nan_bits ∙ sym (ap (to_bits binary64) (differs_from_itself x (subst T (sym t) tt)))
 
 pub no_nan : (x : Float) → ne x x ≡ false → T (not (is_nan x))
 unfolding is_nan
@@ -42,7 +42,7 @@ no_nan (inf s) t = tt
 no_nan (fin s m e) t = tt
 
 -- ---- the comparison
-pub between : (lower upper : ℕ) (r : Float) {n w a b : ℕ} → n ≡ to_bits binary64 r → w ≡ rank n → a ≡ rank lower → b ≡ rank upper → leb a w && leb w b ≡ agreesOf lower upper r
+pub between : (lower upper : ℕ) (r : Float) {n w a b : ℕ} → n ≡ to_bits binary64 r → w ≡ rank n → a ≡ rank lower → b ≡ rank upper → leb a w && leb w b ≡ agrees_of lower upper r
 between lower upper r {n} {w} e f g h =
     ap₂ (λ (a b : ℕ). leb a w && leb w b) g h
     ∙ ap (λ (v : ℕ). leb (rank lower) v && leb v (rank upper)) (f ∙ ap rank e)

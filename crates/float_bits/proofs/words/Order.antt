@@ -7,7 +7,7 @@ use borrow.Author.Tests.{ltb-true, ltb-false, leb-true}
 use lib.Dec.{T, ltb, leb}
 use lib.Ieee.{Float, binary64, fits, to_bits}
 use lib.Ieee.Bits.{to_bits-lt}
-use Rattle.float_bits.specs.words.Words.{rank, agreesOf}
+use Rattle.float_bits.specs.words.Words.{rank, agrees_of}
 
 -- a word below 2^63 keeps its order above the middle, and one from 2^63 on has the opposite order below it
 ranked : (w : ℕ) (b : Bool) → ltb w (2 ^ 63) ≡ b → rank w ≡ cond b (2 ^ 63 + w) (2 ^ 64 - 1 - w)
@@ -19,7 +19,7 @@ apart a b true false e f h k s = omega (arith, ranked a true e, ranked b false f
 apart a b false true e f h k s = omega (arith, ranked a false e, ranked b true f, ltb-false a (2 ^ 63) e, ltb-true b (2 ^ 63) f)
 apart a b false false e f h k s = omega (arith, ranked a false e, ranked b false f)
 
-pub one_word : (w : ℕ) (r : Float) → w < 2 ^ 64 → T (fits binary64 r) → agreesOf w w r ≡ true → to_bits binary64 r ≡ w
+pub one_word : (w : ℕ) (r : Float) → w < 2 ^ 64 → T (fits binary64 r) → agrees_of w w r ≡ true → to_bits binary64 r ≡ w
 one_word w r h f a =
     let n = to_bits binary64 r in
     let both = (and-eq-true_iff (leb (rank w) (rank n)) (leb (rank n) (rank w))).0 a in

@@ -8,5 +8,5 @@ abbrev pub rank : ℕ → ℕ
 rank w = cond (ltb w (2 ^ 63)) (2 ^ 63 + w) (2 ^ 64 - 1 - w)
 
 -- r is from lower to upper in that order, where a NaN stands for the word 7ff8000000000000. Where the two words are one, r has that word (proofs/words/Order.antt).
-abbrev pub agreesOf : ℕ → ℕ → Float → Bool
-agreesOf lower upper r = leb (rank lower) (rank (to_bits binary64 r)) && leb (rank (to_bits binary64 r)) (rank upper)
+abbrev pub agrees_of : ℕ → ℕ → Float → Bool
+agrees_of lower upper r = leb (rank lower) (rank (to_bits binary64 r)) && leb (rank (to_bits binary64 r)) (rank upper)

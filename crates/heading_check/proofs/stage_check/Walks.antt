@@ -10,10 +10,10 @@ use borrow.Author.Tests.{ltb-true, lt-ltb}
 use lib.Dec.{ltb}
 use Rattle.step_order.specs.Steps.{Step, S, C, T, forerunners, each}
 use Rattle.step_order.specs.Progress.{all, done, outside}
-use Rattle.heading_format.specs.Heading.{forerunnersDone}
+use Rattle.heading_format.specs.Heading.{forerunners_done}
 use Rattle.heading_check.proofs.order_check.Sheets.{assoc}
 use Rattle.heading_check.specs.declared.stage_check.Walk.{Walk}
-use Rattle.heading_check.specs.stage_check.Walk.{stepWith, stepped, walked}
+use Rattle.heading_check.specs.stage_check.Walk.{step_with, stepped, walked}
 
 abbrev found : ℕ → Bool → Walk
 found left valid = record { left = left; valid = valid }
@@ -24,7 +24,7 @@ and-true false = refl
 
 -- ---- the forerunners of a step that its own target has are done with it
 
-guarded : (w : Walk) (d p r : Bool) → (d ≡ true → p ≡ true) → stepWith w d r ≡ stepWith w d (p && r)
+guarded : (w : Walk) (d p r : Bool) → (d ≡ true → p ≡ true) → step_with w d r ≡ step_with w d (p && r)
 guarded w true p r h = rw (h refl)
 guarded w false p r h = refl
 
@@ -33,24 +33,24 @@ module _ (g : ℕ → ℕ → ℕ) (w : Walk) where
   earlier : (x n : ℕ) → ltb (suc x) n ≡ true → ltb x n ≡ true
   earlier x n e = let h = ltb-true (suc x) n e in lt-ltb x n (omega arith)
 
-  step-S : (i j x : ℕ) → stepWith w (ltb x (g i j)) (ltb x (g i x) && ltb x (g j x)) ≡ stepped g w (S i j x)
+  step_s : (i j x : ℕ) → step_with w (ltb x (g i j)) (ltb x (g i x) && ltb x (g j x)) ≡ stepped g w (S i j x)
   unfolding stepped
-  step-S i j zero = ap (λ (b : Bool). stepWith w (ltb 0 (g i j)) (ltb 0 (g i 0) && b)) (and-true (ltb 0 (g j 0)))
-  step-S i j (suc x) =
-      ap (λ (b : Bool). stepWith w (ltb (suc x) (g i j)) (ltb (suc x) (g i (suc x)) && b)) (and-true (ltb (suc x) (g j (suc x))))
+  step_s i j zero = ap (λ (b : Bool). step_with w (ltb 0 (g i j)) (ltb 0 (g i 0) && b)) (and-true (ltb 0 (g j 0)))
+  step_s i j (suc x) =
+      ap (λ (b : Bool). step_with w (ltb (suc x) (g i j)) (ltb (suc x) (g i (suc x)) && b)) (and-true (ltb (suc x) (g j (suc x))))
       ∙ guarded w (ltb (suc x) (g i j)) (ltb x (g i j)) _ (earlier x (g i j))
 
-  step-C : (j : ℕ) → stepWith w (ltb j (g j j)) true ≡ stepped g w (C j)
+  step_c : (j : ℕ) → step_with w (ltb j (g j j)) true ≡ stepped g w (C j)
   unfolding stepped
-  step-C zero = refl
-  step-C (suc j) = guarded w (ltb (suc j) (g (suc j) (suc j))) (ltb j (g (suc j) (suc j))) true (earlier j (g (suc j) (suc j)))
+  step_c zero = refl
+  step_c (suc j) = guarded w (ltb (suc j) (g (suc j) (suc j))) (ltb j (g (suc j) (suc j))) true (earlier j (g (suc j) (suc j)))
 
-  step-T : (i j : ℕ) → stepWith w (ltb j (g i j)) (ltb j (g j j)) ≡ stepped g w (T i j)
+  step_t : (i j : ℕ) → step_with w (ltb j (g i j)) (ltb j (g j j)) ≡ stepped g w (T i j)
   unfolding stepped
-  step-T i zero = ap (stepWith w (ltb 0 (g i 0))) (and-true (ltb 0 (g 0 0)))
-  step-T i (suc j) =
+  step_t i zero = ap (step_with w (ltb 0 (g i 0))) (and-true (ltb 0 (g 0 0)))
+  step_t i (suc j) =
       guarded w (ltb (suc j) (g i (suc j))) (ltb j (g i (suc j))) (ltb (suc j) (g (suc j) (suc j))) (earlier j (g i (suc j)))
-      ∙ ap (stepWith w (ltb (suc j) (g i (suc j)))) (swap (ltb j (g i (suc j))) (ltb (suc j) (g (suc j) (suc j))))
+      ∙ ap (step_with w (ltb (suc j) (g i (suc j)))) (swap (ltb j (g i (suc j))) (ltb (suc j) (g (suc j) (suc j))))
     where
       swap : (a b : Bool) → (a && b) ≡ (b && (a && true))
       swap true true = refl
@@ -60,22 +60,22 @@ module _ (g : ℕ → ℕ → ℕ) (w : Walk) where
 
 -- a step, by the stages that were read
 module _ (g : ℕ → ℕ → ℕ) (w : Walk) {r : Walk} {s : ℕ} where
-  pub factored : (j : ℕ) → r ≡ stepWith w (ltb j s) true → s ≡ g j j → r ≡ stepped g w (C j)
-  factored j e p = rw (e, p) (step-C g w j)
+  pub factored : (j : ℕ) → r ≡ step_with w (ltb j s) true → s ≡ g j j → r ≡ stepped g w (C j)
+  factored j e p = rw (e, p) (step_c g w j)
 
-  pub solved : {a : ℕ} (i j : ℕ) → r ≡ stepWith w (ltb j s) (ltb j a) → s ≡ g i j → a ≡ g j j → r ≡ stepped g w (T i j)
-  solved i j e p q = rw (e, p, q) (step-T g w i j)
+  pub solved : {a : ℕ} (i j : ℕ) → r ≡ step_with w (ltb j s) (ltb j a) → s ≡ g i j → a ≡ g j j → r ≡ stepped g w (T i j)
+  solved i j e p q = rw (e, p, q) (step_t g w i j)
 
-  pub subtracted : {a b : ℕ} (i j x : ℕ) → r ≡ stepWith w (ltb x s) (ltb x a && ltb x b) → s ≡ g i j → a ≡ g i x → b ≡ g j x → r ≡ stepped g w (S i j x)
-  subtracted i j x e p q z = rw (e, p, q, z) (step-S g w i j x)
+  pub subtracted : {a b : ℕ} (i j x : ℕ) → r ≡ step_with w (ltb x s) (ltb x a && ltb x b) → s ≡ g i j → a ≡ g i x → b ≡ g j x → r ≡ stepped g w (S i j x)
+  subtracted i j x e p q z = rw (e, p, q, z) (step_s g w i j x)
 
 -- ---- lists one after the other
 
 module _ (g : ℕ → ℕ → ℕ) where
-  pub walked-append : (w : Walk) (a b : List Step) → walked g w (a ++ b) ≡ walked g (walked g w a) b
+  pub walked_append : (w : Walk) (a b : List Step) → walked g w (a ++ b) ≡ walked g (walked g w a) b
   unfolding walked
-  walked-append w [] b = refl
-  walked-append w (s ∷ a) b = walked-append (stepped g w s) a b
+  walked_append w [] b = refl
+  walked_append w (s ∷ a) b = walked_append (stepped g w s) a b
 
   pub walked_one : (w : Walk) (s : Step) → stepped g w s ≡ walked g w (s ∷ [])
   unfolding walked
@@ -83,12 +83,12 @@ module _ (g : ℕ → ℕ → ℕ) where
 
   -- one list, and a step behind it
   pub walked_then : {u v : Walk} (w : Walk) (a : List Step) (s : Step) → u ≡ walked g w a → v ≡ stepped g u s → v ≡ walked g w (a ++ (s ∷ []))
-  walked_then {u} {v} w a s e q = rw (walked-append w a (s ∷ []), q, e) (walked_one (walked g w a) s)
+  walked_then {u} {v} w a s e q = rw (walked_append w a (s ∷ []), q, e) (walked_one (walked g w a) s)
 
   -- and a list behind both
-  pub walked-column : {u v r : Walk} (w : Walk) (a : List Step) (s : Step) (b : List Step) → u ≡ walked g w a → v ≡ stepped g u s → r ≡ walked g v b → r ≡ walked g w (a ++ (s ∷ []) ++ b)
-  walked-column {u} {v} {r} w a s b e q z =
-      z ∙ ap (λ (y : Walk). walked g y b) (walked_then w a s e q) ∙ sym (walked-append w (a ++ (s ∷ [])) b)
+  pub walked_column : {u v r : Walk} (w : Walk) (a : List Step) (s : Step) (b : List Step) → u ≡ walked g w a → v ≡ stepped g u s → r ≡ walked g v b → r ≡ walked g w (a ++ (s ∷ []) ++ b)
+  walked_column {u} {v} {r} w a s b e q z =
+      z ∙ ap (λ (y : Walk). walked g y b) (walked_then w a s e q) ∙ sym (walked_append w (a ++ (s ∷ [])) b)
 
 -- ---- a loop over f x, .., f (end - 1): walked from v on, they still end in X
 pub record Going (g : ℕ → ℕ → ℕ) (X : Walk) (f : ℕ → List Step) (x end : ℕ) (v : Walk) : Type 0 where
@@ -108,7 +108,7 @@ going_more {g} {X} {f} {x} {end} {v} {u} e h q =
       same =
           ap (λ (y : Walk). walked g y (each f (x + 1) (end - (x + 1)))) q
           ∙ ap (λ (y : ℕ). walked g (walked g v (f x)) (each f y (end - (x + 1)))) (add-one x)
-          ∙ sym (walked-append g v (f x) (each f (suc x) (end - (x + 1))))
+          ∙ sym (walked_append g v (f x) (each f (suc x) (end - (x + 1))))
           ∙ ap (λ (n : ℕ). walked g v (each f x n)) (sym z)
           ∙ e.same;
     }
@@ -121,12 +121,12 @@ going_done {g} {X} {f} {x} {end} {v} e h =
 
 -- ---- what a walk has found
 module _ (g : ℕ → ℕ → ℕ) where
-  pub walked-is : (w : Walk) (l : List Step) → walked g w l ≡ found (w.left + outside (done g) l) (w.valid && forerunnersDone g l)
+  pub walked_is : (w : Walk) (l : List Step) → walked g w l ≡ found (w.left + outside (done g) l) (w.valid && forerunners_done g l)
   unfolding walked stepped
-  walked-is w [] = ap₂ found (sym (add-zero w.left)) (and-true w.valid)
-  walked-is w (s ∷ l) =
-      walked-is (stepped g w s) l
-      ∙ ap₂ found (counted (done g s) w.left (outside (done g) l)) (assoc w.valid (not (done g s) || all (done g) (forerunners s)) (forerunnersDone g l))
+  walked_is w [] = ap₂ found (sym (add-zero w.left)) (and-true w.valid)
+  walked_is w (s ∷ l) =
+      walked_is (stepped g w s) l
+      ∙ ap₂ found (counted (done g s) w.left (outside (done g) l)) (assoc w.valid (not (done g s) || all (done g) (forerunners s)) (forerunners_done g l))
     where
       counted : (d : Bool) (a b : ℕ) → a + cond d 0 1 + b ≡ a + cond d b (suc b)
       counted true a b = omega arith

@@ -10,36 +10,36 @@ use native.Mathlib.Omega.{arith}
 use native.Mathlib.Decide.{dec_lt}
 use mathlib.Core.Logic.{by_cases}
 use Rattle.storage.specs.Shape.{packed, columns, size_of}
-use Rattle.storage.proofs.Places.{size-columns, size-packed}
+use Rattle.storage.proofs.Places.{size_columns, size_packed}
 use Rattle.storage.specs.Placed.{block_of}
-use Rattle.block_runs.specs.blocks.Blocks.{RowsBelow, rowFrom}
+use Rattle.block_runs.specs.blocks.Blocks.{RowsBelow, row_from}
 use Rattle.cross_matvec.specs.Products.{HasRows}
 use Rattle.kernel_tests.specs.kernel_sizes.Sizes.{Clear}
 
 -- a test that failed shows anything
-pub no-case : {P : Type 0} → true ≡ false → P
-no-case e = let z : ◌≡◌ {A = ℕ} 0 1 = cc in absurd (omega arith)
+pub no_case : {P : Type 0} → true ≡ false → P
+no_case e = let z : ◌≡◌ {A = ℕ} 0 1 = cc in absurd (omega arith)
 
 -- neither of two tests that were joined failed
 pub neither : (a b : Bool) → a || b ≡ false → (a ≡ false) × (b ≡ false)
 neither false b e = (refl, e)
-neither true b e = no-case e
+neither true b e = no_case e
 
 -- ---- sizes
-pub columns-fit : (rows cols : ℕ) → rows ≤ 65535 → cols ≤ 65535 → rows * cols ≤ 65535 * 65535
-columns-fit rows cols h l = mul-le-mul h l
+pub columns_fit : (rows cols : ℕ) → rows ≤ 65535 → cols ≤ 65535 → rows * cols ≤ 65535 * 65535
+columns_fit rows cols h l = mul-le-mul h l
 
-pub columns-at : (rows cols : ℕ) → rows ≤ 65535 → cols ≤ 65535 → (rows * cols ≡ size_of (columns rows cols)) × (rows * cols ≤ 65535 * 65535)
-columns-at rows cols h l = (sym (size-columns rows cols), columns-fit rows cols h l)
+pub columns_at : (rows cols : ℕ) → rows ≤ 65535 → cols ≤ 65535 → (rows * cols ≡ size_of (columns rows cols)) × (rows * cols ≤ 65535 * 65535)
+columns_at rows cols h l = (sym (size_columns rows cols), columns_fit rows cols h l)
 
-pub packed-fit : (n : ℕ) → n ≤ 65535 → n * (n + 1) ≤ 65535 * 65536
-packed-fit n h = let l : n + 1 ≤ 65536 = omega arith in mul-le-mul h l
+pub packed_fit : (n : ℕ) → n ≤ 65535 → n * (n + 1) ≤ 65535 * 65536
+packed_fit n h = let l : n + 1 ≤ 65536 = omega arith in mul-le-mul h l
 
-pub packed-at : (n : ℕ) → n ≤ 65535 → (n * (n + 1) / 2 ≡ size_of (packed n)) × (n * (n + 1) / 2 ≤ 65535 * 65535)
-packed-at n h =
-    let q = size-packed n in
-    let e : n * (n + 1) / 2 ≡ size_of (packed n) = omega (arith, size-packed n) in
-    (e, omega (arith, packed-fit n h))
+pub packed_at : (n : ℕ) → n ≤ 65535 → (n * (n + 1) / 2 ≡ size_of (packed n)) × (n * (n + 1) / 2 ≤ 65535 * 65535)
+packed_at n h =
+    let q = size_packed n in
+    let e : n * (n + 1) / 2 ≡ size_of (packed n) = omega (arith, size_packed n) in
+    (e, omega (arith, packed_fit n h))
 
 -- ---- blocks within a list and apart, by their sizes
 pub clear_at : {len off n a m n' m' : ℕ} → n ≡ n' → m ≡ m' → Clear len off n a m → Clear len off n' a m'
@@ -51,12 +51,12 @@ pub block_at : (off len : ℕ) {n m : ℕ} → m ≡ n → off + m ≤ len → o
 block_at off len e h = omega (arith, e, h)
 
 pub transposed : (rows cols : ℕ) {n : ℕ} → n ≡ size_of (columns rows cols) → n ≡ size_of (columns cols rows)
-transposed rows cols e = omega (arith, e, size-columns rows cols, size-columns cols rows)
+transposed rows cols e = omega (arith, e, size_columns rows cols, size_columns cols rows)
 
 -- ---- rows below a bound
 module _ (h : List ℕ) (first m : ℕ) where
-  pub one_more : (i : ℕ) → RowsBelow h first i m → rowFrom h first i < m → RowsBelow h first (i + 1) m
-  one_more i f l x k = by_cases (dec_lt x i) (λ q. f x q) (λ q. let e : x ≡ i = omega arith in rw e l)
+  pub one_more_lem : (i : ℕ) → RowsBelow h first i m → row_from h first i < m → RowsBelow h first (i + 1) m
+  one_more_lem i f l x k = by_cases (dec_lt x i) (λ q. f x q) (λ q. let e : x ≡ i = omega arith in rw e l)
 
   -- lent from `first` on
   pub lent_rows : (at n : ℕ) → first + n ≤ length h → RowsBelow h first n m → HasRows (take (length h - first) (drop first h)) (block_of at m n)

@@ -10,7 +10,7 @@ use native.Mathlib.Numerals.{add-one}
 use borrow.Author.Tests.{eqb-false, eq-eqb, ne_eqb}
 use lib.Dec.{eqb}
 use Rattle.refusal.specs.declared.Refusal.{Refusal}
-use Rattle.refusal.specs.Numbers.{refusal, noRefusal}
+use Rattle.refusal.specs.Numbers.{refusal, no_refusal}
 use Rattle.layout.specs.declared.Layout.{Layout}
 use Rattle.layout.specs.Shapes.{Target, target, across, pairs}
 use Rattle.layout_gate.specs.gate_search.Search.{verdict, first}
@@ -22,43 +22,43 @@ Front l m = (r : List Target) × (m ≡ l ++ r)
 front_same : (l : List Target) → Front l l
 front_same l = ([], sym (append-nil l))
 
-front-more : (l m r : List Target) → Front l m → Front l (m ++ r)
-front-more l m r f = (f.0 ++ r, ap (λ (x : List Target). x ++ r) f.1 ∙ append_assoc l f.0 r)
+front_more : (l m r : List Target) → Front l m → Front l (m ++ r)
+front_more l m r f = (f.0 ++ r, ap (λ (x : List Target). x ++ r) f.1 ∙ append_assoc l f.0 r)
 
-front-behind : (p l m : List Target) → Front l m → Front (p ++ l) (p ++ m)
-front-behind p l m f = (f.0, ap (λ (x : List Target). p ++ x) f.1 ∙ sym (append_assoc p l f.0))
+front_behind : (p l m : List Target) → Front l m → Front (p ++ l) (p ++ m)
+front_behind p l m f = (f.0, ap (λ (x : List Target). p ++ x) f.1 ∙ sym (append_assoc p l f.0))
 
-front-across : (i a n : ℕ) → a ≤ n → Front (across i a) (across i n)
+front_across : (i a n : ℕ) → a ≤ n → Front (across i a) (across i n)
 unfolding across
-front-across i a zero h = let e : a ≡ 0 = omega arith in rw e (front_same (across i 0))
-front-across i a (suc n) h =
+front_across i a zero h = let e : a ≡ 0 = omega arith in rw e (front_same (across i 0))
+front_across i a (suc n) h =
     by_cases (dec_lt n a) (λ g. let e : a ≡ suc n = omega arith in rw e (front_same (across i (suc n))))
-    (λ g. front-more (across i a) (across i n) (target i n ∷ []) (front-across i a n (omega arith)))
+    (λ g. front_more (across i a) (across i n) (target i n ∷ []) (front_across i a n (omega arith)))
 
-front-pairs : (a n : ℕ) → a ≤ n → Front (pairs a) (pairs n)
+front_pairs : (a n : ℕ) → a ≤ n → Front (pairs a) (pairs n)
 unfolding pairs
-front-pairs a zero h = let e : a ≡ 0 = omega arith in rw e (front_same (pairs 0))
-front-pairs a (suc n) h =
+front_pairs a zero h = let e : a ≡ 0 = omega arith in rw e (front_same (pairs 0))
+front_pairs a (suc n) h =
     by_cases (dec_lt n a) (λ g. let e : a ≡ suc n = omega arith in rw e (front_same (pairs (suc n))))
-    (λ g. front-more (pairs a) (pairs n) (across n n) (front-pairs a n (omega arith)))
+    (λ g. front_more (pairs a) (pairs n) (across n n) (front_pairs a n (omega arith)))
 
 module _ (y : Layout) where
   -- ---- the first of a list, and of what follows it
-  first-behind : (l r : List Target) → first y l ≡ noRefusal → first y (l ++ r) ≡ first y r
+  first_behind : (l r : List Target) → first y l ≡ no_refusal → first y (l ++ r) ≡ first y r
   unfolding first
-  first-behind [] r e = refl
-  first-behind (t ∷ l) r e = go (first-behind l r) (eqb (verdict y t.row t.col) 0) refl e
+  first_behind [] r e = refl
+  first_behind (t ∷ l) r e = go (first_behind l r) (eqb (verdict y t.row t.col) 0) refl e
     where
-      go : (first y l ≡ noRefusal → first y (l ++ r) ≡ first y r) → (b : Bool) → eqb (verdict y t.row t.col) 0 ≡ b
-          → cond b (first y l) (refusal (verdict y t.row t.col) t.row t.col) ≡ noRefusal
+      go : (first y l ≡ no_refusal → first y (l ++ r) ≡ first y r) → (b : Bool) → eqb (verdict y t.row t.col) 0 ≡ b
+          → cond b (first y l) (refusal (verdict y t.row t.col) t.row t.col) ≡ no_refusal
           → cond b (first y (l ++ r)) (refusal (verdict y t.row t.col) t.row t.col) ≡ first y r
       go f true u w = f w
       go f false u w = absurd (eqb-false _ _ u (ap (λ (x : Refusal). x.number) w))
 
-  first-stays : (l r : List Target) → ((first y l).number ≡ 0 → ⊥) → first y (l ++ r) ≡ first y l
+  first_stays : (l r : List Target) → ((first y l).number ≡ 0 → ⊥) → first y (l ++ r) ≡ first y l
   unfolding first
-  first-stays [] r n = absurd (n refl)
-  first-stays (t ∷ l) r n = go (first-stays l r) (eqb (verdict y t.row t.col) 0) n
+  first_stays [] r n = absurd (n refl)
+  first_stays (t ∷ l) r n = go (first_stays l r) (eqb (verdict y t.row t.col) 0) n
     where
       go : (((first y l).number ≡ 0 → ⊥) → first y (l ++ r) ≡ first y l) → (b : Bool)
           → ((cond b (first y l) (refusal (verdict y t.row t.col) t.row t.col)).number ≡ 0 → ⊥)
@@ -66,57 +66,57 @@ module _ (y : Layout) where
       go f true n = f n
       go f false n = refl
 
-  first-front : (l r : List Target) → first y (l ++ r) ≡ noRefusal → first y l ≡ noRefusal
+  first_front : (l r : List Target) → first y (l ++ r) ≡ no_refusal → first y l ≡ no_refusal
   unfolding first
-  first-front [] r e = refl
-  first-front (t ∷ l) r e = go (first-front l r) (eqb (verdict y t.row t.col) 0) e
+  first_front [] r e = refl
+  first_front (t ∷ l) r e = go (first_front l r) (eqb (verdict y t.row t.col) 0) e
     where
-      go : (first y (l ++ r) ≡ noRefusal → first y l ≡ noRefusal) → (b : Bool)
-          → cond b (first y (l ++ r)) (refusal (verdict y t.row t.col) t.row t.col) ≡ noRefusal
-          → cond b (first y l) (refusal (verdict y t.row t.col) t.row t.col) ≡ noRefusal
+      go : (first y (l ++ r) ≡ no_refusal → first y l ≡ no_refusal) → (b : Bool)
+          → cond b (first y (l ++ r)) (refusal (verdict y t.row t.col) t.row t.col) ≡ no_refusal
+          → cond b (first y l) (refusal (verdict y t.row t.col) t.row t.col) ≡ no_refusal
       go f true e = f e
       go f false e = e
 
 -- ---- the loops: no pair before (j, jj) is refused, and nothing is found
 pub record Clear (y : Layout) (found : Refusal) (j jj : ℕ) : Type 0 where
-  pub nothing : found ≡ noRefusal
-  pub before : first y (pairs j ++ across j jj) ≡ noRefusal
+  pub nothing : found ≡ no_refusal
+  pub before : first y (pairs j ++ across j jj) ≡ no_refusal
   pub within : jj ≤ j
 
-pub clear-start : (y : Layout) → Clear y noRefusal 1 0
+pub clear_start : (y : Layout) → Clear y no_refusal 1 0
 unfolding first pairs across
-clear-start y = record { nothing = refl; before = refl; within = omega arith }
+clear_start y = record { nothing = refl; before = refl; within = omega arith }
 
 module _ {y : Layout} {found : Refusal} {j jj : ℕ} (c : Clear y found j jj) where
   -- the next pair
   next : first y (pairs j ++ across j (suc jj)) ≡ first y (target j jj ∷ [])
   unfolding across
-  next = rw (← append_assoc (pairs j) (across j jj) (target j jj ∷ [])) (first-behind y (pairs j ++ across j jj) (target j jj ∷ []) c.before)
+  next = rw (← append_assoc (pairs j) (across j jj) (target j jj ∷ [])) (first_behind y (pairs j ++ across j jj) (target j jj ∷ []) c.before)
 
-  pub clear-more : {v : ℕ} → v ≡ verdict y j jj → v ≡ 0 → jj < j → Clear y found j (jj + 1)
+  pub clear_more : {v : ℕ} → v ≡ verdict y j jj → v ≡ 0 → jj < j → Clear y found j (jj + 1)
   unfolding first
-  clear-more q e h =
+  clear_more q e h =
       let n : jj + 1 ≡ suc jj = add-one jj in
       rw n (record { nothing = c.nothing; before = next ∙ rw (eq-eqb (verdict y j jj) 0 (sym q ∙ e)) refl; within = omega arith })
 
   -- the next row of pairs
-  pub clear-row : j ≤ jj → Clear y found (j + 1) 0
+  pub clear_row : j ≤ jj → Clear y found (j + 1) 0
   unfolding pairs across
-  clear-row h =
+  clear_row h =
       let n : j + 1 ≡ suc j = add-one j in
       let e : jj ≡ j = omega (arith, c.within) in
       rw n (record { nothing = c.nothing; before = rw append-nil (rw e at c.before); within = omega arith })
 
   pub none_found : {k : ℕ} → k ≤ j → found ≡ first y (pairs k)
   none_found {k} h =
-      let f = front-pairs k j h in
-      c.nothing ∙ sym (first-front y (pairs k) (f.0 ++ across j jj) (rw (← append_assoc (pairs k) f.0 (across j jj)) (rw f.1 at c.before)))
+      let f = front_pairs k j h in
+      c.nothing ∙ sym (first_front y (pairs k) (f.0 ++ across j jj) (rw (← append_assoc (pairs k) f.0 (across j jj)) (rw f.1 at c.before)))
 
   pub one_found : {v k : ℕ} → v ≡ verdict y j jj → (v ≡ 0 → ⊥) → j < k → jj < j → refusal v j jj ≡ first y (pairs k)
   unfolding first pairs
   one_found {v} {k} q n h g =
       let here : first y (pairs j ++ across j (suc jj)) ≡ refusal v j jj = next ∙ rw (q, ne_eqb (verdict y j jj) 0 (λ e. n (q ∙ e))) refl in
-      let f = front-pairs (suc j) k h in
-      let a = front-behind (pairs j) (across j (suc jj)) (across j j) (front-across j (suc jj) j g) in
-      let b = front-more (pairs j ++ across j (suc jj)) (pairs j ++ across j j) f.0 a in
-      sym (ap (first y) (f.1 ∙ b.1) ∙ first-stays y (pairs j ++ across j (suc jj)) b.0 (λ e. n (ap (λ (x : Refusal). x.number) (sym here) ∙ e)) ∙ here)
+      let f = front_pairs (suc j) k h in
+      let a = front_behind (pairs j) (across j (suc jj)) (across j j) (front_across j (suc jj) j g) in
+      let b = front_more (pairs j ++ across j (suc jj)) (pairs j ++ across j j) f.0 a in
+      sym (ap (first y) (f.1 ∙ b.1) ∙ first_stays y (pairs j ++ across j (suc jj)) b.0 (λ e. n (ap (λ (x : Refusal). x.number) (sym here) ∙ e)) ∙ here)

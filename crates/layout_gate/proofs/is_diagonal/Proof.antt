@@ -2,15 +2,15 @@
 use mathlib.Core.Path.{◌∙◌}
 use borrow.Author.Rules.{rules}
 use native.Mathlib.Omega.{arith}
-use Rattle.layout_gate.proofs.Reading.{not-two, two, given-small, given_below, given-room}
+use Rattle.layout_gate.proofs.Reading.{not_two, two, given_small, given_below, given_room}
 use Rattle.layout_gate.proofs.is_diagonal.Statement.{statement}
 use Rattle.layout_gate.proofs.is_diagonal.Tie as tie
 
 returns : tie.Need-returns
-returns c = λ sheet e. not-two _ sheet _ e c.if1.true
+returns c = λ sheet e. not_two _ sheet _ e c.if1.true
 
 start-requires : tie.Need-start-requires
-start-requires c κs = let b = given_below _ _ _ _ c.before.before.before.requires c.if1.false 0 (omega arith) in (omega arith, given-small _ _ _ _ c.before.before.before.requires)
+start-requires c κs = let b = given_below _ _ _ _ c.before.before.before.requires c.if1.false 0 (omega arith) in (omega arith, given_small _ _ _ _ c.before.before.before.requires)
 
 mul-one-each : tie.Need-overflow-mul-one-each
 mul-one-each c = omega (arith, given_below _ _ _ _ c.before.before.before.before.requires c.before.if1.false 0 (omega arith))
@@ -19,7 +19,7 @@ array-read-one-each : tie.Need-array-read-one-each
 array-read-one-each c = omega (arith, given_below _ _ _ _ c.before.before.before.before.requires c.before.if1.false 0 (omega arith))
 
 start-requires-2 : tie.Need-start-requires-2
-start-requires-2 c κs = let b = given_below _ _ _ _ c.before.before.before.before.requires c.before.if1.false 1 (omega arith) in (omega arith, given-small _ _ _ _ c.before.before.before.before.requires)
+start-requires-2 c κs = let b = given_below _ _ _ _ c.before.before.before.before.requires c.before.if1.false 1 (omega arith) in (omega arith, given_small _ _ _ _ c.before.before.before.before.requires)
 
 mul-one-each-2 : tie.Need-overflow-mul-one-each-2
 mul-one-each-2 c = omega (arith, given_below _ _ _ _ c.before.before.before.before.before.requires c.before.before.if1.false 1 (omega arith))
@@ -30,8 +30,8 @@ array-read-one-each-2 c = omega (arith, given_below _ _ _ _ c.before.before.befo
 one-each-requires : tie.Need-one-each-requires
 one-each-requires c κs = let p = c.before.before.before.before.before.requires in let k = c.before.before.if1.false in (
   p.0,
-  given-room _ _ _ _ p k 0 (omega arith) _ c.before.start.ensures,
-  given-room _ _ _ _ p k 1 (omega arith) _ c.start2.ensures,
+  given_room _ _ _ _ p k 0 (omega arith) _ c.before.start.ensures,
+  given_room _ _ _ _ p k 1 (omega arith) _ c.start2.ensures,
 )
 
 returns-2 : tie.Need-returns-2

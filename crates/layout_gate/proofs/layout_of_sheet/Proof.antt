@@ -5,7 +5,7 @@ use mathlib.Core.List.{List}
 use borrow.Author.Rules.{rules}
 use lib.ListN.{get_or}
 use Rattle.sheet_checks.proofs.levels.Reading.{few}
-use Rattle.layout_gate.proofs.Reading.{order_is, levels-are, layout-small}
+use Rattle.layout_gate.proofs.Reading.{order_is, levels_are, layout_small}
 use Rattle.layout_gate.proofs.gate_search.Pairs.{whole}
 use Rattle.layout_gate.proofs.layout_of_sheet.Statement.{statement}
 use Rattle.layout_gate.proofs.layout_of_sheet.Tie as tie
@@ -24,12 +24,12 @@ is-diagonal-requires c κs = let h = c.before.before.before.before.before.requir
 one-sparse-requires : tie.Need-one-sparse-requires
 one-sparse-requires c κs = λ i g.
     let h = c.before.before.before.before.before.before.requires in let m = c.before.before.before.levels.ensures h.0 h.1 in
-    subst (λ (l : List ℕ). get_or l i 0 ≤ 65535) (sym (c.before.sorted-levels.ensures ∙ levels-are _ h.0 _ h.1 _ m)) (layout-small _ h.0 _ h.1 i g)
+    subst (λ (l : List ℕ). get_or l i 0 ≤ 65535) (sym (c.before.sorted-levels.ensures ∙ levels_are _ h.0 _ h.1 _ m)) (layout_small _ h.0 _ h.1 i g)
 
 returns : tie.Need-returns
 returns c = λ sheet e.
     let m = c.before.before.before.before.levels.ensures sheet e in whole _ sheet _ e _ _ _ _
-    (c.before.before.sorted-levels.ensures ∙ levels-are _ sheet _ e _ m)
+    (c.before.before.sorted-levels.ensures ∙ levels_are _ sheet _ e _ m)
     (c.before.before.before.sorted.ensures ∙ order_is _ sheet _ e _ m)
     (c.before.is-diagonal.ensures sheet e)
     c.one-sparse.ensures

@@ -17,8 +17,8 @@ unfolding in_float
 whole n h = le→leb n (2 ^ 53) (omega arith)
 
 -- the cells of a pair are fewer than 2 ^ 32
-pub cells-below : (rows cols : ℕ) → rows ≤ 65535 → cols ≤ 65535 → rows * cols < 4294967296
-cells-below rows cols h g = omega (arith, mul-le-mul h g)
+pub cells_below : (rows cols : ℕ) → rows ≤ 65535 → cols ≤ 65535 → rows * cols < 4294967296
+cells_below rows cols h g = omega (arith, mul-le-mul h g)
 
 module _ (k rows cols : ℕ) (one : Bool) (entries : ℕ) where
   pub dense : rows * cols ≤ 100000 → Dense ≡ pair_of k rows cols one entries
@@ -26,20 +26,20 @@ module _ (k rows cols : ℕ) (one : Bool) (entries : ℕ) where
   dense h = rw (le-leb (rows * cols) 100000 h)
 
   module _ (h : 100000 < rows * cols) where
-    pub three-blocks : 2 < k → Refused 10 ≡ pair_of k rows cols one entries
+    pub three_blocks : 2 < k → Refused 10 ≡ pair_of k rows cols one entries
     unfolding pair_of
-    three-blocks g = rw (lt-leb (rows * cols) 100000 h, lt-ltb 2 k g)
+    three_blocks g = rw (lt-leb (rows * cols) 100000 h, lt-ltb 2 k g)
 
     module _ (g : k ≤ 2) where
-      pub not-one-each : one ≡ false → Refused 11 ≡ pair_of k rows cols one entries
+      pub not_one_each : one ≡ false → Refused 11 ≡ pair_of k rows cols one entries
       unfolding pair_of
-      not-one-each a = rw (lt-leb (rows * cols) 100000 h, le-ltb 2 k g, a)
+      not_one_each a = rw (lt-leb (rows * cols) 100000 h, le-ltb 2 k g, a)
 
       -- t is what the test of the density says
       module _ {t : Bool} (a : one ≡ true) (e : t ≡ thin entries (rows * cols)) where
-        pub too-full : t ≡ false → Refused 11 ≡ pair_of k rows cols one entries
+        pub too_full : t ≡ false → Refused 11 ≡ pair_of k rows cols one entries
         unfolding pair_of
-        too-full z = rw (lt-leb (rows * cols) 100000 h, le-ltb 2 k g, a, sym e ∙ z)
+        too_full z = rw (lt-leb (rows * cols) 100000 h, le-ltb 2 k g, a, sym e ∙ z)
 
         pub sparse : t ≡ true → Sparse ≡ pair_of k rows cols one entries
         unfolding pair_of

@@ -2,7 +2,7 @@
 use Prim.Native.Nat.{◌-◌}
 use borrow.Author.Rules.{rules}
 use native.Mathlib.Omega.{arith}
-use Rattle.layout_gate.proofs.Picking.{Picked, picked-start, picked_more, picked-done, block-below}
+use Rattle.layout_gate.proofs.Picking.{Picked, picked_start, picked_more, picked_done, block_below}
 use Rattle.layout_gate.proofs.sorted_levels.Statement.{statement}
 use Rattle.layout_gate.proofs.sorted_levels.Tie as tie
 
@@ -13,18 +13,18 @@ abbrev decreases-loop : tie.decreases-loop
 decreases-loop k m order r₀ i₀ r i = k - i
 
 mul-r : tie.Need-overflow-mul-r invariant-loop decreases-loop
-mul-r c = omega (arith, block-below c.before.loop.invariant (omega arith))
+mul-r c = omega (arith, block_below c.before.loop.invariant (omega arith))
 
 array-read-r : tie.Need-array-read-r invariant-loop decreases-loop
-array-read-r c = block-below c.before.loop.invariant (omega arith)
+array-read-r c = block_below c.before.loop.invariant (omega arith)
 
 loop-again : tie.Need-loop-preserved invariant-loop decreases-loop
 loop-again c = picked_more c.before.loop.invariant (omega arith)
 
 returns : tie.Need-returns invariant-loop decreases-loop
-returns c = picked-done c.before.loop.invariant (omega arith)
+returns c = picked_done c.before.loop.invariant (omega arith)
 
 pub sorted-levels-spec : {M : Type 1} → statement M
-sorted-levels-spec = tie.close (tie.spec invariant-loop decreases-loop (λ c. picked-start _ _ _ c.requires) (λ c. search rules)
+sorted-levels-spec = tie.close (tie.spec invariant-loop decreases-loop (λ c. picked_start _ _ _ c.requires) (λ c. search rules)
     (λ c. search rules) mul-r array-read-r (λ c. search rules) (λ c. search rules) (λ c. search rules)
     (λ c. search rules) loop-again returns)

@@ -3,7 +3,7 @@
 use Rattle.std.specs.Prelude.{ℕ, cond, List, [], ◌∷◌, eqb}
 use Rattle.std.proofs.Math.Option.{Option, none, some}
 use Rattle.refusal.specs.declared.Refusal.{Refusal}
-use Rattle.refusal.specs.Numbers.{refusal, noRefusal}
+use Rattle.refusal.specs.Numbers.{refusal, no_refusal}
 use Rattle.layout.specs.declared.Layout.{Layout}
 use Rattle.layout.specs.declared.Pair.{Pair}
 use Rattle.layout.specs.declared.Pair.TheVariants.{Dense, Sparse, Refused}
@@ -12,7 +12,7 @@ use Rattle.layout.specs.Shapes.{Target, levels}
 
 -- what a search answers: the refusal that it found, or number 0
 abbrev pub answer_of : Option Refusal → Refusal
-answer_of none = noRefusal
+answer_of none = no_refusal
 answer_of (some r) = r
 
 -- 10 or 11 of a pair that is refused, else 0
@@ -27,7 +27,7 @@ verdict y i j = number_of (pair_of y.k (levels y i) (levels y j) y.diagonal (lev
 
 -- the first of a list of pairs that has one
 unfoldable pub first : Layout → List Target → Refusal
-first y [] = noRefusal
+first y [] = no_refusal
 first y (t ∷ l) =
     let rest = first y l in
     cond (eqb (verdict y t.row t.col) 0) rest (refusal (verdict y t.row t.col) t.row t.col)

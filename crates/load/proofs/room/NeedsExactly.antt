@@ -15,84 +15,84 @@ use Rattle.storage.specs.Part.{store}
 use Rattle.sheet.specs.declared.Starts.{Starts}
 use Rattle.sheet.specs.Sheet.{Sheet}
 use Rattle.layout.specs.declared.Layout.{Layout}
-use Rattle.layout.specs.Shapes.{pick, doublesNeeded}
-use Rattle.heading_format.specs.Heading.{numbersNeeded}
+use Rattle.layout.specs.Shapes.{pick, doubles_needed}
+use Rattle.heading_format.specs.Heading.{numbers_needed}
 use Rattle.workspace.specs.Answers.{Outcome, accept, unchanged, untouched}
-use Rattle.workspace.specs.Load.{headingOf, doublesOf, afterGate, load_of}
+use Rattle.workspace.specs.Load.{heading_of, doubles_of, after_gate, load_of}
 use Rattle.load.specs.declared.judge.Judgement.{Judgement}
 use Rattle.load.specs.declared.room.Room.{Room}
 use Rattle.load.specs.declared.room.Needs.{Needs}
 use Rattle.load.specs.declared.room.Needs.TheVariants.{Room as Wants, Refused}
-use Rattle.load.specs.judge.Judged.{Judged, passed, refused, asJudged, judgedOf}
-use Rattle.load.specs.room.Needs.{roomOf, afterJudged, needsOf, NeedsMeaning, needsMeaning, NeedsExactly}
-use Rattle.load.proofs.judge.Judging.{says-passed, says-refused, judged-loads, refused-out}
+use Rattle.load.specs.judge.Judged.{Judged, passed, refused, as_judged, judged_of}
+use Rattle.load.specs.room.Needs.{room_of, after_judged, needs_of, NeedsMeaning, needs_meaning, NeedsExactly}
+use Rattle.load.proofs.judge.Judging.{says_passed, says_refused, judged_loads, refused_out}
 
 -- ---- needs by the judgement at hand
-module _ (s : List ℕ) (j : Judgement) (is : asJudged j ≡ judgedOf s) where
-  pub needs-room : (room : Room) → j.refusal.number ≡ 0 → room ≡ roomOf j.layout → Wants room ≡ needsOf s
-  unfolding needsOf
-  needs-room room e q = ap Wants q ∙ ap afterJudged (sym (says-passed j e) ∙ is)
+module _ (s : List ℕ) (j : Judgement) (is : as_judged j ≡ judged_of s) where
+  pub needs_room : (room : Room) → j.refusal.number ≡ 0 → room ≡ room_of j.layout → Wants room ≡ needs_of s
+  unfolding needs_of
+  needs_room room e q = ap Wants q ∙ ap after_judged (sym (says_passed j e) ∙ is)
 
-  pub needs-refused : (j.refusal.number ≡ 0 → ⊥) → Refused j.refusal ≡ needsOf s
-  unfolding needsOf
-  needs-refused n = ap afterJudged (sym (says-refused j n) ∙ is)
+  pub needs_refused : (j.refusal.number ≡ 0 → ⊥) → Refused j.refusal ≡ needs_of s
+  unfolding needs_of
+  needs_refused n = ap after_judged (sym (says_refused j n) ∙ is)
 
 -- ---- and back: a room is that of the layout of a sheet that passes
-wanted : (j : Judged) (room : Room) → afterJudged j ≡ Wants room → (z : Starts) × (y : Layout) × (j ≡ passed z y) × (room ≡ roomOf y)
-wanted (passed z y) room e = let same : roomOf y ≡ room = cc in (z, y, refl, sym same)
+wanted : (j : Judged) (room : Room) → after_judged j ≡ Wants room → (z : Starts) × (y : Layout) × (j ≡ passed z y) × (room ≡ room_of y)
+wanted (passed z y) room e = let same : room_of y ≡ room = cc in (z, y, refl, sym same)
 wanted (refused r) room e = absurd (let x : ◌≡◌ {A = ℕ} 0 1 = cc in omega arith)
 
-denied : (j : Judged) (r : Refusal) → afterJudged j ≡ Refused r → j ≡ refused r
+denied : (j : Judged) (r : Refusal) → after_judged j ≡ Refused r → j ≡ refused r
 denied (passed z y) r e = absurd (let x : ◌≡◌ {A = ℕ} 0 1 = cc in omega arith)
 denied (refused f) r e = let same : f ≡ r = cc in ap refused same
 
 -- ---- what load answers past the gate, by the lengths
 module _ (sheet : Sheet) (y : Layout) (h : List ℕ) (w : List Float) where
-  roomy : doublesNeeded y ≤ length w → numbersNeeded y ≤ length h → (afterGate none sheet y h w).answer ≡ Accepted
-  roomy d n = rw (le-leb (numbersNeeded y) (length h) n, le-leb (doublesNeeded y) (length w) d) refl
+  roomy : doubles_needed y ≤ length w → numbers_needed y ≤ length h → (after_gate none sheet y h w).answer ≡ Accepted
+  roomy d n = rw (le-leb (numbers_needed y) (length h) n, le-leb (doubles_needed y) (length w) d) refl
 
-  few-numbers : length h < numbersNeeded y → afterGate none sheet y h w ≡ untouched h w 12 0 0
-  few-numbers n = rw (lt-leb (numbersNeeded y) (length h) n) refl
+  few_numbers : length h < numbers_needed y → after_gate none sheet y h w ≡ untouched h w 12 0 0
+  few_numbers n = rw (lt-leb (numbers_needed y) (length h) n) refl
 
-  few-doubles : length w < doublesNeeded y → afterGate none sheet y h w ≡ untouched h w 12 0 0
-  few-doubles d = rw (lt-leb (doublesNeeded y) (length w) d) (go (leb (numbersNeeded y) (length h)))
+  few_doubles : length w < doubles_needed y → after_gate none sheet y h w ≡ untouched h w 12 0 0
+  few_doubles d = rw (lt-leb (doubles_needed y) (length w) d) (go (leb (numbers_needed y) (length h)))
     where
-      go : (b : Bool) → pick (b && false) (accept (store 0 (headingOf sheet y) h) (store 0 (doublesOf sheet y) w)) (untouched h w 12 0 0) ≡ untouched h w 12 0 0
+      go : (b : Bool) → pick (b && false) (accept (store 0 (heading_of sheet y) h) (store 0 (doubles_of sheet y) w)) (untouched h w 12 0 0) ≡ untouched h w 12 0 0
       go true = refl
       go false = refl
 
 -- NEEDS SAYS EXACTLY WHAT LOAD WANTS.
 module _ (s h : List ℕ) (w : List Float) where
   -- load of a sheet that has a room, by the layout that the room is of
-  by_layout : (room : Room) → needsOf s ≡ Wants room → (sheet : Sheet) × (y : Layout) × (room ≡ roomOf y) × (load_of s h w ≡ afterGate none sheet y h w)
-  unfolding needsOf
+  by_layout : (room : Room) → needs_of s ≡ Wants room → (sheet : Sheet) × (y : Layout) × (room ≡ room_of y) × (load_of s h w ≡ after_gate none sheet y h w)
+  unfolding needs_of
   by_layout room e =
-      let p = wanted (judgedOf s) room e in
-      let g = judged-loads s p.0 p.1 p.2 h w in (g.0, p.1, p.3, g.2)
+      let p = wanted (judged_of s) room e in
+      let g = judged_loads s p.0 p.1 p.2 h w in (g.0, p.1, p.3, g.2)
 
-  by-refusal : (r : Refusal) → needsOf s ≡ Refused r → load_of s h w ≡ unchanged h w r
-  unfolding needsOf
-  by-refusal r e = refused-out s r h w (denied (judgedOf s) r e)
+  by_refusal : (r : Refusal) → needs_of s ≡ Refused r → load_of s h w ≡ unchanged h w r
+  unfolding needs_of
+  by_refusal r e = refused_out s r h w (denied (judged_of s) r e)
 
-  pub needs-exactly : NeedsExactly s h w
-  needs-exactly =
+  pub needs_exactly : NeedsExactly s h w
+  needs_exactly =
       record {
         enough = λ room e d n. let g = by_layout room e in
             ap (λ (o : Outcome). o.answer) g.3 ∙ roomy g.0 g.1 h w (subst (λ (x : Room). x.doubles ≤ length w) g.2 d) (subst (λ (x : Room). x.numbers ≤ length h) g.2 n);
-        few-doubles = λ room e d. let g = by_layout room e in g.3 ∙ few-doubles g.0 g.1 h w (subst (λ (x : Room). length w < x.doubles) g.2 d);
-        few-numbers = λ room e n. let g = by_layout room e in g.3 ∙ few-numbers g.0 g.1 h w (subst (λ (x : Room). length h < x.numbers) g.2 n);
-        denied = by-refusal;
+        few_doubles = λ room e d. let g = by_layout room e in g.3 ∙ few_doubles g.0 g.1 h w (subst (λ (x : Room). length w < x.doubles) g.2 d);
+        few_numbers = λ room e n. let g = by_layout room e in g.3 ∙ few_numbers g.0 g.1 h w (subst (λ (x : Room). length h < x.numbers) g.2 n);
+        denied = by_refusal;
       }
 
 -- ---- what an answer means says which answer it is
-abbrev needsBy : Option ℕ → Option ℕ → Refusal → Needs
-needsBy (some d) (some n) f = Wants (record { doubles = d; numbers = n })
-needsBy (some d) none f = Refused f
-needsBy none n f = Refused f
+abbrev needs_by : Option ℕ → Option ℕ → Refusal → Needs
+needs_by (some d) (some n) f = Wants (record { doubles = d; numbers = n })
+needs_by (some d) none f = Refused f
+needs_by none n f = Refused f
 
-needs-back : (a : Needs) → needsBy (needsMeaning a).doubles (needsMeaning a).numbers (needsMeaning a).refusal ≡ a
-needs-back (Wants room) = refl
-needs-back (Refused r) = refl
+needs_back : (a : Needs) → needs_by (needs_meaning a).doubles (needs_meaning a).numbers (needs_meaning a).refusal ≡ a
+needs_back (Wants room) = refl
+needs_back (Refused r) = refl
 
-pub needs-meaning-injective : (a b : Needs) → needsMeaning a ≡ needsMeaning b → a ≡ b
-needs-meaning-injective a b e = sym (needs-back a) ∙ ap (λ (m : NeedsMeaning). needsBy m.doubles m.numbers m.refusal) e ∙ needs-back b
+pub needs_meaning_injective : (a b : Needs) → needs_meaning a ≡ needs_meaning b → a ≡ b
+needs_meaning_injective a b e = sym (needs_back a) ∙ ap (λ (m : NeedsMeaning). needs_by m.doubles m.numbers m.refusal) e ∙ needs_back b

@@ -5,13 +5,13 @@ use Rattle.std.proofs.Math.Option.{Option, none, some}
 use Rattle.refusal.specs.declared.Refusal.{Refusal}
 use Rattle.refusal.specs.Numbers.{refusal}
 use Rattle.sheet.specs.declared.Starts.{Starts}
-use Rattle.sheet.specs.Sheet.{Sheet, sheetOf}
-use Rattle.sheet.specs.Fault.{faultNumber, faultyLine}
+use Rattle.sheet.specs.Sheet.{Sheet, sheet_of}
+use Rattle.sheet.specs.Fault.{fault_number, faulty_line}
 use Rattle.sheet.specs.Answer.{checked}
 use Rattle.layout.specs.declared.Layout.{Layout}
 use Rattle.layout.specs.Shapes.{pairs}
-use Rattle.workspace.specs.Answers.{unlessRefused}
-use Rattle.workspace.specs.Loaded.{firstRefusedPair, layoutOfSheet}
+use Rattle.workspace.specs.Answers.{unless_refused}
+use Rattle.workspace.specs.Loaded.{first_refused_pair, layout_of_sheet}
 use Rattle.load.specs.declared.judge.Judgement.{Judgement}
 
 pub data Judged : Type 0 where
@@ -19,20 +19,20 @@ pub data Judged : Type 0 where
   refused : Refusal → Judged
 
 -- what the code's struct says: with number 0 the sheet passes
-abbrev pub asJudged : Judgement → Judged
-asJudged j = unlessRefused j.refusal refused (passed j.starts j.layout)
+abbrev pub as_judged : Judgement → Judged
+as_judged j = unless_refused j.refusal refused (passed j.starts j.layout)
 
 -- the gate's refusal, or the sheet passes
-abbrev pub afterPairs : Option Refusal → Starts → Layout → Judged
-afterPairs (some r) starts y = refused r
-afterPairs none starts y = passed starts y
+abbrev pub after_pairs : Option Refusal → Starts → Layout → Judged
+after_pairs (some r) starts y = refused r
+after_pairs none starts y = passed starts y
 
 -- a sheet without a fault: 10 and 11
-unfoldable pub judgedSheet : Sheet → Starts → Judged
-unfolding firstRefusedPair layoutOfSheet pairs
-judgedSheet sheet starts = let y = layoutOfSheet sheet in afterPairs (firstRefusedPair sheet y (pairs y.k)) starts y
+unfoldable pub judged_sheet : Sheet → Starts → Judged
+unfolding first_refused_pair layout_of_sheet pairs
+judged_sheet sheet starts = let y = layout_of_sheet sheet in after_pairs (first_refused_pair sheet y (pairs y.k)) starts y
 
 -- any bytes: 1 to 9, which name a line at most, or the sheet goes on
-unfoldable pub judgedOf : List ℕ → Judged
-unfolding sheetOf faultNumber faultyLine judgedSheet
-judgedOf s = checked (λ number line. refused (refusal number line 0)) judgedSheet (sheetOf s)
+unfoldable pub judged_of : List ℕ → Judged
+unfolding sheet_of fault_number faulty_line judged_sheet
+judged_of s = checked (λ number line. refused (refusal number line 0)) judged_sheet (sheet_of s)

@@ -4,30 +4,30 @@ use Rattle.std.specs.Prelude.{ℕ, ◌≤◌, ◌<◌, ◌≡◌, List, length, 
 use Rattle.std.proofs.Math.Option.{Option, none, some}
 use Rattle.refusal.specs.declared.Refusal.{Refusal}
 use Rattle.refusal.specs.declared.Answer.TheVariants.{Accepted}
-use Rattle.refusal.specs.Numbers.{noRefusal}
+use Rattle.refusal.specs.Numbers.{no_refusal}
 use Rattle.layout.specs.declared.Layout.{Layout}
-use Rattle.layout.specs.Shapes.{doublesNeeded}
-use Rattle.heading_format.specs.Heading.{numbersNeeded}
+use Rattle.layout.specs.Shapes.{doubles_needed}
+use Rattle.heading_format.specs.Heading.{numbers_needed}
 use Rattle.workspace.specs.Answers.{unchanged, untouched}
 use Rattle.workspace.specs.Load.{load_of}
 use Rattle.load.specs.declared.room.Room.{Room}
 use Rattle.load.specs.declared.room.Needs.{Needs}
 use Rattle.load.specs.declared.room.Needs.TheVariants.{Room as Wants, Refused}
-use Rattle.load.specs.judge.Judged.{Judged, passed, refused, judgedOf}
+use Rattle.load.specs.judge.Judged.{Judged, passed, refused, judged_of}
 
 -- the room of a layout: Record 2's q + k + D + 2X + 2F + 1 doubles, and 128 numbers with one more for each column of a sparse pair
-abbrev pub roomOf : Layout → Room
-roomOf y = record { doubles = doublesNeeded y; numbers = numbersNeeded y }
+abbrev pub room_of : Layout → Room
+room_of y = record { doubles = doubles_needed y; numbers = numbers_needed y }
 
 -- what is wanted of a sheet as it is judged
-abbrev pub afterJudged : Judged → Needs
-afterJudged (passed starts y) = Wants (roomOf y)
-afterJudged (refused r) = Refused r
+abbrev pub after_judged : Judged → Needs
+after_judged (passed starts y) = Wants (room_of y)
+after_judged (refused r) = Refused r
 
 -- NEEDS of the bytes s
-unfoldable pub needsOf : List ℕ → Needs
-unfolding judgedOf
-needsOf s = afterJudged (judgedOf s)
+unfoldable pub needs_of : List ℕ → Needs
+unfolding judged_of
+needs_of s = after_judged (judged_of s)
 
 -- WHAT AN ANSWER MEANS: number and places of a refusal, 0 where there is none, and doubles and numbers where there is none
 pub record NeedsMeaning : Type 0 where
@@ -35,16 +35,16 @@ pub record NeedsMeaning : Type 0 where
   pub doubles : Option ℕ
   pub numbers : Option ℕ
 
-abbrev pub needsMeaning : Needs → NeedsMeaning
-needsMeaning (Wants room) = record { refusal = noRefusal; doubles = some room.doubles; numbers = some room.numbers }
-needsMeaning (Refused r) = record { refusal = r; doubles = none; numbers = none }
+abbrev pub needs_meaning : Needs → NeedsMeaning
+needs_meaning (Wants room) = record { refusal = no_refusal; doubles = some room.doubles; numbers = some room.numbers }
+needs_meaning (Refused r) = record { refusal = r; doubles = none; numbers = none }
 
 -- WHAT IT IS GOOD FOR: needs says before any list is there what load of the same bytes answers on h and w (theorem proofs/room/NeedsExactly.needs-exactly)
 pub record NeedsExactly (s h : List ℕ) (w : List Float) : Type 0 where
   -- lists that have the room are loaded
-  pub enough : (room : Room) → needsOf s ≡ Wants room → room.doubles ≤ length w → room.numbers ≤ length h → (load_of s h w).answer ≡ Accepted
+  pub enough : (room : Room) → needs_of s ≡ Wants room → room.doubles ≤ length w → room.numbers ≤ length h → (load_of s h w).answer ≡ Accepted
   -- where one list is shorter, by one double or number even: 12, and both stay as they are
-  pub few-doubles : (room : Room) → needsOf s ≡ Wants room → length w < room.doubles → load_of s h w ≡ untouched h w 12 0 0
-  pub few-numbers : (room : Room) → needsOf s ≡ Wants room → length h < room.numbers → load_of s h w ≡ untouched h w 12 0 0
+  pub few_doubles : (room : Room) → needs_of s ≡ Wants room → length w < room.doubles → load_of s h w ≡ untouched h w 12 0 0
+  pub few_numbers : (room : Room) → needs_of s ≡ Wants room → length h < room.numbers → load_of s h w ≡ untouched h w 12 0 0
   -- what needs refuses load refuses, by the same number and places, into lists of any length
-  pub denied : (r : Refusal) → needsOf s ≡ Refused r → load_of s h w ≡ unchanged h w r
+  pub denied : (r : Refusal) → needs_of s ≡ Refused r → load_of s h w ≡ unchanged h w r

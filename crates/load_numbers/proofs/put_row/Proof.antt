@@ -2,21 +2,21 @@
 use Prim.Native.Nat.{◌-◌}
 use mathlib.Core.Path.{sym, ◌∙◌}
 use native.Mathlib.Omega.{arith}
-use Rattle.heading_format.proofs.Valid.{is-valid}
-use Rattle.workspace.specs.Loaded.{rowStart}
+use Rattle.heading_format.proofs.Valid.{is_valid}
+use Rattle.workspace.specs.Loaded.{row_start}
 use Rattle.load_numbers.proofs.word_address.Places.{found}
-use Rattle.load_numbers.proofs.Made.{put-none, put_one}
+use Rattle.load_numbers.proofs.Made.{put_none, put_one}
 use borrow.Author.Rules.{rules}
 use Rattle.load_numbers.proofs.put_row.Statement.{statement}
 use Rattle.load_numbers.proofs.put_row.Tie as tie
 
 returns : tie.Need-returns
 returns c = let a = c.before.before.before.args in
-    put-none a.layout (a.heading).now a.l.first a.l.second (a.l.second - rowStart a.layout 1) (omega arith) (λ e f. c.if1.true (c.before.Block-of.ensures ∙ e))
+    put_none a.layout (a.heading).now a.l.first a.l.second (a.l.second - row_start a.layout 1) (omega arith) (λ e f. c.if1.true (c.before.Block-of.ensures ∙ e))
 
 returns-2 : tie.Need-returns-2
 returns-2 c = let a = c.before.before.before.before.before.args in
-    put-none a.layout (a.heading).now a.l.first a.l.second (a.l.second - rowStart a.layout 1) (omega arith) (λ e f. c.if2.true (c.before.block-of2.ensures ∙ f))
+    put_none a.layout (a.heading).now a.l.first a.l.second (a.l.second - row_start a.layout 1) (omega arith) (λ e f. c.if2.true (c.before.block-of2.ensures ∙ f))
 
 level-of-requires : tie.Need-level-of-requires
 level-of-requires c κs = let s = c.before.before.before.before.before in let a = s.args in
@@ -28,7 +28,7 @@ level-of-requires-2 c κs = let s = c.before.before.before.before.before.before 
 
 cast-heading : tie.Need-overflow-cast-heading
 cast-heading c = let s = c.before.before.before.before.before.before.before in
-    omega (arith, c.level-of2.ensures.1, ((is-valid s.args.layout s.pre.0).level 1 s.pre.3).1)
+    omega (arith, c.level-of2.ensures.1, ((is_valid s.args.layout s.pre.0).level 1 s.pre.3).1)
 
 returns-3 : tie.Need-returns-3
 returns-3 c = let a = c.before.before.before.before.before.before.before.args in

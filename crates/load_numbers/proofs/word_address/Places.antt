@@ -12,64 +12,64 @@ use borrow.Author.Tests.{lt-ltb, le-ltb, eq-eqb, ne_eqb}
 use Rattle.sheet.specs.declared.Line.{Line}
 use Rattle.sheet.specs.Field.{nowhere, is_finite}
 use Rattle.layout.specs.declared.Layout.{Layout}
-use Rattle.layout.specs.Shapes.{levels, loadedAt, loadedLength, sum_at, lastRows}
-use Rattle.heading_format.specs.Heading.{validLayout}
-use Rattle.layout.proofs.Places.{loaded-inside}
-use Rattle.workspace.specs.Loaded.{rowStart, in_block}
-use Rattle.block_places.proofs.block_sizes.Sizes.{doubles-small}
-use Rattle.block_places.specs.sheet_rows.Blocks.{blockOfRow}
-use Rattle.block_places.proofs.sheet_rows.Rows.{block_in}
-use Rattle.load_numbers.specs.word_address.Spread.{EachLine, spread, entryPlace, fixedPlace}
+use Rattle.layout.specs.Shapes.{levels, loaded_at, loaded_length, sum_at, last_rows}
+use Rattle.heading_format.specs.Heading.{valid_layout}
+use Rattle.layout.proofs.Places.{loaded_inside}
+use Rattle.workspace.specs.Loaded.{row_start, in_block}
+use Rattle.block_places.proofs.block_sizes.Sizes.{doubles_small}
+use Rattle.block_places.specs.sheet_rows.Blocks.{block_of_row}
+use Rattle.block_places.proofs.sheet_rows.Rows.{block_in_lem}
+use Rattle.load_numbers.specs.word_address.Spread.{EachLine, spread, entry_place, fixed_place}
 
 module _ (y : Layout) where
   -- the block that is found has the row
-  pub found : (x i : ℕ) → i ≡ blockOfRow y y.k x → i < y.k → in_block y i x ≡ true
+  pub found : (x i : ℕ) → i ≡ block_of_row y y.k x → i < y.k → in_block y i x ≡ true
   found x i e h =
-      subst (λ (b : ℕ). in_block y b x ≡ true) (sym e) (block_in y y.k x (omega arith) (omega arith)).0
+      subst (λ (b : ℕ). in_block y b x ≡ true) (sym e) (block_in_lem y y.k x (omega arith) (omega arith)).0
 
-  module _ (col row i : ℕ) (e : i ≡ blockOfRow y y.k row) where
-    pub entry-none : y.k ≤ i → nowhere ≡ entryPlace y col row
-    unfolding entryPlace
-    entry-none h = rw (← e, le-ltb i y.k h)
+  module _ (col row i : ℕ) (e : i ≡ block_of_row y y.k row) where
+    pub entry_none : y.k ≤ i → nowhere ≡ entry_place y col row
+    unfolding entry_place
+    entry_none h = rw (← e, le-ltb i y.k h)
 
-    pub entry-own : i < y.k → col ≡ row → loadedAt y i i + (row - rowStart y i) ≡ entryPlace y col row
-    unfolding entryPlace
-    entry-own h q = rw (← e, lt-ltb i y.k h, eq-eqb col row q)
+    pub entry_own : i < y.k → col ≡ row → loaded_at y i i + (row - row_start y i) ≡ entry_place y col row
+    unfolding entry_place
+    entry_own h q = rw (← e, lt-ltb i y.k h, eq-eqb col row q)
 
-    module _ (h : i < y.k) (q : col ≡ row → ⊥) (j : ℕ) (f : j ≡ blockOfRow y y.k col) where
-      pub entry-mirror : i ≤ j → nowhere ≡ entryPlace y col row
-      unfolding entryPlace
-      entry-mirror g = rw (← e, lt-ltb i y.k h, ne_eqb col row q, ← f, le-ltb j i g)
+    module _ (h : i < y.k) (q : col ≡ row → ⊥) (j : ℕ) (f : j ≡ block_of_row y y.k col) where
+      pub entry_mirror : i ≤ j → nowhere ≡ entry_place y col row
+      unfolding entry_place
+      entry_mirror g = rw (← e, lt-ltb i y.k h, ne_eqb col row q, ← f, le-ltb j i g)
 
-      pub entry-pair : j < i → loadedAt y i j + cond y.sparse (col - rowStart y j) ((col - rowStart y j) * levels y i + (row - rowStart y i)) ≡ entryPlace y col row
-      unfolding entryPlace
-      entry-pair g = rw (← e, lt-ltb i y.k h, ne_eqb col row q, ← f, lt-ltb j i g)
+      pub entry_pair : j < i → loaded_at y i j + cond y.sparse (col - row_start y j) ((col - row_start y j) * levels y i + (row - row_start y i)) ≡ entry_place y col row
+      unfolding entry_place
+      entry_pair g = rw (← e, lt-ltb i y.k h, ne_eqb col row q, ← f, lt-ltb j i g)
 
-  module _ (x r j : ℕ) (e : j ≡ blockOfRow y y.k x) where
-    pub fixed-none : y.k ≤ j → nowhere ≡ fixedPlace y x r
-    unfolding fixedPlace
-    fixed-none h = rw (← e, le-ltb j y.k h)
+  module _ (x r j : ℕ) (e : j ≡ block_of_row y y.k x) where
+    pub fixed_none : y.k ≤ j → nowhere ≡ fixed_place y x r
+    unfolding fixed_place
+    fixed_none h = rw (← e, le-ltb j y.k h)
 
-    pub fixed-row : j < y.k → loadedAt y y.k j + ((x - rowStart y j) * lastRows y + r) ≡ fixedPlace y x r
-    unfolding fixedPlace
-    fixed-row h = rw (← e, lt-ltb j y.k h)
+    pub fixed_row_lem : j < y.k → loaded_at y y.k j + ((x - row_start y j) * last_rows y + r) ≡ fixed_place y x r
+    unfolding fixed_place
+    fixed_row_lem h = rw (← e, lt-ltb j y.k h)
 
   -- the loaded doubles are few, and every loaded block starts among them
-  pub loaded-low : validLayout y ≡ true → loadedLength y < 2199023255552
+  pub loaded_low : valid_layout y ≡ true → loaded_length y < 2199023255552
   unfolding sum_at
-  loaded-low ok = omega (arith, doubles-small y ok)
+  loaded_low ok = omega (arith, doubles_small y ok)
 
-  pub start-low : validLayout y ≡ true → (i j : ℕ) → j ≤ i → i ≤ y.k → loadedAt y i j < 2199023255552
-  start-low ok i j h g = omega (arith, loaded-inside y i j h g, loaded-low ok)
+  pub start_low : valid_layout y ≡ true → (i j : ℕ) → j ≤ i → i ≤ y.k → loaded_at y i j < 2199023255552
+  start_low ok i j h g = omega (arith, loaded_inside y i j h g, loaded_low ok)
 
 pub pair_same : (b : Bool) (m : ℕ) {a a' c c' r r' o : ℕ} → a ≡ a' → c ≡ c' → r ≡ r' → o ≡ cond b c (c * m + r) → a + o ≡ a' + cond b c' (c' * m + r')
 pair_same b m e f g q = rw (q, e, f, g)
 
-pub cell-low : (c m r : ℕ) → c ≤ 65535 → m ≤ 65535 → r ≤ 65535 → c * m + r ≤ 4295032832
-cell-low c m r h g f = omega (arith, mul-le-mul h g)
+pub cell_low : (c m r : ℕ) → c ≤ 65535 → m ≤ 65535 → r ≤ 65535 → c * m + r ≤ 4295032832
+cell_low c m r h g f = omega (arith, mul-le-mul h g)
 
-pub fixed-low : (c rows : ℕ) → c ≤ 65535 → rows ≤ 33 → c * rows ≤ 2162655
-fixed-low c rows h k = omega (arith, mul-le-mul h k)
+pub fixed_low : (c rows : ℕ) → c ≤ 65535 → rows ≤ 33 → c * rows ≤ 2162655
+fixed_low c rows h k = omega (arith, mul-le-mul h k)
 
 -- ---- one line of a run more
 
@@ -78,17 +78,17 @@ module _ {A : Type 0} (put : ℕ → Line → List A → List A) (read : ℕ →
   unfolding spread
   spread_none n i at w e = rw e
 
-  pub spread-more : (n i at : ℕ) (w : List A) (l : Line) → 0 < n → l ≡ read at → spread put read n i at w ≡ spread put read (n - 1) (i + 1) l.next (put i l w)
+  pub spread_more : (n i at : ℕ) (w : List A) (l : Line) → 0 < n → l ≡ read at → spread put read n i at w ≡ spread put read (n - 1) (i + 1) l.next (put i l w)
   unfolding spread
-  spread-more zero i at w l h e = absurd (omega arith)
-  spread-more (suc n) i at w l h e =
+  spread_more zero i at w l h e = absurd (omega arith)
+  spread_more (suc n) i at w l h e =
       let q : suc n - 1 ≡ n = omega arith in
       rw (q, add-one) (ap (λ (x : Line). spread put read n (suc i) x.next (put i x w)) (sym e))
 
 module _ (P : Line → Type 0) (read : ℕ → Line) where
-  pub each-now : (n at : ℕ) (l : Line) → 0 < n → l ≡ read at → EachLine P read n at → P l
-  each-now zero at l h e a = absurd (omega arith)
-  each-now (suc n) at l h e a = subst P (sym e) a.0
+  pub each_now : (n at : ℕ) (l : Line) → 0 < n → l ≡ read at → EachLine P read n at → P l
+  each_now zero at l h e a = absurd (omega arith)
+  each_now (suc n) at l h e a = subst P (sym e) a.0
 
   pub each_more : (n at : ℕ) (l : Line) → 0 < n → l ≡ read at → EachLine P read n at → EachLine P read (n - 1) l.next
   each_more zero at l h e a = absurd (omega arith)
@@ -98,10 +98,10 @@ module _ (P : Line → Type 0) (read : ℕ → Line) where
 
 -- ---- a finite word is no NaN's
 
-no-nan-of : (a b : Bool) → not a ≡ true → T (not (a && b))
-no-nan-of false b e = tt
-no-nan-of true b e = absurd (let z : ◌≡◌ {A = ℕ} 0 1 = cc in omega arith)
+no_nan_of : (a b : Bool) → not a ≡ true → T (not (a && b))
+no_nan_of false b e = tt
+no_nan_of true b e = absurd (let z : ◌≡◌ {A = ℕ} 0 1 = cc in omega arith)
 
-pub finite-no-nan : (w : ℕ) → is_finite w ≡ true → T (not (nan_bits binary64 w))
+pub finite_no_nan : (w : ℕ) → is_finite w ≡ true → T (not (nan_bits binary64 w))
 unfolding is_finite nan_bits
-finite-no-nan w e = no-nan-of (eqb (w % 9223372036854775808 / 4503599627370496) 2047) (not (eqb (w % 4503599627370496) 0)) e
+finite_no_nan w e = no_nan_of (eqb (w % 9223372036854775808 / 4503599627370496) 2047) (not (eqb (w % 4503599627370496) 0)) e

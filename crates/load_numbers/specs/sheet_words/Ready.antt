@@ -2,13 +2,13 @@
 use Rattle.std.specs.Prelude.{ℕ, ◌≡◌, List}
 use Rattle.std.proofs.Math.Option.{none}
 use Rattle.sheet.specs.declared.Starts.{Starts}
-use Rattle.sheet.specs.Sheet.{Sheet, accepted, readSheet}
-use Rattle.sheet.specs.Fault.{faultNumber}
+use Rattle.sheet.specs.Sheet.{Sheet, accepted, read_sheet}
+use Rattle.sheet.specs.Fault.{fault_number}
 use Rattle.layout.specs.declared.Layout.{Layout}
 use Rattle.layout.specs.Shapes.{pairs}
-use Rattle.workspace.specs.Loaded.{layoutOfSheet, firstRefusedPair}
+use Rattle.workspace.specs.Loaded.{layout_of_sheet, first_refused_pair}
 
 abbrev pub Ready : List ℕ → Starts → Layout → Type 0
 Ready s z y =
-    (sheet : Sheet) × (readSheet s ≡ accepted sheet z) × (faultNumber sheet ≡ 0) × (y ≡ layoutOfSheet sheet)
-    × (firstRefusedPair sheet y (pairs y.k) ≡ none)
+    (sheet : Sheet) × (read_sheet s ≡ accepted sheet z) × (fault_number sheet ≡ 0) × (y ≡ layout_of_sheet sheet)
+    × (first_refused_pair sheet y (pairs y.k) ≡ none)

@@ -16,20 +16,20 @@ digit b r h =
     let x : r * 4 < 4 * b = omega arith in
     (div-lt_iff_lt-mul B).1 x
 
-pub first-digit : (a b : ℕ) → a < b → Divided a b 0 a 0
-first-digit a b h = record { turns = omega arith; less = h; whole = omega arith; small = lit< tt }
+pub first_digit : (a b : ℕ) → a < b → Divided a b 0 a 0
+first_digit a b h = record { turns = omega arith; less = h; whole = omega arith; small = lit< tt }
 
-power-next : (i : ℕ) → 4 ^ (i + 1) ≡ 4 ^ i * 4
-power-next i = ap (λ (n : ℕ). 4 ^ n) (add-one i) ∙ pow-suc 4 i
+power_next : (i : ℕ) → 4 ^ (i + 1) ≡ 4 ^ i * 4
+power_next i = ap (λ (n : ℕ). 4 ^ n) (add-one i) ∙ pow-suc 4 i
 
-pub next-digit : (a b q r i : ℕ) → Divided a b q r i → i < 31 → Divided a b (q * 4 + r * 4 / b) (r * 4 % b) (i + 1)
-next-digit a b q r i s h =
+pub next_digit : (a b q r i : ℕ) → Divided a b q r i → i < 31 → Divided a b (q * 4 + r * 4 / b) (r * 4 % b) (i + 1)
+next_digit a b q r i s h =
     let l = digit b r s.less in
     record {
       turns = omega arith;
       less = mod-lt (r * 4) (omega arith);
-      whole = omega (arith, ap (λ (n : ℕ). a * n) (power-next i), div-add-mod' (r * 4) b, s.whole);
-      small = omega (arith, power-next i, s.small);
+      whole = omega (arith, ap (λ (n : ℕ). a * n) (power_next i), div-add-mod' (r * 4) b, s.whole);
+      small = omega (arith, power_next i, s.small);
     }
 
 pub quotient_fits : (a b q r i : ℕ) → Divided a b q r i → i < 31 → q < 4 ^ 30
@@ -37,8 +37,8 @@ quotient_fits a b q r i s h =
     let l : i ≤ 30 = omega arith in
     lt_of_lt_of_le s.small (pow-le-pow_right (lit< tt) l)
 
-pub last-digit : (a b q r i : ℕ) → Divided a b q r i → 31 ≤ i → q ≡ a * 2 ^ 62 / b
-last-digit a b q r i s h =
+pub last_digit : (a b q r i : ℕ) → Divided a b q r i → 31 ≤ i → q ≡ a * 2 ^ 62 / b
+last_digit a b q r i s h =
     let e : i ≡ 31 = omega arith in
     let w : q * b + r ≡ a * 4 ^ 31 = subst (λ (n : ℕ). q * b + r ≡ a * 4 ^ n) e s.whole in
     sym (digits_div q s.less) ∙ ap (λ (n : ℕ). n / b) w
@@ -73,13 +73,13 @@ module _ (a b g h l s r k : ℕ) (eh : h ≡ g * b / 2 ^ 64) (el : l ≡ g * b %
 pub shift_fits : (r : ℕ) → r < 2 ^ 56 → r * 256 < 2 ^ 64
 shift_fits r h = omega arith
 
-pub below-pos : (a b : ℕ) → a < b → 0 < b
-below-pos a b h = omega arith
+pub below_pos : (a b : ℕ) → a < b → 0 < b
+below_pos a b h = omega arith
 
-pub ratio-most : (a b : ℕ) → a < b → a * 2 ^ 62 / b < 2 ^ 62
-ratio-most a b h =
+pub ratio_most : (a b : ℕ) → a < b → a * 2 ^ 62 / b < 2 ^ 62
+ratio_most a b h =
     let B : 0 < b = omega arith in
     (div-lt_iff_lt-mul B).1 (omega arith)
 
 pub sum_fits : (p a b : ℕ) → p ≡ a * 2 ^ 62 / b → a < b → p < 2 ^ 64
-sum_fits p a b e h = omega (arith, ratio-most a b h)
+sum_fits p a b e h = omega (arith, ratio_most a b h)

@@ -4,24 +4,24 @@ use lib.Ieee.{Float, binary64, fits}
 use lib.Ieee.Exact.{HasValue}
 use lib.Ieee.Positive.{positive}
 use Rattle.float_bits.specs.double.Parts.{significand, exponent}
-use Rattle.float_bits.proofs.double.Value.{value, rescale, significand-low, significand-high}
+use Rattle.float_bits.proofs.double.Value.{value, rescale, significand_low, significand_high}
 use Rattle.logarithm.specs.exact_log.Fraction.{◌⊴◌}
 use Rattle.logarithm.specs.exact_log.Artanh.{artanh}
-use Rattle.logarithm.specs.exact_log.Log.{apart, centre, rise, logOf, exactLn}
+use Rattle.logarithm.specs.exact_log.Log.{apart, centre, rise, log_of, exact_ln}
 use Rattle.logarithm.proofs.exact_log.Bracket.{den_pos, top_pos, ends}
-use Rattle.logarithm.proofs.exact_log.Order.{Proper, proper-sum, proper-stretched, proper-signed, Overlap, overlap-sum, overlap-stretched, overlap-signed}
+use Rattle.logarithm.proofs.exact_log.Order.{Proper, proper_sum, proper_stretched, proper_signed, Overlap, overlap_sum, overlap_stretched, overlap_signed}
 
 -- ---- the series
 -- each lower end is at or below each upper end
-pub artanh-ordered : (a b M N : ℕ) → a < b → (artanh a b M).low ⊴ (artanh a b N).high
-artanh-ordered a b M N h = omega (arith, ends a b M N h)
+pub artanh_ordered : (a b M N : ℕ) → a < b → (artanh a b M).low ⊴ (artanh a b N).high
+artanh_ordered a b M N h = omega (arith, ends a b M N h)
 
-artanh-overlap : (a b M N : ℕ) → a < b → Overlap (artanh a b M) (artanh a b N)
-artanh-overlap a b M N h = record { ahead = artanh-ordered a b M N h; back = artanh-ordered a b N M h }
+artanh_overlap : (a b M N : ℕ) → a < b → Overlap (artanh a b M) (artanh a b N)
+artanh_overlap a b M N h = record { ahead = artanh_ordered a b M N h; back = artanh_ordered a b N M h }
 
 -- the ends are fractions
-pub artanh-proper : (a b N : ℕ) → a < b → Proper (artanh a b N)
-artanh-proper a b N h = record { low-pos = den_pos b N (omega arith); high-pos = top_pos a b N h }
+pub artanh_proper : (a b N : ℕ) → a < b → Proper (artanh a b N)
+artanh_proper a b N h = record { low_pos = den_pos b N (omega arith); high_pos = top_pos a b N h }
 
 -- ---- the centre
 near : (m : ℕ) (b : Bool) → ltb m (3 * 2 ^ 51) ≡ b → 2 ^ 52 ≤ m → m < 2 ^ 53
@@ -30,11 +30,11 @@ near m true e l h = let k : m < 3 * 2 ^ 51 = ltb→lt m (3 * 2 ^ 51) (subst T (s
 near m false e l h = let k : 3 * 2 ^ 51 ≤ m = nltb→le m (3 * 2 ^ 51) (subst (λ (b : Bool). T (not b)) (sym e) tt) in omega arith
 
 -- m / c is from 3/4 to 3/2, so |m - c| / (m + c) is at most a fifth
-pub near-one : (m : ℕ) → 2 ^ 52 ≤ m → m < 2 ^ 53 → (5 * apart m (centre m) ≤ m + centre m) × (3 * centre m ≤ 4 * m) × (2 * m < 3 * centre m)
-near-one m l h = near m (ltb m (3 * 2 ^ 51)) refl l h
+pub near_one : (m : ℕ) → 2 ^ 52 ≤ m → m < 2 ^ 53 → (5 * apart m (centre m) ≤ m + centre m) × (3 * centre m ≤ 4 * m) × (2 * m < 3 * centre m)
+near_one m l h = near m (ltb m (3 * 2 ^ 51)) refl l h
 
-below-sum : (m : ℕ) → 2 ^ 52 ≤ m → m < 2 ^ 53 → apart m (centre m) < m + centre m
-below-sum m l h = let s : 0 < m + centre m = omega arith in omega (arith, (near-one m l h).0)
+below_sum : (m : ℕ) → 2 ^ 52 ≤ m → m < 2 ^ 53 → apart m (centre m) < m + centre m
+below_sum m l h = let s : 0 < m + centre m = omega arith in omega (arith, (near_one m l h).0)
 
 -- ---- the parts
 shifted : (m t j A : ℕ) → m * 2 ^ (t + j) * A ≡ m * 2 ^ t * (2 ^ j * A)
@@ -48,32 +48,32 @@ centred m t true = shifted m t 0 (2 ^ 1126)
 centred m t false = shifted m t 1 (2 ^ 1126)
 
 -- x is 2 ^ e * v, with e = u - 1074 and v = m / c
-pub exact-parts : (x : Float) → T (fits binary64 x) → T (positive x) → HasValue x false (significand x * 2 ^ rise (significand x) (exponent x)) (centre (significand x) * 2 ^ 1074)
-exact-parts x f p =
+pub exact_parts : (x : Float) → T (fits binary64 x) → T (positive x) → HasValue x false (significand x * 2 ^ rise (significand x) (exponent x)) (centre (significand x) * 2 ^ 1074)
+exact_parts x f p =
     rescale x false (significand x * 2 ^ exponent x) (2 ^ 1126) _ _ (lit< tt) (centred (significand x) (exponent x) (ltb (significand x) (3 * 2 ^ 51))) (value x f p)
 
 -- ---- the logarithm
 module _ (m c u d : ℕ) (h : apart m c < m + c) where
-  log-overlap : (M N : ℕ) → Overlap (logOf m c u d M) (logOf m c u d N)
-  log-overlap M N =
-      overlap-sum (overlap-signed (ltb u d) (overlap-stretched (2 * apart u d) (artanh-overlap 1 3 M N (lit< tt))))
-      (overlap-signed (ltb m c) (overlap-stretched 2 (artanh-overlap (apart m c) (m + c) M N h)))
+  log_overlap : (M N : ℕ) → Overlap (log_of m c u d M) (log_of m c u d N)
+  log_overlap M N =
+      overlap_sum (overlap_signed (ltb u d) (overlap_stretched (2 * apart u d) (artanh_overlap 1 3 M N (lit< tt))))
+      (overlap_signed (ltb m c) (overlap_stretched 2 (artanh_overlap (apart m c) (m + c) M N h)))
 
-  log-proper : (N : ℕ) → Proper (logOf m c u d N)
-  log-proper N =
-      proper-sum (proper-signed (ltb u d) (proper-stretched (2 * apart u d) (artanh-proper 1 3 N (lit< tt))))
-      (proper-signed (ltb m c) (proper-stretched 2 (artanh-proper (apart m c) (m + c) N h)))
+  log_proper : (N : ℕ) → Proper (log_of m c u d N)
+  log_proper N =
+      proper_sum (proper_signed (ltb u d) (proper_stretched (2 * apart u d) (artanh_proper 1 3 N (lit< tt))))
+      (proper_signed (ltb m c) (proper_stretched 2 (artanh_proper (apart m c) (m + c) N h)))
 
 module _ (x : Float) (f : T (fits binary64 x)) (p : T (positive x)) where
-  fraction-below : apart (significand x) (centre (significand x)) < significand x + centre (significand x)
-  fraction-below = below-sum (significand x) (significand-low x f p) (significand-high x f p)
+  fraction_below : apart (significand x) (centre (significand x)) < significand x + centre (significand x)
+  fraction_below = below_sum (significand x) (significand_low x f p) (significand_high x f p)
 
   -- each lower end is at or below each upper end
-  pub exact_ordered : (M N : ℕ) → (exactLn x M).low ⊴ (exactLn x N).high
-  unfolding exactLn
-  exact_ordered M N = (log-overlap (significand x) (centre (significand x)) (rise (significand x) (exponent x)) 1074 fraction-below M N).ahead
+  pub exact_ordered : (M N : ℕ) → (exact_ln x M).low ⊴ (exact_ln x N).high
+  unfolding exact_ln
+  exact_ordered M N = (log_overlap (significand x) (centre (significand x)) (rise (significand x) (exponent x)) 1074 fraction_below M N).ahead
 
   -- both ends are fractions: no bot is 0
-  pub exact-proper : (N : ℕ) → Proper (exactLn x N)
-  unfolding exactLn
-  exact-proper N = log-proper (significand x) (centre (significand x)) (rise (significand x) (exponent x)) 1074 fraction-below N
+  pub exact_proper : (N : ℕ) → Proper (exact_ln x N)
+  unfolding exact_ln
+  exact_proper N = log_proper (significand x) (centre (significand x)) (rise (significand x) (exponent x)) 1074 fraction_below N

@@ -13,8 +13,8 @@ pub ⊴-trans : (x y z : Fraction) → 0 < y.bot → x ⊴ y → y ⊴ z → x �
 ⊴-trans x y z Y h k = le_of_mul-le-mul_right (omega (arith, mul-le-mul_right z.bot h, mul-le-mul_right x.bot k)) Y
 
 -- equal fractions are the same number
-pub same-of-eq : {x y : Fraction} → x ≡ y → Same x y
-same-of-eq {x} {y} e = record { most = subst (λ (z : Fraction). x ⊴ z) e (⊴-refl x); least = subst (λ (z : Fraction). z ⊴ x) e (⊴-refl x) }
+pub same_of_eq : {x y : Fraction} → x ≡ y → Same x y
+same_of_eq {x} {y} e = record { most = subst (λ (z : Fraction). x ⊴ z) e (⊴-refl x); least = subst (λ (z : Fraction). z ⊴ x) e (⊴-refl x) }
 
 -- what is at most y + 1 / K for every K is at most y
 pub ⊴-limit : (x y : Fraction) → ((K : ℕ) → 0 < K → x ⊴ (y ⊞ over 1 K)) → x ⊴ y
@@ -70,65 +70,65 @@ pub ⊞-swap : (x y u v : Fraction) → x ⊞ u ⊞ (y ⊞ v) ≡ x ⊞ y ⊞ (u
     }
 
 -- negatives turn the order round
-pub negated-anti : (x y : Fraction) → x ⊴ y → negated y ⊴ negated x
-negated-anti x y h = omega arith
+pub negated_anti : (x y : Fraction) → x ⊴ y → negated y ⊴ negated x
+negated_anti x y h = omega arith
 
 -- multiples keep the order
-pub times-mono : (k : ℕ) (x y : Fraction) → x ⊴ y → times k x ⊴ times k y
-times-mono k x y h = omega (arith, mul-le-mul_left k h)
+pub times_mono : (k : ℕ) (x y : Fraction) → x ⊴ y → times k x ⊴ times k y
+times_mono k x y h = omega (arith, mul-le-mul_left k h)
 
 -- ---- an interval whose ends are fractions: neither bot is 0. So are sums, multiples and negatives of such
 pub record Proper (i : Interval) : Type 0 where
-  pub low-pos : 0 < i.low.bot
-  pub high-pos : 0 < i.high.bot
+  pub low_pos : 0 < i.low.bot
+  pub high_pos : 0 < i.high.bot
 
-pub proper-sum : {i j : Interval} → Proper i → Proper j → Proper (i ⊕ j)
-proper-sum p q = record { low-pos = mul-pos p.low-pos q.low-pos; high-pos = mul-pos p.high-pos q.high-pos }
+pub proper_sum : {i j : Interval} → Proper i → Proper j → Proper (i ⊕ j)
+proper_sum p q = record { low_pos = mul-pos p.low_pos q.low_pos; high_pos = mul-pos p.high_pos q.high_pos }
 
-pub proper-stretched : (k : ℕ) {i : Interval} → Proper i → Proper (stretched k i)
-proper-stretched k p = record { low-pos = p.low-pos; high-pos = p.high-pos }
+pub proper_stretched : (k : ℕ) {i : Interval} → Proper i → Proper (stretched k i)
+proper_stretched k p = record { low_pos = p.low_pos; high_pos = p.high_pos }
 
-pub proper-signed : (b : Bool) {i : Interval} → Proper i → Proper (signed b i)
-proper-signed false p = p
-proper-signed true p = record { low-pos = omega (arith, p.low-pos, p.high-pos); high-pos = omega (arith, p.low-pos, p.high-pos) }
+pub proper_signed : (b : Bool) {i : Interval} → Proper i → Proper (signed b i)
+proper_signed false p = p
+proper_signed true p = record { low_pos = omega (arith, p.low_pos, p.high_pos); high_pos = omega (arith, p.low_pos, p.high_pos) }
 
 -- ---- intervals that overlap: each one's low is at most the other's high. Their sums, multiples and negatives do too
 pub record Overlap (i j : Interval) : Type 0 where
   pub ahead : i.low ⊴ j.high
   pub back : j.low ⊴ i.high
 
-pub overlap-sum : {i i' j j' : Interval} → Overlap i i' → Overlap j j' → Overlap (i ⊕ j) (i' ⊕ j')
-overlap-sum {i} {i'} {j} {j'} p q =
+pub overlap_sum : {i i' j j' : Interval} → Overlap i i' → Overlap j j' → Overlap (i ⊕ j) (i' ⊕ j')
+overlap_sum {i} {i'} {j} {j'} p q =
     record {
       ahead = ⊞-mono i.low i'.high j.low j'.high p.ahead q.ahead;
       back = ⊞-mono i'.low i.high j'.low j.high p.back q.back;
     }
 
-pub overlap-stretched : (k : ℕ) {i j : Interval} → Overlap i j → Overlap (stretched k i) (stretched k j)
-overlap-stretched k {i} {j} p =
-    record { ahead = times-mono k i.low j.high p.ahead; back = times-mono k j.low i.high p.back }
+pub overlap_stretched : (k : ℕ) {i j : Interval} → Overlap i j → Overlap (stretched k i) (stretched k j)
+overlap_stretched k {i} {j} p =
+    record { ahead = times_mono k i.low j.high p.ahead; back = times_mono k j.low i.high p.back }
 
-pub overlap-signed : (b : Bool) {i j : Interval} → Overlap i j → Overlap (signed b i) (signed b j)
-overlap-signed false p = p
-overlap-signed true {i} {j} p =
-    record { ahead = negated-anti j.low i.high p.back; back = negated-anti i.low j.high p.ahead }
+pub overlap_signed : (b : Bool) {i j : Interval} → Overlap i j → Overlap (signed b i) (signed b j)
+overlap_signed false p = p
+overlap_signed true {i} {j} p =
+    record { ahead = negated_anti j.low i.high p.back; back = negated_anti i.low j.high p.ahead }
 
 -- ---- an interval of a width of at most w. Widths add up, are multiplied, and stay under a negative
 pub record Narrow (w : Fraction) (i : Interval) : Type 0 where
   pub width : i.high ⊴ (i.low ⊞ w)
 
-pub narrow-sum : {v w : Fraction} {i j : Interval} → Narrow v i → Narrow w j → Narrow (v ⊞ w) (i ⊕ j)
-narrow-sum {v} {w} {i} {j} p q =
+pub narrow_sum : {v w : Fraction} {i j : Interval} → Narrow v i → Narrow w j → Narrow (v ⊞ w) (i ⊕ j)
+narrow_sum {v} {w} {i} {j} p q =
     record { width = subst (λ (z : Fraction). (i.high ⊞ j.high) ⊴ z) (⊞-swap i.low j.low v w) (⊞-mono i.high (i.low ⊞ v) j.high (j.low ⊞ w) p.width q.width) }
 
-pub narrow-stretched : (k : ℕ) {w : Fraction} {i : Interval} → Narrow w i → Narrow (times k w) (stretched k i)
-narrow-stretched k {w} {i} p = record { width = omega (arith, times-mono k i.high (i.low ⊞ w) p.width) }
+pub narrow_stretched : (k : ℕ) {w : Fraction} {i : Interval} → Narrow w i → Narrow (times k w) (stretched k i)
+narrow_stretched k {w} {i} p = record { width = omega (arith, times_mono k i.high (i.low ⊞ w) p.width) }
 
 pub narrow_signed : (b : Bool) {w : Fraction} {i : Interval} → Narrow w i → Narrow w (signed b i)
 narrow_signed false p = p
 narrow_signed true {w} {i} p = record { width = omega (arith, p.width) }
 
 -- the bound may be larger
-pub narrow-wider : {v w : Fraction} {i : Interval} → 0 < v.bot → Proper i → v ⊴ w → Narrow v i → Narrow w i
-narrow-wider {v} {w} {i} B P h p =
-    record { width = ⊴-trans i.high (i.low ⊞ v) (i.low ⊞ w) (mul-pos P.low-pos B) p.width (⊞-mono i.low i.low v w (⊴-refl i.low) h) }
+pub narrow_wider : {v w : Fraction} {i : Interval} → 0 < v.bot → Proper i → v ⊴ w → Narrow v i → Narrow w i
+narrow_wider {v} {w} {i} B P h p =
+    record { width = ⊴-trans i.high (i.low ⊞ v) (i.low ⊞ w) (mul-pos P.low_pos B) p.width (⊞-mono i.low i.low v w (⊴-refl i.low) h) }

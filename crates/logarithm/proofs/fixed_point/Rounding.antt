@@ -21,8 +21,8 @@ half Ordering.eq n u w r e l h k j =
     (omega (arith, mul-le-mul_right u y), omega (arith, mul-le-mul_right u y))
 half Ordering.gt n u w r e l h k j = let x : u < r * 2 = k tt in (omega arith, omega arith)
 
-closest-half : (n u : ℕ) → 0 < u → Half n u (closest n u)
-closest-half n u U =
+closest_half : (n u : ℕ) → 0 < u → Half n u (closest n u)
+closest_half n u U =
     half (compare (n % u * 2) u) n u (n / u) (n % u) (div-add-mod' n u) (mod-lt n U) (leb→le (n % u * 2) u) (nleb→lt (n % u * 2) u) (eqb→eq (n % u * 2) u)
 
 -- ---- v is within v / (2 H) of n: where all digits that are kept are in use, q is H or more
@@ -57,10 +57,10 @@ cross H U W P v R Q p e k = (
   le_of_mul-le-mul_right (omega (arith, mul-le-mul_right Q k.0, ap (λ (x : ℕ). H * U * x) e, ap (λ (x : ℕ). U * x) e)) p,
 )
 
-from-value : (x : Float) (s : Bool) (v W P U : ℕ) → 0 < P → HasValue x s v P → Off (2 ^ 52) (W * P) (v * U) → IsRounded x s W U
-from-value nan s v W P U p h k = h
-from-value (inf t) s v W P U p h k = h
-from-value (fin t m e) s v W P U p h k =
+from_value : (x : Float) (s : Bool) (v W P U : ℕ) → 0 < P → HasValue x s v P → Off (2 ^ 52) (W * P) (v * U) → IsRounded x s W U
+from_value nan s v W P U p h k = h
+from_value (inf t) s v W P U p h k = h
+from_value (fin t m e) s v W P U p h k =
     let c = cross (2 ^ 52) U W P v (m * up e) (down e) p h.1 k in
     (h.0, record { up = c.0; down = c.1 })
 
@@ -83,25 +83,25 @@ module _ (U : ℕ) (C : 0 < U) (most : U ≤ 2 ^ 1022) where
       let q = closest n u in
       let N : 53 ≤ size (n / U) = normal_of_fraction binary64 W U C (normal W w) in
       let H : 2 ^ 52 ≤ q = le_trans (in_use n U (size (n / U)) C refl N) (nearest-ge (n / u) (compare (n % u * 2) u)) in
-      let o : Off (2 ^ 52) n (q * u) = off (2 ^ 52) n u q H (closest-half n u (mul-pos C (pow_pos k))) in
+      let o : Off (2 ^ 52) n (q * u) = off (2 ^ 52) n u q H (closest_half n u (mul-pos C (pow_pos k))) in
       let o' : Off (2 ^ 52) n (q * 2 ^ k * U) = subst (λ (x : ℕ). Off (2 ^ 52) n x) (omega arith) o in
       let f : q * 2 ^ k < 2 ^ (low binary64 + suc (emax binary64)) = lt_of_le_of_lt (small (2 ^ 52) U W P (q * 2 ^ k) (lit≤ tt) C l o'.0) (lit< tt) in
-      from-value (round binary64 s W U) s (q * 2 ^ k) W P U (lit< tt)
+      from_value (round binary64 s W U) s (q * 2 ^ k) W P U (lit< tt)
       (subst (λ (x : Float). HasValue x s (q * 2 ^ k) P) (sym (round_is binary64 s W U)) (units_val binary64 s q k f)) o'
 
-  zero-value : (x : Float) (s : Bool) → HasValue x s 0 U → IsRounded x s 0 U
-  zero-value nan s h = h
-  zero-value (inf t) s h = h
-  zero-value (fin t m e) s h = (h.0, record { up = omega (arith, h.1); down = omega (arith, h.1) })
+  zero_value : (x : Float) (s : Bool) → HasValue x s 0 U → IsRounded x s 0 U
+  zero_value nan s h = h
+  zero_value (inf t) s h = h
+  zero_value (fin t m e) s h = (h.0, record { up = omega (arith, h.1); down = omega (arith, h.1) })
 
   pub rounded : (s : Bool) (W : ℕ) → W ≤ 2048 * U → IsRounded (round binary64 s W U) s W U
   rounded s W l = go (eq-zero-or-pos W)
     where
       go : (W ≡ 0) ⊎ (0 < W) → IsRounded (round binary64 s W U) s W U
-      go (inl e) = subst (λ (w : ℕ). IsRounded (round binary64 s w U) s w U) (sym e) (zero-value (round binary64 s 0 U) s (round_exact binary64 s 0 U 0 0 C (lit< tt) (lit< tt) (sym (zero-mul U))))
+      go (inl e) = subst (λ (w : ℕ). IsRounded (round binary64 s w U) s w U) (sym e) (zero_value (round binary64 s 0 U) s (round_exact binary64 s 0 U 0 0 C (lit< tt) (lit< tt) (sym (zero-mul U))))
       go (inr p) = positive s W p l
 
-pub rounded-finite : (x : Float) (s : Bool) (W U : ℕ) → IsRounded x s W U → T (finite x)
-rounded-finite nan s W U h = h
-rounded-finite (inf t) s W U h = h
-rounded-finite (fin t m e) s W U h = tt
+pub rounded_finite : (x : Float) (s : Bool) (W U : ℕ) → IsRounded x s W U → T (finite x)
+rounded_finite nan s W U h = h
+rounded_finite (inf t) s W U h = h
+rounded_finite (fin t m e) s W U h = tt

@@ -11,13 +11,13 @@ unfolding num den under power IsLe
 serves = record {
   rest = 480;
   bracket = 22;
-  unit-low = lit≤ tt;
-  guard-low = lit< tt;
-  sum-high = lit≤ tt;
-  long-enough = lit≤ tt;
-  ln2-low = le_by_compare _ _ tt;
-  ln2-high = le_by_compare _ _ tt;
-  ln2-most = lit≤ tt;
+  unit_low = lit≤ tt;
+  guard_low = lit< tt;
+  sum_high = lit≤ tt;
+  long_enough = lit≤ tt;
+  ln2_low = le_by_compare _ _ tt;
+  ln2_high = le_by_compare _ _ tt;
+  ln2_most = lit≤ tt;
   absolute = lit≤ tt;
   relative = lit≤ tt;
 }

@@ -3,8 +3,8 @@ use Rattle.std.proofs.Common.{T, sym, ◌∙◌, subst, rules}
 use lib.Ieee.{div, neg, of_bits}
 use Rattle.float_bits.specs.declared.double.Kind.TheVariants.{Positive, Zero, Negative, PlusInfinity, NotANumber}
 use Rattle.float_bits.proofs.double.Value.{in_place}
-use Rattle.logarithm.specs.Ln.{lnAt}
-use Rattle.logarithm.proofs.Near.{at-kind}
+use Rattle.logarithm.specs.Ln.{ln_at}
+use Rattle.logarithm.proofs.Near.{at_kind}
 use Rattle.logarithm.proofs.ln.Statement.{statement}
 use Rattle.logarithm.proofs.ln.Tie as tie
 
@@ -12,24 +12,24 @@ of-parts-requires : tie.Need-of-parts-requires
 of-parts-requires c κs = in_place _ _ (subst T (sym c.before.before.before.before.well-formed.0.1) tt) (sym c.before.before.before.classify.ensures ∙ c.before.p.given.1)
 
 returns : tie.Need-returns
-unfolding lnAt
-returns c = c.of_parts.ensures ∙ at-kind _ (Positive _) c.before.before.before.before.classify.ensures c.before.before.p.given.1
+unfolding ln_at
+returns c = c.of_parts.ensures ∙ at_kind _ (Positive _) c.before.before.before.before.classify.ensures c.before.before.p.given.1
 
 returns-2 : tie.Need-returns-2
-unfolding lnAt div neg of_bits
-returns-2 c = at-kind _ Zero c.before.before.classify.ensures c.enum_told.given.1
+unfolding ln_at div neg of_bits
+returns-2 c = at_kind _ Zero c.before.before.classify.ensures c.enum_told.given.1
 
 returns-3 : tie.Need-returns-3
-unfolding lnAt div of_bits
-returns-3 c = at-kind _ Negative c.before.before.classify.ensures c.enum-told2.given.1
+unfolding ln_at div of_bits
+returns-3 c = at_kind _ Negative c.before.before.classify.ensures c.enum-told2.given.1
 
 returns-4 : tie.Need-returns-4
-unfolding lnAt
-returns-4 c = at-kind _ PlusInfinity c.before.before.classify.ensures c.enum-told3.given.1
+unfolding ln_at
+returns-4 c = at_kind _ PlusInfinity c.before.before.classify.ensures c.enum-told3.given.1
 
 returns-5 : tie.Need-returns-5
-unfolding lnAt
-returns-5 c = at-kind _ NotANumber c.before.before.classify.ensures c.enum-told4.given.1
+unfolding ln_at
+returns-5 c = at_kind _ NotANumber c.before.before.classify.ensures c.enum-told4.given.1
 
 pub ln-spec : {M : Type 1} → statement M
 ln-spec = tie.close (tie.spec (λ c κs. search rules) (λ c. search rules) of-parts-requires (λ c. search rules)

@@ -17,10 +17,10 @@ abbrev pub rise : ℕ → ℕ → ℕ
 rise m t = t + cond (nat_lt m (3 * 2 ^ 51)) 0 1
 
 -- (u - d) * ln 2 + ln (m / c)
-abbrev pub logOf : ℕ → ℕ → ℕ → ℕ → ℕ → Interval
-logOf m c u d N =
+abbrev pub log_of : ℕ → ℕ → ℕ → ℕ → ℕ → Interval
+log_of m c u d N =
     signed (nat_lt u d) (stretched (2 * apart u d) (artanh 1 3 N)) ⊕ signed (nat_lt m c) (stretched 2 (artanh (apart m c) (m + c) N))
 
 -- what ln x lies in, with N terms of each series
-unfoldable pub exactLn : Float → ℕ → Interval
-exactLn x N = logOf (significand x) (centre (significand x)) (rise (significand x) (exponent x)) 1074 N
+unfoldable pub exact_ln : Float → ℕ → Interval
+exact_ln x N = log_of (significand x) (centre (significand x)) (rise (significand x) (exponent x)) 1074 N

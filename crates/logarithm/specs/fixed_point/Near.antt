@@ -1,11 +1,11 @@
--- What it is to be near the exact logarithm, which is no number here but what lies in each of `exactLn`'s intervals.
+-- What it is to be near the exact logarithm, which is no number here but what lies in each of `exact_ln`'s intervals.
 use Rattle.std.specs.Prelude.{ℕ, ◌*◌, true, false, T, Float}
 use Rattle.std.specs.Float.{nan, inf, fin}
 use Rattle.std.specs.Float.Ieee.{up, down}
 use Rattle.std.specs.Float.Ieee.Scale.{finite}
 use Rattle.std.specs.Float.Ieee.Positive.{num, den}
 use Rattle.logarithm.specs.exact_log.Fraction.{Fraction, over, negated, ◌⊞◌, ◌⊴◌, Interval}
-use Rattle.logarithm.specs.exact_log.Log.{exactLn}
+use Rattle.logarithm.specs.exact_log.Log.{exact_ln}
 
 -- the number that a finite double is, and 0 for the others
 abbrev pub value_of : Float → Fraction
@@ -26,4 +26,4 @@ pub record Near (A B : ℕ) (r : Float) (i : Interval) : Type 0 where
 -- r is a finite double within 1 / A + |r| / B of ln x
 pub record IsLn (A B : ℕ) (x r : Float) : Type 0 where
   pub is_finite : T (finite r)
-  pub near : (N : ℕ) → Near A B r (exactLn x N)
+  pub near : (N : ℕ) → Near A B r (exact_ln x N)

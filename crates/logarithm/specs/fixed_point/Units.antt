@@ -33,33 +33,33 @@ horner S t k zero = 0
 horner S t k (suc n) = S / (2 * k + 1) + horner S t (suc k) n * t / S
 
 -- z * (1 + z^2 / 3 + z^4 / 5 + ..), T terms, z = a / b
-unfoldable pub artanhUnits : ℕ → ℕ → ℕ → ℕ → ℕ
+unfoldable pub artanh_units : ℕ → ℕ → ℕ → ℕ → ℕ
 unfolding horner
-artanhUnits S a b T = ratio S a b * horner S (square S (ratio S a b)) 0 T / S
+artanh_units S a b T = ratio S a b * horner S (square S (ratio S a b)) 0 T / S
 
 -- ---- ln (m / c * 2 ^ u / 2 ^ d) = (u - d) * ln 2 + 2 artanh ((m - c) / (m + c)): the sizes of the two parts, in finer units
-abbrev pub wholePart : Precision → ℕ → ℕ → ℕ
-wholePart P u d = apart u d * P.ln2
+abbrev pub whole_part : Precision → ℕ → ℕ → ℕ
+whole_part P u d = apart u d * P.ln2
 
-unfoldable pub seriesPart : Precision → ℕ → ℕ → ℕ
-unfolding artanhUnits
-seriesPart P m c = 2 * (P.guard * artanhUnits P.unit (apart m c) (m + c) P.terms)
+unfoldable pub series_part : Precision → ℕ → ℕ → ℕ
+unfolding artanh_units
+series_part P m c = 2 * (P.guard * artanh_units P.unit (apart m c) (m + c) P.terms)
 
 -- what the two add and what they take away
 unfoldable pub gain : Precision → ℕ → ℕ → ℕ → ℕ → ℕ
-unfolding seriesPart
-gain P m c u d = cond (nat_lt u d) 0 (wholePart P u d) + cond (nat_lt m c) 0 (seriesPart P m c)
+unfolding series_part
+gain P m c u d = cond (nat_lt u d) 0 (whole_part P u d) + cond (nat_lt m c) 0 (series_part P m c)
 
 unfoldable pub loss : Precision → ℕ → ℕ → ℕ → ℕ → ℕ
-unfolding seriesPart
-loss P m c u d = cond (nat_lt u d) (wholePart P u d) 0 + cond (nat_lt m c) (seriesPart P m c) 0
+unfolding series_part
+loss P m c u d = cond (nat_lt u d) (whole_part P u d) 0 + cond (nat_lt m c) (series_part P m c) 0
 
 -- gain - loss finer units, rounded to the nearest double
-unfoldable pub lnSum : Precision → ℕ → ℕ → ℕ → ℕ → Float
+unfoldable pub ln_sum : Precision → ℕ → ℕ → ℕ → ℕ → Float
 unfolding gain loss round
-lnSum P m c u d = round binary64 (nat_lt (gain P m c u d) (loss P m c u d)) (apart (gain P m c u d) (loss P m c u d)) (P.guard * P.unit)
+ln_sum P m c u d = round binary64 (nat_lt (gain P m c u d) (loss P m c u d)) (apart (gain P m c u d) (loss P m c u d)) (P.guard * P.unit)
 
 -- significand * 2 ^ exponent / 2 ^ 1126, split as exact_log's definition splits it
-unfoldable pub lnParts : Precision → Parts → Float
-unfolding lnSum
-lnParts P p = lnSum P p.significand (centre p.significand) (rise p.significand p.exponent) 1074
+unfoldable pub ln_parts : Precision → Parts → Float
+unfolding ln_sum
+ln_parts P p = ln_sum P p.significand (centre p.significand) (rise p.significand p.exponent) 1074

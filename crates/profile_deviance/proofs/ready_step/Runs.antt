@@ -11,9 +11,9 @@ use Rattle.refusal.specs.declared.Answer.{Answer}
 use Rattle.refusal.specs.declared.Answer.TheVariants.{Accepted, Refused}
 use Rattle.workspace.specs.Memory.{Workspace}
 use Rattle.workspace.specs.Answers.{Outcome}
-use Rattle.update.specs.Calls.{refusedBy, onPivot, step_of, goOn, run_of}
+use Rattle.update.specs.Calls.{refused_by, on_pivot, step_of, go_on, run_of}
 use Rattle.profile_deviance.specs.ready_step.ReadyInTurn.{is_refused, ReadyInTurn, Ran}
-use Rattle.profile_deviance.proofs.ready_step.Turns.{step_is, step-next, prefix}
+use Rattle.profile_deviance.proofs.ready_step.Turns.{step_is, step_next, prefix}
 
 abbrev pub outcome : Answer → Workspace → Outcome
 outcome a v = record { answer = a; left = v }
@@ -24,62 +24,62 @@ accepted Accepted e = refl
 accepted (Refused r) e = absurd (true≢false e)
 
 -- going on from an outcome: from what an accepted one leaves, not at all from a refused one
-on-accepted : (o : Outcome) (next : Workspace → Outcome) → o.answer ≡ Accepted → goOn o.answer o next ≡ next o.left
-on-accepted o next e = rw e refl
+on_accepted : (o : Outcome) (next : Workspace → Outcome) → o.answer ≡ Accepted → go_on o.answer o next ≡ next o.left
+on_accepted o next e = rw e refl
 
-on-refused : (o : Outcome) (next : Workspace → Outcome) → is_refused o.answer ≡ true → goOn o.answer o next ≡ o
-on-refused o next t = go o.answer t
+on_refused : (o : Outcome) (next : Workspace → Outcome) → is_refused o.answer ≡ true → go_on o.answer o next ≡ o
+on_refused o next t = go o.answer t
   where
-    go : (a : Answer) → is_refused a ≡ true → goOn a o next ≡ o
+    go : (a : Answer) → is_refused a ≡ true → go_on a o next ≡ o
     go Accepted e = absurd (true≢false (sym e))
     go (Refused r) e = refl
 
 -- ending right behind it is the outcome itself
-ending : (a : Answer) (o : Outcome) → o.answer ≡ a → goOn a o (outcome Accepted) ≡ o
+ending : (a : Answer) (o : Outcome) → o.answer ≡ a → go_on a o (outcome Accepted) ≡ o
 ending Accepted o e = ap (λ (b : Answer). outcome b o.left) (sym e)
 ending (Refused r) o e = refl
 
-run-one : (v : Workspace) (s : Step) → step_of v.heading v.doubles s ≡ run_of v (s ∷ [])
+run_one : (v : Workspace) (s : Step) → step_of v.heading v.doubles s ≡ run_of v (s ∷ [])
 unfolding run_of
-run-one v s = sym (ending (step_of v.heading v.doubles s).answer (step_of v.heading v.doubles s) refl)
+run_one v s = sym (ending (step_of v.heading v.doubles s).answer (step_of v.heading v.doubles s) refl)
 
-run-append : (v : Workspace) (a b : List Step) → run_of v (a ++ b) ≡ goOn (run_of v a).answer (run_of v a) (λ u. run_of u b)
+run_append : (v : Workspace) (a b : List Step) → run_of v (a ++ b) ≡ go_on (run_of v a).answer (run_of v a) (λ u. run_of u b)
 unfolding run_of
-run-append v [] b = refl
-run-append v (s ∷ a) b = go (λ u. run-append u a b) (step_of v.heading v.doubles s).answer (step_of v.heading v.doubles s) refl
+run_append v [] b = refl
+run_append v (s ∷ a) b = go (λ u. run_append u a b) (step_of v.heading v.doubles s).answer (step_of v.heading v.doubles s) refl
   where
-    go : ((u : Workspace) → run_of u (a ++ b) ≡ goOn (run_of u a).answer (run_of u a) (λ z. run_of z b)) → (x : Answer) (o : Outcome) → o.answer ≡ x
-        → goOn x o (λ u. run_of u (a ++ b)) ≡ goOn (goOn x o (λ u. run_of u a)).answer (goOn x o (λ u. run_of u a)) (λ u. run_of u b)
+    go : ((u : Workspace) → run_of u (a ++ b) ≡ go_on (run_of u a).answer (run_of u a) (λ z. run_of z b)) → (x : Answer) (o : Outcome) → o.answer ≡ x
+        → go_on x o (λ u. run_of u (a ++ b)) ≡ go_on (go_on x o (λ u. run_of u a)).answer (go_on x o (λ u. run_of u a)) (λ u. run_of u b)
     go rest Accepted o e = rest o.left
     go rest (Refused r) o e = rw e refl
 
 -- ---- runs: none, one step, one list behind another
-ran-none : (v : Workspace) → Ran v [] (outcome Accepted v)
+ran_none : (v : Workspace) → Ran v [] (outcome Accepted v)
 unfolding run_of
-ran-none v = record { same = refl; next = λ rest u t. u }
+ran_none v = record { same = refl; next = λ rest u t. u }
 
-pub ran-one : (v : Workspace) (s : Step) → ReadyInTurn v (s ∷ []) → (o : Outcome) → o ≡ onPivot v.heading v.doubles (refusedBy v.heading v.doubles s) s
+pub ran_one : (v : Workspace) (s : Step) → ReadyInTurn v (s ∷ []) → (o : Outcome) → o ≡ on_pivot v.heading v.doubles (refused_by v.heading v.doubles s) s
     → length o.left.doubles ≡ length v.doubles → Ran v (s ∷ []) o
-ran-one v s u o e q =
-    record { same = e ∙ sym (step_is v s [] u) ∙ run-one v s; next = λ rest z t. step-next v s rest z o e q t }
+ran_one v s u o e q =
+    record { same = e ∙ sym (step_is v s [] u) ∙ run_one v s; next = λ rest z t. step_next v s rest z o e q t }
 
 module _ {v : Workspace} {a : List Step} (b : List Step) {o : Outcome} (r : Ran v a o) where
   -- the first list ends in a refusal
-  pub ran-stop : is_refused o.answer ≡ true → Ran v (a ++ b) o
-  ran-stop t =
+  pub ran_stop : is_refused o.answer ≡ true → Ran v (a ++ b) o
+  ran_stop t =
       record {
-        same = sym (run-append v a b ∙ ap (λ (z : Outcome). goOn z.answer z (λ u. run_of u b)) (sym r.same) ∙ on-refused o (λ u. run_of u b) t);
+        same = sym (run_append v a b ∙ ap (λ (z : Outcome). go_on z.answer z (λ u. run_of u b)) (sym r.same) ∙ on_refused o (λ u. run_of u b) t);
         next = λ rest u f. absurd (true≢false (sym t ∙ f));
       }
 
   module _ (t : is_refused o.answer ≡ false) where
     -- it does not, and the second list is run behind it
-    pub ran-more : {p : Outcome} → Ran o.left b p → Ran v (a ++ b) p
-    ran-more {p} q =
+    pub ran_more : {p : Outcome} → Ran o.left b p → Ran v (a ++ b) p
+    ran_more {p} q =
         record {
           same =
               q.same
-              ∙ sym (run-append v a b ∙ ap (λ (z : Outcome). goOn z.answer z (λ u. run_of u b)) (sym r.same) ∙ on-accepted o (λ u. run_of u b) (accepted o.answer t));
+              ∙ sym (run_append v a b ∙ ap (λ (z : Outcome). go_on z.answer z (λ u. run_of u b)) (sym r.same) ∙ on_accepted o (λ u. run_of u b) (accepted o.answer t));
           next = λ rest u f. q.next rest (r.next (b ++ rest) (subst (ReadyInTurn v) (append_assoc a b rest) u) t) f;
         }
 
@@ -102,7 +102,7 @@ module _ {v₀ : Workspace} {L : List Step} {f : ℕ → List Step} {x end : ℕ
   pub going_done : end ≤ x → Ran v₀ L (outcome Accepted v)
   going_done h =
       let z : end - x ≡ 0 = omega arith in
-      g.ends (outcome Accepted v) (rw z (ran-none v))
+      g.ends (outcome Accepted v) (rw z (ran_none v))
 
   module _ (h : x < end) where
     count : end - x ≡ suc (end - (x + 1))
@@ -112,12 +112,12 @@ module _ {v₀ : Workspace} {L : List Step} {f : ℕ → List Step} {x end : ℕ
     whole = ap (each f x) count
 
     -- what the turn of f x asks
-    pub going-turn : ReadyInTurn v (f x)
-    going-turn = prefix v (f x) (each f (suc x) (end - (x + 1))) (subst (ReadyInTurn v) whole g.turn)
+    pub going_turn : ReadyInTurn v (f x)
+    going_turn = prefix v (f x) (each f (suc x) (end - (x + 1))) (subst (ReadyInTurn v) whole g.turn)
 
     module _ (o : Outcome) (r : Ran v (f x) o) where
-      pub going-refused : is_refused o.answer ≡ true → Ran v₀ L o
-      going-refused t = g.ends o (subst (λ (l : List Step). Ran v l o) (sym whole) (ran-stop (each f (suc x) (end - (x + 1))) r t))
+      pub going_refused : is_refused o.answer ≡ true → Ran v₀ L o
+      going_refused t = g.ends o (subst (λ (l : List Step). Ran v l o) (sym whole) (ran_stop (each f (suc x) (end - (x + 1))) r t))
 
       pub going_more : is_refused o.answer ≡ false → Going v₀ L f (x + 1) end o.left
       going_more t =
@@ -128,6 +128,6 @@ module _ {v₀ : Workspace} {L : List Step} {f : ℕ → List Step} {x end : ℕ
                 λ p q.
                 g.ends p
                 (subst (λ (l : List Step). Ran v l p) (sym whole)
-                (ran-more (each f (suc x) (end - (x + 1))) r t (subst (λ (l : List Step). Ran o.left l p) same q)));
+                (ran_more (each f (suc x) (end - (x + 1))) r t (subst (λ (l : List Step). Ran o.left l p) same q)));
             turn = subst (ReadyInTurn o.left) (sym same) (turn (each f (suc x) (end - (x + 1))) r t (subst (ReadyInTurn v) whole g.turn));
           }

@@ -1,17 +1,17 @@
 -- What an update comes to (document 01, Record 5: begin, then the Rust's order to its end or its refused pivot): the log determinant, the refused pivot's
 -- block and row, or a refusal of begin; and the workspace that it leaves.
 use Rattle.std.specs.Prelude.{ℕ, ◌≡◌, Bool, true, false, List, Float}
-use Rattle.step_order.specs.Steps.{rustOrder}
+use Rattle.step_order.specs.Steps.{rust_order}
 use Rattle.refusal.specs.declared.Answer.{Answer}
 use Rattle.refusal.specs.declared.Answer.TheVariants.{Accepted, Refused as Denied}
 use Rattle.heading_format.specs.Heading.{layout_of}
 use Rattle.workspace.specs.Memory.{Workspace}
 use Rattle.workspace.specs.Answers.{Outcome}
-use Rattle.update.specs.Calls.{beginOf, run_of}
+use Rattle.update.specs.Calls.{begin_of, run_of}
 use Rattle.profile.specs.declared.Deviance.TheVariants.{Pivot as Unfactored}
 use Rattle.profile.specs.declared.DevianceAnswer.{DevianceAnswer}
 use Rattle.profile.specs.declared.DevianceAnswer.TheVariants.{Given, Refused as Unbegun}
-use Rattle.profile.specs.Deviance.{logDeterminant}
+use Rattle.profile.specs.Deviance.{log_determinant}
 use Rattle.profile_deviance.specs.declared.full_update.Updated.{Updated}
 use Rattle.profile_deviance.specs.declared.full_update.Updated.TheVariants.{Value, Pivot, Refused}
 
@@ -21,23 +21,23 @@ pub record Updating : Type 0 where
   pub left : Workspace
 
 -- after the Rust's order: the log determinant, or the pivot that was refused
-abbrev pub afterRun : Answer → Outcome → Updating
-afterRun Accepted o = record { answer = Value (logDeterminant o.left.heading o.left.doubles); left = o.left }
-afterRun (Denied r) o = record { answer = Pivot r.first r.second; left = o.left }
+abbrev pub after_run : Answer → Outcome → Updating
+after_run Accepted o = record { answer = Value (log_determinant o.left.heading o.left.doubles); left = o.left }
+after_run (Denied r) o = record { answer = Pivot r.first r.second; left = o.left }
 
 -- the Rust's order on a workspace that is begun
 unfoldable pub factored : Workspace → Updating
 unfolding run_of
-factored v = let all = run_of v (rustOrder (layout_of v.heading).k) in afterRun all.answer all
+factored v = let all = run_of v (rust_order (layout_of v.heading).k) in after_run all.answer all
 
 -- after begin
-abbrev pub afterBegun : Answer → Outcome → Updating
-afterBegun Accepted o = factored o.left
-afterBegun (Denied r) o = record { answer = Refused r; left = o.left }
+abbrev pub after_begun : Answer → Outcome → Updating
+after_begun Accepted o = factored o.left
+after_begun (Denied r) o = record { answer = Refused r; left = o.left }
 
-unfoldable pub updateOf : List ℕ → List Float → List Float → Updating
-unfolding beginOf factored
-updateOf h w theta = let o = beginOf h w theta in afterBegun o.answer o
+unfoldable pub update_of : List ℕ → List Float → List Float → Updating
+unfolding begin_of factored
+update_of h w theta = let o = begin_of h w theta in after_begun o.answer o
 
 -- it has a log determinant
 abbrev pub is_value : Updated → Bool

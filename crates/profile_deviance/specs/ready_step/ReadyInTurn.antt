@@ -6,7 +6,7 @@ use Rattle.step_order.specs.Progress.{Order, Represents}
 use Rattle.refusal.specs.declared.Answer.{Answer}
 use Rattle.refusal.specs.declared.Answer.TheVariants.{Accepted, Refused}
 use Rattle.heading_format.specs.declared.State.TheVariants.{Idle}
-use Rattle.heading_format.specs.Heading.{layout_of, progressOf, stageOf, validHeading}
+use Rattle.heading_format.specs.Heading.{layout_of, progress_of, stage_of, valid_heading}
 use Rattle.workspace.specs.Memory.{Workspace}
 use Rattle.workspace.specs.Answers.{Outcome}
 use Rattle.update.specs.Calls.{run_of}
@@ -18,10 +18,10 @@ is_refused (Refused r) = true
 
 -- the steps l are still to come, and each finds its forerunners done when its turn comes
 pub record ReadyInTurn (v : Workspace) (l : List Step) : Type 0 where
-  pub valid : validHeading v.heading (length v.doubles) ≡ true
-  pub begun : (progressOf v.heading).state ≡ Idle → ⊥
+  pub valid : valid_heading v.heading (length v.doubles) ≡ true
+  pub begun : (progress_of v.heading).state ≡ Idle → ⊥
   pub set : Step → Bool
-  pub stands : Represents (layout_of v.heading).k (stageOf (progressOf v.heading)) set
+  pub stands : Represents (layout_of v.heading).k (stage_of (progress_of v.heading)) set
   pub order : Order (layout_of v.heading).k set l
 
 -- the steps l, run from v on, come to o; where none is refused, those behind them may come

@@ -1,21 +1,21 @@
 -- `re_factor::chol`: the lent part is the triangle.
 use native.Mathlib.Omega.{arith}
 use Rattle.storage.specs.Shape.{packed, size_of, cell}
-use Rattle.storage.specs.Placed.{asTriangle, read}
+use Rattle.storage.specs.Placed.{as_triangle, read}
 use Rattle.rules.specs.Arithmetic.{ieee}
 use Rattle.rules.specs.Cholesky.{radicand, pivots}
-use Rattle.re_lower.specs.Lower.{leftOfTriangle}
-use Rattle.re_lower.proofs.Blocks.{triangle-room}
-use Rattle.re_factor.proofs.Lends.{lent-factor}
+use Rattle.re_lower.specs.Lower.{left_of_triangle}
+use Rattle.re_lower.proofs.Blocks.{triangle_room}
+use Rattle.re_factor.proofs.Lends.{lent_factor}
 use borrow.Author.Rules.{rules}
 use Rattle.re_factor.proofs.chol.Statement.{statement}
 use Rattle.re_factor.proofs.chol.Tie as tie
 
 returns : tie.Need-returns
 returns c = let a = c.before.before.before.before.before.before.args in let p = c.before.before.chol in
-    lent-factor a.doubles.now a.b.at _ (size_of (packed a.b.rows)) c.before.before.before.before.row-start.ensures (omega arith) p.last.0
-    (λ x. pivots ieee (radicand ieee (cell ieee.zero (packed a.b.rows) x)) a.b.rows) (λ x. leftOfTriangle (cell ieee.zero (packed a.b.rows) x) a.b.rows) p.result
-    (triangle-room (read (asTriangle a.b) a.doubles.now) a.b.rows p.result) p.ensures.answer p.ensures.left
+    lent_factor a.doubles.now a.b.at _ (size_of (packed a.b.rows)) c.before.before.before.before.row-start.ensures (omega arith) p.last.0
+    (λ x. pivots ieee (radicand ieee (cell ieee.zero (packed a.b.rows) x)) a.b.rows) (λ x. left_of_triangle (cell ieee.zero (packed a.b.rows) x) a.b.rows) p.result
+    (triangle_room (read (as_triangle a.b) a.doubles.now) a.b.rows p.result) p.ensures.answer p.ensures.left
 
 pub chol-spec : {M : Type 1} → statement M
 chol-spec = tie.close (tie.spec (λ c κs. search rules) (λ c. search rules) (λ c. search rules) (λ c. search rules)

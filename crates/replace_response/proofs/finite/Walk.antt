@@ -12,7 +12,7 @@ use lib.Ieee as Ieee
 use lib.Ieee.{Float, nan, inf, fin, binary64}
 use borrow.Author.Tests.{lt-ltb, le-ltb}
 use Rattle.layout.specs.Shapes.{pick}
-use Rattle.workspace.specs.Answers.{is_finite, firstInfinite}
+use Rattle.workspace.specs.Answers.{is_finite, first_infinite}
 use Rattle.replace_response.specs.finite.Found.{found_at}
 
 -- a finite double lies between the infinities, and nothing else does
@@ -26,27 +26,27 @@ between (fin s m e) = refl
 -- the numbers before i are finite
 pub record Walked (l : List Float) (i : ℕ) : Type 0 where
   pub within : i ≤ length l
-  pub rest : firstInfinite 0 l ≡ firstInfinite i (drop i l)
+  pub rest : first_infinite 0 l ≡ first_infinite i (drop i l)
 
 pub walked_none : (l : List Float) → Walked l 0
 walked_none l = record { within = omega arith; rest = refl }
 
 module _ (l : List Float) (i : ℕ) (z : Walked l i) where
   -- the number at i decides
-  next : i < length l → (b : Bool) → b ≡ is_finite (get_or l i nan) → firstInfinite 0 l ≡ pick b (firstInfinite (suc i) (drop (suc i) l)) (some i)
-  unfolding firstInfinite
+  next : i < length l → (b : Bool) → b ≡ is_finite (get_or l i nan) → first_infinite 0 l ≡ pick b (first_infinite (suc i) (drop (suc i) l)) (some i)
+  unfolding first_infinite
   next h b e =
-      z.rest ∙ ap (firstInfinite i) (drop-cons l i nan h) ∙ ap (λ (x : Bool). pick x (firstInfinite (suc i) (drop (suc i) l)) (some i)) (sym e)
+      z.rest ∙ ap (first_infinite i) (drop-cons l i nan h) ∙ ap (λ (x : Bool). pick x (first_infinite (suc i) (drop (suc i) l)) (some i)) (sym e)
 
   pub walked_more : i < length l → true ≡ is_finite (get_or l i nan) → Walked l (i + 1)
   walked_more h e = rw add-one (record { within = h; rest = next h true e })
 
-  pub walked-found : i < length l → false ≡ is_finite (get_or l i nan) → firstInfinite 0 l ≡ found_at i (length l)
-  walked-found h e = rw (lt-ltb i (length l) h) (next h false e)
+  pub walked_found : i < length l → false ≡ is_finite (get_or l i nan) → first_infinite 0 l ≡ found_at i (length l)
+  walked_found h e = rw (lt-ltb i (length l) h) (next h false e)
 
-  pub walked_all : length l ≤ i → firstInfinite 0 l ≡ found_at i (length l)
-  unfolding firstInfinite
+  pub walked_all : length l ≤ i → first_infinite 0 l ≡ found_at i (length l)
+  unfolding first_infinite
   walked_all h =
       let w = z.within in
       let e : i ≡ length l = omega arith in
-      rw (le-ltb i (length l) h) (z.rest ∙ ap (firstInfinite i) (ap (λ (n : ℕ). drop n l) e ∙ drop-length l))
+      rw (le-ltb i (length l) h) (z.rest ∙ ap (first_infinite i) (ap (λ (n : ℕ). drop n l) e ∙ drop-length l))

@@ -1,5 +1,5 @@
 -- `replace_response::replace_valid`: what is wrong with the lists, or the response.
-use Rattle.replace_response.proofs.Replaced.{list-refused, ready, replaced}
+use Rattle.replace_response.proofs.Replaced.{list_refused, ready, replaced}
 use Rattle.heading_format.proofs.Fits.{fits}
 use Rattle.workspace.specs.Response.{response}
 use borrow.Author.Rules.{rules}
@@ -12,7 +12,7 @@ layout-requires c κs = let s = c.before.before.before.before.before.before in (
 returns : tie.Need-returns
 returns c = let s = c.before.before.before.before.before.before.before.before.before.before.before.before in
     let a = s.args in
-    list-refused a.heading.now a.doubles.now (response a.zty.now a.xty.now a.yty.now) s.pre _ c.before.before.before.before.before.layout.ensures _ _ _ c.before.before.before.before.length-fault.ensures c.before.before.before.word-fault.ensures c.before.before.first_of.ensures c.if1.true
+    list_refused a.heading.now a.doubles.now (response a.zty.now a.xty.now a.yty.now) s.pre _ c.before.before.before.before.before.layout.ensures _ _ _ c.before.before.before.before.length-fault.ensures c.before.before.before.word-fault.ensures c.before.before.first_of.ensures c.if1.true
 
 write-requires : tie.Need-write-requires
 write-requires c κs =

@@ -36,12 +36,12 @@ faulty-line-requires c κs = let a = c.before.before.before.before.before.before
 returns-5 : tie.Need-returns-5
 returns-5 c = let a = c.before.before.before.before.before.before.before.before.before.before.before.before.before in
     let h = c.before.before.before.before.before in
-    nine a.args.bytes.now a.pre (λ q. omega arith) (λ q. omega arith) h.before.before.has-slope.ensures c.before.before.before.if3.false h.before.levels.ensures h.total.ensures c.before.before.if4.false c.before.faulty-line.ensures (omega arith)
+    nine a.args.bytes.now a.pre (λ q. omega arith) (λ q. omega arith) h.before.before.has-slope.ensures c.before.before.before.if3.false h.before.levels.ensures h.total.ensures c.before.before.if4.false c.before.faulty_line_lem.ensures (omega arith)
 
 returns-6 : tie.Need-returns-6
 returns-6 c = let a = c.before.before.before.before.before.before.before.before.before.before.before.before.before in
     let h = c.before.before.before.before.before in
-    none a.args.bytes.now a.pre (λ q. omega arith) (λ q. omega arith) h.before.before.has-slope.ensures c.before.before.before.if3.false h.before.levels.ensures h.total.ensures c.before.before.if4.false c.before.faulty-line.ensures (omega arith)
+    none a.args.bytes.now a.pre (λ q. omega arith) (λ q. omega arith) h.before.before.has-slope.ensures c.before.before.before.if3.false h.before.levels.ensures h.total.ensures c.before.before.if4.false c.before.faulty_line_lem.ensures (omega arith)
 
 pub check-sheet-spec : {M : Type 1} → statement M
 check-sheet-spec = tie.close (tie.spec returns returns-2 has-slope-requires levels-requires total-requires returns-3

@@ -12,15 +12,15 @@ use Rattle.sheet.specs.declared.Counts.{Counts}
 use Rattle.sheet.specs.declared.Cursor.{Cursor}
 use Rattle.sheet.specs.declared.Field.{Field}
 use Rattle.sheet.specs.declared.Starts.{Starts}
-use Rattle.sheet.specs.Field.{nowhere, found, unfound, digitOf, end_at, word_at}
-use Rattle.sheet.specs.Line.{zzTag, tab, lf, tagTo, numberTo, wordTo, inForm, sizeLine, pairLine}
-use Rattle.sheet.specs.Run.{ended, before, entryIn, notBefore, entryTests, entryVerdict, entriesFrom, passOf, pastFrom}
-use Rattle.sheet.specs.Sheet.{Sheet, accepted, refused, wordKinds, sizeVerdict, readLines, afterSize, readSheet}
-use Rattle.sheet.proofs.Lines.{both, in_order, Passed, passed}
+use Rattle.sheet.specs.Field.{nowhere, found, unfound, digit_of, end_at, word_at}
+use Rattle.sheet.specs.Line.{zz_tag, tab, lf, tag_to, number_to, word_to, in_form, size_line, pair_line}
+use Rattle.sheet.specs.Run.{ended, before, entry_in, not_before, entry_tests, entry_verdict, entries_from, pass_of, past_from}
+use Rattle.sheet.specs.Sheet.{Sheet, accepted, refused, word_kinds, size_verdict, read_lines, after_size, read_sheet}
+use Rattle.sheet.proofs.Lines.{both, in_order_lem, Passed, passed}
 use Rattle.sheet.proofs.Entries.{listed}
-use Rattle.sheet.proofs.Opened.{blocksRun, zzRun, opened}
-use Rattle.sheet.proofs.Whole.{ran-kinds, not-accepted}
-use Rattle.sheet.proofs.Enough.{pair-beyond}
+use Rattle.sheet.proofs.Opened.{blocks_run, zz_run, opened}
+use Rattle.sheet.proofs.Whole.{ran_kinds, not_accepted}
+use Rattle.sheet.proofs.Enough.{pair_beyond}
 
 -- ---- a word that begins at `at`, with the bytes l from there on, ends within them, or nowhere
 abbrev Within : ℕ → List ℕ → ℕ → Type 0
@@ -30,81 +30,81 @@ within_on : (at b : ℕ) (rest : List ℕ) (next : ℕ) → Within (at + 1) rest
 within_on at b rest next (inl e) = inl e
 within_on at b rest next (inr h) = inr (omega arith, omega (arith, h.1))
 
-cond-within : (at : ℕ) (l : List ℕ) (t : Bool) (f : Field) → Within at l f.next → Within at l (cond t f unfound).next
-cond-within at l true f h = h
-cond-within at l false f h = inl refl
+cond_within : (at : ℕ) (l : List ℕ) (t : Bool) (f : Field) → Within at l f.next → Within at l (cond t f unfound).next
+cond_within at l true f h = h
+cond_within at l false f h = inl refl
 
-word-within : (end n v at : ℕ) (l : List ℕ) → Within at l (word_at end n v at l).next
+word_within : (end n v at : ℕ) (l : List ℕ) → Within at l (word_at end n v at l).next
 unfolding word_at end_at
-word-within end zero v at [] = inl refl
-word-within end zero v at (b ∷ rest) = cond-within at (b ∷ rest) (eqb b end) (found v (at + 1)) (inr (omega arith, omega arith))
-word-within end (suc n) v at [] = inl refl
-word-within end (suc n) v at (b ∷ rest) =
-    cond-within at (b ∷ rest) (ltb (digitOf b) 16) _ (within_on at b rest _ (word-within end n (v * 16 + digitOf b) (at + 1) rest))
+word_within end zero v at [] = inl refl
+word_within end zero v at (b ∷ rest) = cond_within at (b ∷ rest) (eqb b end) (found v (at + 1)) (inr (omega arith, omega arith))
+word_within end (suc n) v at [] = inl refl
+word_within end (suc n) v at (b ∷ rest) =
+    cond_within at (b ∷ rest) (ltb (digit_of b) 16) _ (within_on at b rest _ (word_within end n (v * 16 + digit_of b) (at + 1) rest))
 
 -- a line in form ends past where it begins, and within the bytes
-pub pair-in-form : (t s : List ℕ) (at : ℕ) → length s < nowhere → inForm (pairLine t s at).next ≡ true → (at < (pairLine t s at).next) × ((pairLine t s at).next ≤ length s)
-unfolding pairLine
-pair-in-form t s at short h = (omega (arith, pair-beyond t s at, low), low)
+pub pair_in_form : (t s : List ℕ) (at : ℕ) → length s < nowhere → in_form (pair_line t s at).next ≡ true → (at < (pair_line t s at).next) × ((pair_line t s at).next ≤ length s)
+unfolding pair_line
+pair_in_form t s at short h = (omega (arith, pair_beyond t s at, low), low)
   where
     from : ℕ
-    from = (numberTo tab s (numberTo tab s (tagTo t s at).next).next).next
+    from = (number_to tab s (number_to tab s (tag_to t s at).next).next).next
 
-    low : (wordTo s from).next ≤ length s
-    low = go (word-within lf 16 0 from (drop from s))
+    low : (word_to s from).next ≤ length s
+    low = go (word_within lf 16 0 from (drop from s))
       where
-        go : Within from (drop from s) (wordTo s from).next → (wordTo s from).next ≤ length s
-        go (inl e) = absurd (false≢true (sym (ap not (eq-eqb (wordTo s from).next nowhere e)) ∙ h))
+        go : Within from (drop from s) (word_to s from).next → (word_to s from).next ≤ length s
+        go (inl e) = absurd (false≢true (sym (ap not (eq-eqb (word_to s from).next nowhere e)) ∙ h))
         go (inr g) = omega (arith, g.0, g.1, length-drop from s)
 
 -- ---- every zz line of an accepted run is in form
 module _ (s : List ℕ) (q : ℕ) where
   abbrev Formed : ℕ → ℕ → Type 0
-  Formed n at = (t : ℕ) → t < n → inForm (pairLine zzTag s (pastFrom (pairLine zzTag s) t at)).next ≡ true
+  Formed n at = (t : ℕ) → t < n → in_form (pair_line zz_tag s (past_from (pair_line zz_tag s) t at)).next ≡ true
 
-  one_more : (n at : ℕ) → inForm (pairLine zzTag s at).next ≡ true → Formed n (pairLine zzTag s at).next → Formed (suc n) at
-  unfolding pastFrom
-  one_more n at h more zero k = h
-  one_more n at h more (suc t) k = more t (omega arith)
+  one_more_lem : (n at : ℕ) → in_form (pair_line zz_tag s at).next ≡ true → Formed n (pair_line zz_tag s at).next → Formed (suc n) at
+  unfolding past_from
+  one_more_lem n at h more zero k = h
+  one_more_lem n at h more (suc t) k = more t (omega arith)
 
-  entries-formed : (left col row : ℕ) (c : Cursor) → (entriesFrom left s q col row c).past.number ≡ 0 → Formed (length (entriesFrom left s q col row c).items) c.at
-  unfolding entriesFrom
-  entries-formed zero col row c e = λ t h. absurd (omega arith)
-  entries-formed (suc left) col row c e =
-      let l = pairLine zzTag s c.at in
-      let d = passOf c (entryVerdict q col row l) l.next in
-      go (λ g. entries-formed left l.first (l.second + 1) d g) (eqb c.number 0 && inForm (tagTo zzTag s c.at).next) e
+  entries_formed : (left col row : ℕ) (c : Cursor) → (entries_from left s q col row c).past.number ≡ 0 → Formed (length (entries_from left s q col row c).items) c.at
+  unfolding entries_from
+  entries_formed zero col row c e = λ t h. absurd (omega arith)
+  entries_formed (suc left) col row c e =
+      let l = pair_line zz_tag s c.at in
+      let d = pass_of c (entry_verdict q col row l) l.next in
+      go (λ g. entries_formed left l.first (l.second + 1) d g) (eqb c.number 0 && in_form (tag_to zz_tag s c.at).next) e
     where
-      go : let l = pairLine zzTag s c.at in
-          let d = passOf c (entryVerdict q col row l) l.next in
-          let more = entriesFrom left s q l.first (l.second + 1) d in
-          let run = before (entryIn c.line l) more in
+      go : let l = pair_line zz_tag s c.at in
+          let d = pass_of c (entry_verdict q col row l) l.next in
+          let more = entries_from left s q l.first (l.second + 1) d in
+          let run = before (entry_in c.line l) more in
           (more.past.number ≡ 0 → Formed (length more.items) d.at) → (u : Bool) → (cond u run (ended c)).past.number ≡ 0 → Formed (length (cond u run (ended c)).items) c.at
       go rest false g = λ t h. absurd (omega arith)
       go rest true g =
-          let l = pairLine zzTag s c.at in
-          let d = passOf c (entryVerdict q col row l) l.next in
-          let more = entriesFrom left s q l.first (l.second + 1) d in
-          let p : Passed c (entryVerdict q col row l) l.next = passed c (entryVerdict q col row l) l.next (listed s q left l.first (l.second + 1) d g).open-before in
-          one_more (length more.items) c.at (both (inForm l.next) (notBefore col row l.first l.second) (in_order (entryTests q col row l) refl p.verdict).0).0
+          let l = pair_line zz_tag s c.at in
+          let d = pass_of c (entry_verdict q col row l) l.next in
+          let more = entries_from left s q l.first (l.second + 1) d in
+          let p : Passed c (entry_verdict q col row l) l.next = passed c (entry_verdict q col row l) l.next (listed s q left l.first (l.second + 1) d g).open_before in
+          one_more_lem (length more.items) c.at (both (in_form l.next) (not_before col row l.first l.second) (in_order_lem (entry_tests q col row l) refl p.verdict).0).0
           (subst (Formed (length more.items)) (ap (λ (x : Cursor). x.at) p.after) (rest g))
 
 -- and so is every zz line of an accepted sheet
-lines-formed : (s : List ℕ) (z : Counts) (at : ℕ) (sheet : Sheet) (starts : Starts)
-    → readLines s z (record { at = at; line = 2; number = 0 }) ≡ accepted sheet starts → Formed s z.q (length sheet.zz) starts.zz
-lines-formed s z at sheet starts e =
+lines_formed : (s : List ℕ) (z : Counts) (at : ℕ) (sheet : Sheet) (starts : Starts)
+    → read_lines s z (record { at = at; line = 2; number = 0 }) ≡ accepted sheet starts → Formed s z.q (length sheet.zz) starts.zz
+lines_formed s z at sheet starts e =
     let o = opened s z at sheet starts e in
-    let zz = zzRun s z at in
-    let r = ran-kinds s (wordKinds z) zz.past o.0 in
+    let zz = zz_run s z at in
+    let r = ran_kinds s (word_kinds z) zz.past o.0 in
     subst (λ (n : ℕ). Formed s z.q n starts.zz) (ap (λ (x : Sheet). length x.zz) o.1)
-    (subst (Formed s z.q (length zz.items)) (ap (λ (x : Starts). x.zz) o.2) (entries-formed s z.q (length s) 0 0 (blocksRun s z at).past r.open-before))
+    (subst (Formed s z.q (length zz.items)) (ap (λ (x : Starts). x.zz) o.2) (entries_formed s z.q (length s) 0 0 (blocks_run s z at).past r.open_before))
 
-pub sheet-formed : (s : List ℕ) (sheet : Sheet) (starts : Starts) → readSheet s ≡ accepted sheet starts
-    → (t : ℕ) → t < length sheet.zz → inForm (pairLine zzTag s (pastFrom (pairLine zzTag s) t starts.zz)).next ≡ true
-unfolding readSheet
-sheet-formed s sheet starts e = go (ltb 16777216 (length s)) (sizeVerdict (sizeLine s 0)) e
+pub sheet_formed : (s : List ℕ) (sheet : Sheet) (starts : Starts) → read_sheet s ≡ accepted sheet starts
+    → (t : ℕ) → t < length sheet.zz → in_form (pair_line zz_tag s (past_from (pair_line zz_tag s) t starts.zz)).next ≡ true
+unfolding read_sheet
+sheet_formed s sheet starts e = go (ltb 16777216 (length s)) (size_verdict (size_line s 0)) e
   where
-    go : (t : Bool) (v : ℕ) → cond t (refused 1 0) (afterSize v s (sizeLine s 0)) ≡ accepted sheet starts → Formed s (sizeLine s 0).counts.q (length sheet.zz) starts.zz
-    go true v g = absurd (not-accepted 1 0 sheet starts g)
-    go false zero g = lines-formed s (sizeLine s 0).counts (sizeLine s 0).next sheet starts g
-    go false (suc v) g = absurd (not-accepted (suc v) 1 sheet starts g)
+    go : (t : Bool) (v : ℕ) → cond t (refused 1 0) (after_size v s (size_line s 0)) ≡ accepted sheet starts → Formed s (size_line s 0).counts.q (length sheet.zz) starts.zz
+    go true v g = absurd (not_accepted 1 0 sheet starts g)
+    go false zero g = lines_formed s (size_line s 0).counts (size_line s 0).next sheet starts g
+    go false (suc v) g = absurd (not_accepted (suc v) 1 sheet starts g)

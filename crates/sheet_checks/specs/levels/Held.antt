@@ -2,18 +2,18 @@
 use Rattle.std.specs.Prelude.{ℕ, ◌≡◌, List, [], ◌∷◌}
 use Rattle.sheet.specs.declared.Starts.{Starts}
 use Rattle.sheet.specs.Line.{block_line}
-use Rattle.sheet.specs.Run.{Block, blockIn, keptFrom}
-use Rattle.sheet.specs.Sheet.{Sheet, accepted, readSheet}
+use Rattle.sheet.specs.Run.{Block, block_in, kept_from}
+use Rattle.sheet.specs.Sheet.{Sheet, accepted, read_sheet}
 
 -- the bytes s hold a sheet whose lines start at z
 abbrev pub Holds : List ℕ → Starts → Type 0
-Holds s z = (sheet : Sheet) × (readSheet s ≡ accepted sheet z)
+Holds s z = (sheet : Sheet) × (read_sheet s ≡ accepted sheet z)
 
 -- the levels of each block, in sheet order
-unfoldable pub levelList : List Block → List ℕ
-levelList [] = []
-levelList (b ∷ l) = b.m ∷ levelList l
+unfoldable pub level_list : List Block → List ℕ
+level_list [] = []
+level_list (b ∷ l) = b.m ∷ level_list l
 
 -- the blocks of the n lines from a position on
-abbrev pub blocksAt : List ℕ → ℕ → ℕ → List Block
-blocksAt s n at = keptFrom (block_line s) blockIn n 0 at
+abbrev pub blocks_at : List ℕ → ℕ → ℕ → List Block
+blocks_at s n at = kept_from (block_line s) block_in n 0 at

@@ -2,10 +2,10 @@
 use Rattle.std.specs.Prelude.{ℕ, ◌<◌, List, length}
 use Rattle.sheet.specs.declared.Starts.{Starts}
 use Rattle.sheet.specs.Fault.{Fault}
-use Rattle.sheet_checks.specs.mirror_cursor.Held.{held, entry_of, placeOf, FaultAt}
+use Rattle.sheet_checks.specs.mirror_cursor.Held.{held, entry_of, place_of, FaultAt}
 use Rattle.sheet_checks.specs.mirror_cursor.Turns.{InGroup}
 
 -- the line at `at` is faulty, or it is the end, and before it no entry of the group has a fault
 pub record Judged (s : List ℕ) (z : Starts) (base width at : ℕ) : Type 0 where
   pub known : FaultAt s z at
-  pub sound : (t : ℕ) → t < length (held s).zz → placeOf s z t < at → InGroup base width (entry_of (held s) t) → Fault (held s) (entry_of (held s) t) → ⊥
+  pub sound : (t : ℕ) → t < length (held s).zz → place_of s z t < at → InGroup base width (entry_of (held s) t) → Fault (held s) (entry_of (held s) t) → ⊥

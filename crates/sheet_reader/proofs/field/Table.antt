@@ -3,11 +3,11 @@ use Rattle.std.proofs.Common.{◌≡◌, ℕ, ◌^◌, ◌<◌, ◌≤◌, Bool,
 use mathlib.Core.Logic.{by_cases}
 use native.Mathlib.Decide.{dec_lt}
 use Rattle.storage.proofs.Table.{every, entry}
-use Rattle.sheet.specs.Field.{digitOf}
+use Rattle.sheet.specs.Field.{digit_of}
 
 -- the entry of a byte: its value as a digit, or 255
 unfoldable pub mark : ℕ → ℕ
-mark b = cond (ltb (digitOf b) 16) (digitOf b) 255
+mark b = cond (ltb (digit_of b) 16) (digit_of b) 255
 
 -- the rule of the table: x is the entry of the byte b
 unfoldable pub right : ℕ → ℕ → Bool
@@ -23,17 +23,17 @@ unfolding right
 marks xs t = record { at_byte = λ b h. eqb→eq (get_or xs b 0) (mark b) (entry right xs t b h) }
 
 -- an entry is a digit's value or 255, so at most 255
-pub mark-digit : (b : ℕ) → digitOf b < 16 → mark b ≡ digitOf b
+pub mark_digit : (b : ℕ) → digit_of b < 16 → mark b ≡ digit_of b
 unfolding mark
-mark-digit b h = rw (lt-ltb (digitOf b) 16 h) refl
+mark_digit b h = rw (lt-ltb (digit_of b) 16 h) refl
 
-pub mark-other : (b : ℕ) → 16 ≤ digitOf b → mark b ≡ 255
+pub mark_other : (b : ℕ) → 16 ≤ digit_of b → mark b ≡ 255
 unfolding mark
-mark-other b h = rw (le-ltb (digitOf b) 16 h) refl
+mark_other b h = rw (le-ltb (digit_of b) 16 h) refl
 
-pub mark-most : {d : ℕ} (b : ℕ) → d ≡ mark b → d ≤ 255
-mark-most b q =
-    by_cases (dec_lt (digitOf b) 16) (λ (h : digitOf b < 16). omega (arith, q, mark-digit b h)) (λ h. omega (arith, q, mark-other b (omega arith)))
+pub mark_most : {d : ℕ} (b : ℕ) → d ≡ mark b → d ≤ 255
+mark_most b q =
+    by_cases (dec_lt (digit_of b) 16) (λ (h : digit_of b < 16). omega (arith, q, mark_digit b h)) (λ h. omega (arith, q, mark_other b (omega arith)))
 
-pub mark-fits : {d : ℕ} (b : ℕ) → d ≡ mark b → d < 2 ^ 64
-mark-fits b q = omega (arith, mark-most b q)
+pub mark_fits : {d : ℕ} (b : ℕ) → d ≡ mark b → d < 2 ^ 64
+mark_fits b q = omega (arith, mark_most b q)

@@ -13,5 +13,5 @@ pub record Small (z : Counts) : Type 0 where
   pub k : z.k ≤ 8
 
 -- the answer at the cursor past the yy line
-abbrev pub readingAt : Cursor → Starts → Reading
-readingAt c starts = cond (c.number == 0) (Read starts) (Refused c.number c.line)
+abbrev pub reading_at : Cursor → Starts → Reading
+reading_at c starts = cond (c.number == 0) (Read starts) (Refused c.number c.line)

@@ -1,18 +1,18 @@
 -- The text of document 01's worked sheet, and of one with two blocks and two fixed effects, by computation.
 use mathlib.Core.Path.{◌≡◌, refl}
 use mathlib.Core.List.{[], ◌∷◌}
-use Rattle.sheet.specs.Run.{rowFrom, rows_from}
+use Rattle.sheet.specs.Run.{row_from, rows_from}
 use Rattle.sheet.specs.Sheet.{Sheet}
 use Rattle.sheet.specs.Text.{bytes_of, ended}
 use Rattle.factor_output.specs.Print.{decimal, hexadecimal}
-use Rattle.factor_output.specs.Worked.{sheetLines}
-use Rattle.sheet_text.specs.written.Written.{linesText, entriesText, text_of}
-use Rattle.sheet.proofs.Made.{countsWith}
+use Rattle.factor_output.specs.Worked.{sheet_lines}
+use Rattle.sheet_text.specs.written.Written.{lines_text, entries_text, text_of}
+use Rattle.sheet.proofs.Made.{counts_with}
 
 abbrev one : Sheet
 one =
     record {
-      counts = countsWith 3 1 1 1 1;
+      counts = counts_with 3 1 1 1 1;
       blocks = record { m = 1; e = 1 } ∷ [];
       zz = record { line = 3; col = 0; row = 0; word = 0x4008000000000000 } ∷ [];
       zx = 0x4000000000000000 ∷ [];
@@ -22,14 +22,14 @@ one =
       yy = 0x4022000000000000;
     }
 
-worked-text : text_of one ≡ ended sheetLines
-unfolding ended bytes_of decimal hexadecimal linesText entriesText rows_from rowFrom
-worked-text = refl
+worked_text : text_of one ≡ ended sheet_lines
+unfolding ended bytes_of decimal hexadecimal lines_text entries_text rows_from row_from
+worked_text = refl
 
 abbrev two : Sheet
 two =
     record {
-      counts = countsWith 1000000000 2 3 2 0;
+      counts = counts_with 1000000000 2 3 2 0;
       blocks = record { m = 65535; e = 16 } ∷ record { m = 10; e = 1 } ∷ [];
       zz = record { line = 4; col = 0; row = 2; word = 0x8000000000000000 } ∷ record { line = 5; col = 2; row = 0; word = 1 } ∷ [];
       zx = 16 ∷ 17 ∷ 18 ∷ 19 ∷ 20 ∷ 21 ∷ [];
@@ -39,7 +39,7 @@ two =
       yy = 0x7fefffffffffffff;
     }
 
-two-text : text_of two
+two_text : text_of two
     ≡ ended
     ("size 1000000000 2 3 2 0"
     ∷ "block 65535 16"
@@ -62,5 +62,5 @@ two-text : text_of two
     ∷ "xy 1 0000000000000000"
     ∷ "yy 7fefffffffffffff"
     ∷ [])
-unfolding ended bytes_of decimal hexadecimal linesText entriesText rows_from rowFrom
-two-text = refl
+unfolding ended bytes_of decimal hexadecimal lines_text entries_text rows_from row_from
+two_text = refl

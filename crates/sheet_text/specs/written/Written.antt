@@ -2,77 +2,77 @@
 -- of sheets accepts each such text, and reads the sheet out of it again.
 use Rattle.std.specs.Prelude.{ℕ, zero, suc, ◌+◌, ◌^◌, ◌<◌, ◌≡◌, List, [], ◌∷◌, ◌++◌, length}
 use Rattle.sheet.specs.declared.Counts.{Counts}
-use Rattle.sheet.specs.Line.{tab, lf, sizeTag, blockTag, zzTag}
+use Rattle.sheet.specs.Line.{tab, lf, size_tag, block_tag, zz_tag}
 use Rattle.sheet.specs.Run.{Block, Entry, Kind, rows_from}
-use Rattle.sheet.specs.Sheet.{Sheet, wordKinds, wordLists}
+use Rattle.sheet.specs.Sheet.{Sheet, word_kinds, word_lists}
 use Rattle.sheet.specs.Whole.{Each, Both, InRange, BlockInRange, Finite, EntryInRange, Rising}
 use Rattle.factor_output.specs.Print.{number, hexadecimal}
 
 -- ---- lines, each with what follows it
 -- a number and the byte that ends it
-abbrev pub numberText : ℕ → ℕ → List ℕ → List ℕ
-numberText x end rest = number x ++ (end ∷ rest)
+abbrev pub number_text : ℕ → ℕ → List ℕ → List ℕ
+number_text x end rest = number x ++ (end ∷ rest)
 
 -- a word, which ends its line
-abbrev pub wordText : ℕ → List ℕ → List ℕ
-wordText w rest = hexadecimal 16 w ++ (lf ∷ rest)
+abbrev pub word_text : ℕ → List ℕ → List ℕ
+word_text w rest = hexadecimal 16 w ++ (lf ∷ rest)
 
 -- `size` n p q k flag
-abbrev pub sizeText : Counts → List ℕ → List ℕ
-sizeText z rest =
-    sizeTag
-    ++ numberText z.n tab (numberText z.p tab (numberText z.q tab (numberText z.k tab (numberText z.flag lf rest))))
+abbrev pub size_text : Counts → List ℕ → List ℕ
+size_text z rest =
+    size_tag
+    ++ number_text z.n tab (number_text z.p tab (number_text z.q tab (number_text z.k tab (number_text z.flag lf rest))))
 
 -- `block` m e
-abbrev pub blockText : ℕ × ℕ → Block → List ℕ → List ℕ
-blockText i b rest = blockTag ++ numberText b.m tab (numberText b.e lf rest)
+abbrev pub block_text : ℕ × ℕ → Block → List ℕ → List ℕ
+block_text i b rest = block_tag ++ number_text b.m tab (number_text b.e lf rest)
 
 -- a tag, two indexes and a word; one index and a word; a word alone
-abbrev pub pairText : List ℕ → ℕ × ℕ → ℕ → List ℕ → List ℕ
-pairText t i w rest = t ++ numberText i.0 tab (numberText i.1 tab (wordText w rest))
+abbrev pub pair_text : List ℕ → ℕ × ℕ → ℕ → List ℕ → List ℕ
+pair_text t i w rest = t ++ number_text i.0 tab (number_text i.1 tab (word_text w rest))
 
-abbrev pub singleText : List ℕ → ℕ × ℕ → ℕ → List ℕ → List ℕ
-singleText t i w rest = t ++ numberText i.0 tab (wordText w rest)
+abbrev pub single_text : List ℕ → ℕ × ℕ → ℕ → List ℕ → List ℕ
+single_text t i w rest = t ++ number_text i.0 tab (word_text w rest)
 
-abbrev pub bareText : List ℕ → ℕ × ℕ → ℕ → List ℕ → List ℕ
-bareText t i w rest = t ++ wordText w rest
+abbrev pub bare_text : List ℕ → ℕ × ℕ → ℕ → List ℕ → List ℕ
+bare_text t i w rest = t ++ word_text w rest
 
 -- a line of a kind, by how many numbers stand before the word
-abbrev pub kindText : ℕ → List ℕ → ℕ × ℕ → ℕ → List ℕ → List ℕ
-kindText zero t = bareText t
-kindText (suc zero) t = singleText t
-kindText (suc (suc n)) t = pairText t
+abbrev pub kind_text : ℕ → List ℕ → ℕ × ℕ → ℕ → List ℕ → List ℕ
+kind_text zero t = bare_text t
+kind_text (suc zero) t = single_text t
+kind_text (suc (suc n)) t = pair_text t
 
 -- a line for each pair of indexes and what stands in it
-unfoldable pub linesText : {A : Type 0} → (ℕ × ℕ → A → List ℕ → List ℕ) → List (ℕ × ℕ) → List A → List ℕ → List ℕ
-linesText line [] xs rest = rest
-linesText line (i ∷ is) [] rest = rest
-linesText line (i ∷ is) (x ∷ xs) rest = line i x (linesText line is xs rest)
+unfoldable pub lines_text : {A : Type 0} → (ℕ × ℕ → A → List ℕ → List ℕ) → List (ℕ × ℕ) → List A → List ℕ → List ℕ
+lines_text line [] xs rest = rest
+lines_text line (i ∷ is) [] rest = rest
+lines_text line (i ∷ is) (x ∷ xs) rest = line i x (lines_text line is xs rest)
 
 -- the `zz` lines
-unfoldable pub entriesText : List Entry → List ℕ → List ℕ
-entriesText [] rest = rest
-entriesText (e ∷ es) rest = pairText zzTag (e.col, e.row) e.word (entriesText es rest)
+unfoldable pub entries_text : List Entry → List ℕ → List ℕ
+entries_text [] rest = rest
+entries_text (e ∷ es) rest = pair_text zz_tag (e.col, e.row) e.word (entries_text es rest)
 
 -- the lines of each kind, with its words
-abbrev pub kindsText : List Kind → List (List ℕ) → List ℕ → List ℕ
-kindsText [] words rest = rest
-kindsText (kind ∷ kinds) [] rest = rest
-kindsText (kind ∷ kinds) (ws ∷ words) rest = linesText (kindText kind.numbers kind.tag) kind.indexes ws (kindsText kinds words rest)
+abbrev pub kinds_text : List Kind → List (List ℕ) → List ℕ → List ℕ
+kinds_text [] words rest = rest
+kinds_text (kind ∷ kinds) [] rest = rest
+kinds_text (kind ∷ kinds) (ws ∷ words) rest = lines_text (kind_text kind.numbers kind.tag) kind.indexes ws (kinds_text kinds words rest)
 
 -- ---- the sheet: one record a line, in their sequence, and what follows it
-abbrev pub wordsText : Sheet → List ℕ → List ℕ
-wordsText s rest = kindsText (wordKinds s.counts) (wordLists s) rest
+abbrev pub words_text : Sheet → List ℕ → List ℕ
+words_text s rest = kinds_text (word_kinds s.counts) (word_lists s) rest
 
-abbrev pub linesAfterSize : Sheet → List ℕ → List ℕ
-linesAfterSize s rest = linesText blockText (rows_from (λ r. 1) 0 s.counts.k) s.blocks (entriesText s.zz (wordsText s rest))
+abbrev pub lines_after_size : Sheet → List ℕ → List ℕ
+lines_after_size s rest = lines_text block_text (rows_from (λ r. 1) 0 s.counts.k) s.blocks (entries_text s.zz (words_text s rest))
 
-abbrev pub sheetText : Sheet → List ℕ → List ℕ
-sheetText s rest = sizeText s.counts (linesAfterSize s rest)
+abbrev pub sheet_text : Sheet → List ℕ → List ℕ
+sheet_text s rest = size_text s.counts (lines_after_size s rest)
 
 -- the sheet that load is given: all of the bytes
 abbrev pub text_of : Sheet → List ℕ
-text_of s = sheetText s []
+text_of s = sheet_text s []
 
 -- ---- when a sheet is in form
 -- a word's 64 bits, neither infinite nor NaN
@@ -92,9 +92,9 @@ Numbered line (e ∷ es) = (e.line ≡ line) × Numbered (line + 1) es
 pub record InForm (s : Sheet) : Type 0 where
   pub counts : InRange s.counts
   pub blocks : Each BlockInRange s.blocks
-  pub blocks-length : length s.blocks ≡ s.counts.k
+  pub blocks_length : length s.blocks ≡ s.counts.k
   pub zz : Each (EntryInRange s.counts.q) s.zz
-  pub zz-words : Each (λ (e : Entry). Word e.word) s.zz
-  pub zz-rising : Rising s.zz
-  pub zz-lines : Numbered (s.counts.k + 2) s.zz
-  pub words : Both WordEach (wordKinds s.counts) (wordLists s)
+  pub zz_words : Each (λ (e : Entry). Word e.word) s.zz
+  pub zz_rising : Rising s.zz
+  pub zz_lines : Numbered (s.counts.k + 2) s.zz
+  pub words : Both WordEach (word_kinds s.counts) (word_lists s)

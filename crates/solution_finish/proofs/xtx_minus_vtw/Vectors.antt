@@ -7,18 +7,18 @@ use lib.Ieee.{Float}
 use Rattle.layout.specs.declared.Layout.{Layout}
 use Rattle.heading_format.specs.Heading.{layout_of}
 use Rattle.heading_format.specs.Fits.{Fits}
-use Rattle.profile.specs.Solves.{scaledRow}
-use Rattle.profile.specs.Finish.{inSheetOrder, vOf}
-use Rattle.solution_vectors.proofs.Order.{order-length}
+use Rattle.profile.specs.Solves.{scaled_row}
+use Rattle.profile.specs.Finish.{in_sheet_order, v_of}
+use Rattle.solution_vectors.proofs.Order.{order_length}
 use Rattle.triangular_solves.proofs.scaled_row.Scaled.{row_sized}
 
 abbrev pub vector : List ℕ → List Float → Layout → ℕ → List Float
-vector h w y r = inSheetOrder y (scaledRow h w r) y.k
+vector h w y r = in_sheet_order y (scaled_row h w r) y.k
 
 module _ (h : List ℕ) (w : List Float) (y : Layout) (fit : Fits y h (length w)) (r : ℕ) where
-  pub vector-length : length (vector h w y r) ≡ y.q
-  vector-length = order-length y fit.valid (scaledRow h w r) (row_sized h w y fit r)
+  pub vector_length : length (vector h w y r) ≡ y.q
+  vector_length = order_length y fit.valid (scaled_row h w r) (row_sized h w y fit r)
 
-  pub vector-is : vector h w y r ≡ vOf h w r
-  unfolding vOf
-  vector-is = ap (λ (z : Layout). inSheetOrder z (scaledRow h w r) z.k) fit.same
+  pub vector_is : vector h w y r ≡ v_of h w r
+  unfolding v_of
+  vector_is = ap (λ (z : Layout). in_sheet_order z (scaled_row h w r) z.k) fit.same

@@ -4,14 +4,14 @@ use Rattle.storage.specs.Runs.{tab}
 use Rattle.rules.specs.Arithmetic.{ieee}
 use Rattle.rules.specs.Cholesky.{at}
 use Rattle.layout.specs.declared.Layout.{Layout}
-use Rattle.layout.specs.Shapes.{blockRows}
-use Rattle.workspace.specs.Memory.{thetaOf}
+use Rattle.layout.specs.Shapes.{block_rows}
+use Rattle.workspace.specs.Memory.{theta_of}
 use Rattle.solution_vectors.specs.Vectors.{block_at}
 use Rattle.solution_vectors.specs.result_places.Places.{u_at}
 
 -- block j of b
-abbrev pub effectBlock : (h : List ℕ) (w : List Float) → Layout → List Float → ℕ → List Float
-effectBlock h w y v j = tab (blockRows y j) (λ c. ieee.times (thetaOf h w j) (at ieee (block_at y (u_at y) v j) c))
+abbrev pub effect_block : (h : List ℕ) (w : List Float) → Layout → List Float → ℕ → List Float
+effect_block h w y v j = tab (block_rows y j) (λ c. ieee.times (theta_of h w j) (at ieee (block_at y (u_at y) v j) c))
 
-unfoldable pub effectBlocks : (h : List ℕ) (w : List Float) → Layout → List Float → List (List Float)
-effectBlocks h w y v = tab y.k (effectBlock h w y v)
+unfoldable pub effect_blocks : (h : List ℕ) (w : List Float) → Layout → List Float → List (List Float)
+effect_blocks h w y v = tab y.k (effect_block h w y v)

@@ -3,12 +3,12 @@ use Rattle.std.specs.Prelude.{ℕ, ◌≡◌, List, length, Float}
 use Rattle.storage.specs.Runs.{start, triangle, tab}
 use Rattle.storage.specs.Part.{part}
 use Rattle.layout.specs.declared.Layout.{Layout}
-use Rattle.profile.specs.Finish.{flattened, fixedFactor, fixedRhs}
-use Rattle.solution_vectors.specs.result_places.Places.{lxAt, resultLengthOf, Solved}
-use Rattle.layout.specs.Shapes.{lastRows}
+use Rattle.profile.specs.Finish.{flattened, fixed_factor, fixed_rhs}
+use Rattle.solution_vectors.specs.result_places.Places.{lx_at, result_length_of, Solved}
+use Rattle.layout.specs.Shapes.{last_rows}
 
 pub record Ready (h : List ℕ) (w : List Float) (y : Layout) (v : List Float) : Type 0 where
-  pub long : length v ≡ resultLengthOf y
-  pub solved : Solved h w y (lastRows y) v
-  pub factor : part (lxAt y) (start triangle y.p) v ≡ flattened (fixedFactor h w)
-  pub right : part 0 y.p v ≡ tab y.p (fixedRhs h w)
+  pub long : length v ≡ result_length_of y
+  pub solved : Solved h w y (last_rows y) v
+  pub factor : part (lx_at y) (start triangle y.p) v ≡ flattened (fixed_factor h w)
+  pub right : part 0 y.p v ≡ tab y.p (fixed_rhs h w)

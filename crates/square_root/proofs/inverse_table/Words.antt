@@ -43,15 +43,15 @@ terms d k l h u =
 pub product_lt : (a b k l n : ℕ) → a ≤ k → b ≤ l → k * l < n → a * b < n
 product_lt a b k l n h i j = omega (arith, mul-le-mul h i)
 
-pub lower-le : (r v : ℕ) → r < 2 ^ 38 → v < 2 ^ 32 - 4 → r / 256 * (v + 4) / 17179869184 ≤ 2 ^ 28
-lower-le r v h k = let p : r / 256 * (v + 4) < 2 ^ 62 + 1 = product_lt _ _ (2 ^ 30) (2 ^ 32) _ (omega arith) (omega arith) (lit< tt) in omega arith
+pub lower_le : (r v : ℕ) → r < 2 ^ 38 → v < 2 ^ 32 - 4 → r / 256 * (v + 4) / 17179869184 ≤ 2 ^ 28
+lower_le r v h k = let p : r / 256 * (v + 4) < 2 ^ 62 + 1 = product_lt _ _ (2 ^ 30) (2 ^ 32) _ (omega arith) (omega arith) (lit< tt) in omega arith
 
 -- with what each leaves
-rest-is : (m s c r t rest : ℕ) → r + s * s ≡ m * 1024 → t + s * c ≡ r * 1048576 → rest + c * c ≡ t * 4194304 → rest + (s * 2097152 + c) * (s * 2097152 + c) ≡ m * 2 ^ 52
-rest-is m s c r t rest e f g = omega arith
+rest_is : (m s c r t rest : ℕ) → r + s * s ≡ m * 1024 → t + s * c ≡ r * 1048576 → rest + c * c ≡ t * 4194304 → rest + (s * 2097152 + c) * (s * 2097152 + c) ≡ m * 2 ^ 52
+rest_is m s c r t rest e f g = omega arith
 
 pub left : (m s c r : ℕ) → r + s * s ≡ m * 1024 → s * c ≤ r * 1048576 → c * c ≤ (r * 1048576 - s * c) * 4194304 → (r * 1048576 - s * c) * 4194304 - c * c + (s * 2097152 + c) * (s * 2097152 + c) ≡ m * 2 ^ 52
-left m s c r e i j = rest-is m s c r (r * 1048576 - s * c) ((r * 1048576 - s * c) * 4194304 - c * c) e (sub-add_cancel i) (sub-add_cancel j)
+left m s c r e i j = rest_is m s c r (r * 1048576 - s * c) ((r * 1048576 - s * c) * 4194304 - c * c) e (sub-add_cancel i) (sub-add_cancel j)
 
 pub digits_lt : (s c : ℕ) → s < 2 ^ 32 → c ≤ 2 ^ 28 → s * 2097152 + c < 2 ^ 54
 digits_lt s c h k = omega arith

@@ -9,17 +9,17 @@ use lib.Ieee.{Float, binary64, fits, odd, of_bits}
 use lib.Ieee.Bits.{of_bits-fits}
 use Rattle.float_bits.specs.declared.double.Parts.{Parts}
 use Rattle.float_bits.specs.double.Parts.{InPlace}
-use Rattle.float_bits.proofs.double.Bits.{normal-bits}
+use Rattle.float_bits.proofs.double.Bits.{normal_bits}
 use Rattle.square_root.specs.whole_root.Whole.{rounded}
-use Rattle.square_root.proofs.whole_root.Whole.{Near, rounded-near, digits_low, digits-high}
-use Rattle.square_root.specs.parts.Radicand.{radicand, half, rootOf}
+use Rattle.square_root.proofs.whole_root.Whole.{Near, rounded_near, digits_low, digits_high}
+use Rattle.square_root.specs.parts.Radicand.{radicand, half, root_of}
 
 -- ---- doubled
-pub not-doubled : (q b : ℕ) → b ≡ 0 → q ≡ q * 2 ^ b
-not-doubled q b e = omega (arith, ap (λ (x : ℕ). q * 2 ^ x) e)
+pub not_doubled : (q b : ℕ) → b ≡ 0 → q ≡ q * 2 ^ b
+not_doubled q b e = omega (arith, ap (λ (x : ℕ). q * 2 ^ x) e)
 
-pub is-doubled : (q b : ℕ) → b < 2 → (b ≡ 0 → ⊥) → 2 * q ≡ q * 2 ^ b
-is-doubled q b h f = let e : b ≡ 1 = one b h f in omega (arith, ap (λ (x : ℕ). q * 2 ^ x) e)
+pub is_doubled : (q b : ℕ) → b < 2 → (b ≡ 0 → ⊥) → 2 * q ≡ q * 2 ^ b
+is_doubled q b h f = let e : b ≡ 1 = one b h f in omega (arith, ap (λ (x : ℕ). q * 2 ^ x) e)
   where
     one : (b : ℕ) → b < 2 → (b ≡ 0 → ⊥) → b ≡ 1
     one zero h f = absurd (f refl)
@@ -27,37 +27,37 @@ is-doubled q b h f = let e : b ≡ 1 = one b h f in omega (arith, ap (λ (x : �
     one (suc (suc b)) h f = omega arith
 
 -- ---- q * 2 ^ b, for 53 digits q and a b of 0 or 1
-pub doubled-range : (q b : ℕ) → 2 ^ 52 ≤ q → q < 2 ^ 53 → b < 2 → (2 ^ 52 ≤ q * 2 ^ b) × (q * 2 ^ b ≤ 2 ^ 54 - 2)
-doubled-range q zero l h k = (omega arith, omega arith)
-doubled-range q (suc zero) l h k = (omega arith, omega arith)
-doubled-range q (suc (suc b)) l h k = omega arith
+pub doubled_range : (q b : ℕ) → 2 ^ 52 ≤ q → q < 2 ^ 53 → b < 2 → (2 ^ 52 ≤ q * 2 ^ b) × (q * 2 ^ b ≤ 2 ^ 54 - 2)
+doubled_range q zero l h k = (omega arith, omega arith)
+doubled_range q (suc zero) l h k = (omega arith, omega arith)
+doubled_range q (suc (suc b)) l h k = omega arith
 
 module _ (p : Parts) (i : InPlace p) where
   abbrev m : ℕ
   m = p.significand * 2 ^ (p.exponent % 2)
 
-  pub m-range : (2 ^ 52 ≤ m) × (m ≤ 2 ^ 54 - 2)
-  m-range = doubled-range p.significand (p.exponent % 2) i.low i.high (mod-lt p.exponent (lit< tt))
+  pub m_range : (2 ^ 52 ≤ m) × (m ≤ 2 ^ 54 - 2)
+  m_range = doubled_range p.significand (p.exponent % 2) i.low i.high (mod-lt p.exponent (lit< tt))
 
   pub low : 2 ^ 104 ≤ radicand p
   unfolding radicand
-  low = omega (arith, m-range)
+  low = omega (arith, m_range)
 
   high : radicand p ≤ 2 ^ 106 - 2 ^ 53
   unfolding radicand
-  high = omega (arith, m-range)
+  high = omega (arith, m_range)
 
   abbrev s : ℕ
   s = rounded (radicand p)
 
   pub near : Near s (radicand p)
-  near = rounded-near (radicand p) (omega (arith, low)) (omega (arith, high))
+  near = rounded_near (radicand p) (omega (arith, low)) (omega (arith, high))
 
-  pub s-low : 2 ^ 52 ≤ s
-  s-low = digits_low s (radicand p) low near
+  pub s_low : 2 ^ 52 ≤ s
+  s_low = digits_low s (radicand p) low near
 
-  pub s-high : s < 2 ^ 53
-  s-high = digits-high s (radicand p) high near
+  pub s_high : s < 2 ^ 53
+  s_high = digits_high s (radicand p) high near
 
   half_le : half p ≤ 1049
   unfolding half
@@ -69,17 +69,17 @@ module _ (p : Parts) (i : InPlace p) where
     unfolding radicand
     is = e ∙ ap (λ (y : ℕ). rounded (y * 2 ^ 52)) f
 
-    pub x-high : x < 2 ^ 53
-    x-high = omega (arith, is, s-high)
+    pub x_high : x < 2 ^ 53
+    x_high = omega (arith, is, s_high)
 
-    pub bits_are : of_bits binary64 ((p.exponent / 2 + 485) * 4503599627370496 + x) ≡ rootOf p
-    unfolding rootOf half
+    pub bits_are : of_bits binary64 ((p.exponent / 2 + 485) * 4503599627370496 + x) ≡ root_of p
+    unfolding root_of half
     bits_are =
-        normal-bits (p.exponent / 2 + 485) x (omega (arith, i.most)) (omega (arith, is, s-low)) x-high ∙ ap (λ (y : ℕ). odd 53 false y (p.exponent / 2 + 485) 1074) is
+        normal_bits (p.exponent / 2 + 485) x (omega (arith, i.most)) (omega (arith, is, s_low)) x_high ∙ ap (λ (y : ℕ). odd 53 false y (p.exponent / 2 + 485) 1074) is
 
   -- ---- the root is a double
-  pub rootOf-fits : T (fits binary64 (rootOf p))
-  unfolding rootOf
-  rootOf-fits =
-      subst (λ (y : Float). T (fits binary64 y)) (normal-bits (half p + 485) s (omega (arith, half_le)) s-low s-high)
+  pub root_of_fits : T (fits binary64 (root_of p))
+  unfolding root_of
+  root_of_fits =
+      subst (λ (y : Float). T (fits binary64 y)) (normal_bits (half p + 485) s (omega (arith, half_le)) s_low s_high)
       (of_bits-fits binary64 ((half p + 485) * 4503599627370496 + s))

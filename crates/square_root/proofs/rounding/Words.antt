@@ -7,13 +7,13 @@ use native.Mathlib.Omega.{arith}
 use borrow.Author.Tests.{ltb-true, ltb-false}
 use lib.Dec.{ltb}
 use Rattle.square_root.specs.whole_root.Whole.{rounded}
-use Rattle.square_root.proofs.whole_root.Whole.{Near, near-here, near_up, is-rounded}
+use Rattle.square_root.proofs.whole_root.Whole.{Near, near_here, near_up, is_rounded}
 
-by-rest : (b : Bool) (n g rest : ℕ) → ltb g rest ≡ b → 0 < n → n ≡ rest + g * g → rest ≤ 3 * g + 2 → Near (g + cond b 1 0) n
-by-rest true n g rest t p e h = near_up g n (omega (arith, ltb-true g rest t)) (omega arith)
-by-rest false n g rest t p e h = subst (λ (x : ℕ). Near x n) (sym (add-zero g)) (near-here g n p (omega arith) (omega (arith, ltb-false g rest t)))
+by_rest : (b : Bool) (n g rest : ℕ) → ltb g rest ≡ b → 0 < n → n ≡ rest + g * g → rest ≤ 3 * g + 2 → Near (g + cond b 1 0) n
+by_rest true n g rest t p e h = near_up g n (omega (arith, ltb-true g rest t)) (omega arith)
+by_rest false n g rest t p e h = subst (λ (x : ℕ). Near x n) (sym (add-zero g)) (near_here g n p (omega arith) (omega (arith, ltb-false g rest t)))
 
-pub from-rest : (m g rest x : ℕ) → 2 ^ 52 ≤ m → m ≤ 2 ^ 54 - 2 → rest + g * g ≡ m * 2 ^ 52 → rest ≤ 3 * g + 2 → x ≡ cond (ltb g rest) 1 0 → g + x ≡ rounded (m * 2 ^ 52)
-from-rest m g rest x l h n u e =
-    is-rounded (g + x) (m * 2 ^ 52) (omega arith) (omega arith)
-    (subst (λ (y : ℕ). Near (g + y) (m * 2 ^ 52)) (sym e) (by-rest (ltb g rest) (m * 2 ^ 52) g rest refl (omega arith) (sym n) u))
+pub from_rest : (m g rest x : ℕ) → 2 ^ 52 ≤ m → m ≤ 2 ^ 54 - 2 → rest + g * g ≡ m * 2 ^ 52 → rest ≤ 3 * g + 2 → x ≡ cond (ltb g rest) 1 0 → g + x ≡ rounded (m * 2 ^ 52)
+from_rest m g rest x l h n u e =
+    is_rounded (g + x) (m * 2 ^ 52) (omega arith) (omega arith)
+    (subst (λ (y : ℕ). Near (g + y) (m * 2 ^ 52)) (sym e) (by_rest (ltb g rest) (m * 2 ^ 52) g rest refl (omega arith) (sym n) u))

@@ -12,6 +12,6 @@ unfoldable pub half : Parts → ℕ
 half p = p.exponent / 2
 
 -- rounded radicand * 2 ^ half / 2 ^ 589
-unfoldable pub rootOf : Parts → Float
+unfoldable pub root_of : Parts → Float
 unfolding radicand rounded half odd
-rootOf p = odd 53 false (rounded (radicand p)) (half p + 485) 1074
+root_of p = odd 53 false (rounded (radicand p)) (half p + 485) 1074

@@ -3,33 +3,33 @@ use Prim.Native.Nat.{ℕ, ◌≤◌}
 use mathlib.Core.Path.{◌≡◌, refl, sym, ◌∙◌}
 use mathlib.Core.Bool.{Bool, true, false}
 use native.Mathlib.Omega.{arith}
-use Rattle.step_order.specs.Steps.{Step, S, C, T, IsStep, isStep, forerunners}
+use Rattle.step_order.specs.Steps.{Step, S, C, T, IsStep, is_step, forerunners}
 use Rattle.step_order.specs.Progress.{all, done}
-use Rattle.step_order.proofs.Sets.{named-iff}
+use Rattle.step_order.proofs.Sets.{named_iff}
 use Rattle.heading_format.specs.declared.Progress.{Progress}
 use Rattle.heading_format.specs.declared.State.{State}
 use Rattle.heading_format.specs.declared.State.TheVariants.{UnderWay}
-use Rattle.heading_format.specs.Heading.{stageOf}
-use Rattle.step.specs.step_check.Faults.{nameFault, faultOf}
+use Rattle.heading_format.specs.Heading.{stage_of}
+use Rattle.step.specs.step_check.Faults.{name_fault, fault_of}
 
 module _ (k : ℕ) (g : Progress) (s : Step) where
   abbrev number : ℕ
-  number = nameFault (isStep k s) (done (stageOf g) s) (all (done (stageOf g)) (forerunners s))
+  number = name_fault (is_step k s) (done (stage_of g) s) (all (done (stage_of g)) (forerunners s))
 
-  module _ {n : Bool} (is-n : n ≡ isStep k s) where
-    pub fault-unnamed : n ≡ false → 21 ≡ number
-    fault-unnamed e = rw (← is-n, e) refl
+  module _ {n : Bool} (is-n : n ≡ is_step k s) where
+    pub fault_unnamed : n ≡ false → 21 ≡ number
+    fault_unnamed e = rw (← is-n, e) refl
 
-    module _ (known : n ≡ true) {d : Bool} (is-d : d ≡ done (stageOf g) s) where
-      pub fault-done : d ≡ true → 23 ≡ number
-      fault-done e = rw (← is-n, known, ← is-d, e) refl
+    module _ (known : n ≡ true) {d : Bool} (is-d : d ≡ done (stage_of g) s) where
+      pub fault_done : d ≡ true → 23 ≡ number
+      fault_done e = rw (← is-n, known, ← is-d, e) refl
 
-      module _ (undone : d ≡ false) {f : Bool} (is_f : f ≡ all (done (stageOf g)) (forerunners s)) where
-        pub fault-none : f ≡ true → 0 ≡ number
-        fault-none e = rw (← is-n, known, ← is-d, undone, ← is_f, e) refl
+      module _ (undone : d ≡ false) {f : Bool} (is_f : f ≡ all (done (stage_of g)) (forerunners s)) where
+        pub fault_none : f ≡ true → 0 ≡ number
+        fault_none e = rw (← is-n, known, ← is-d, undone, ← is_f, e) refl
 
-        pub fault-forerun : f ≡ false → 24 ≡ number
-        fault-forerun e = rw (← is-n, known, ← is-d, undone, ← is_f, e) refl
+        pub fault_forerun : f ≡ false → 24 ≡ number
+        fault_forerun e = rw (← is-n, known, ← is-d, undone, ← is_f, e) refl
 
 -- a named step is one of eight blocks and the last
 named_more : (k : ℕ) (s : Step) → k ≤ 8 → IsStep k s → IsStep 8 s
@@ -37,10 +37,10 @@ named_more k (S i j x) h n = let c = n.2 in (n.0, n.1, omega arith)
 named_more k (C j) h n = omega arith
 named_more k (T i j) h n = let c = n.1 in (n.0, omega arith)
 
-pub named-eight : (k : ℕ) (s : Step) {b : Bool} → k ≤ 8 → b ≡ isStep k s → b ≡ true → IsStep 8 s
-named-eight k s h e t = named_more k s h ((named-iff k s).0 (sym e ∙ t))
+pub named_eight : (k : ℕ) (s : Step) {b : Bool} → k ≤ 8 → b ≡ is_step k s → b ≡ true → IsStep 8 s
+named_eight k s h e t = named_more k s h ((named_iff k s).0 (sym e ∙ t))
 
 -- under way, the name decides
-pub fault-named : (k : ℕ) (g : Progress) (s : Step) {state : State} {r : ℕ} → state ≡ UnderWay → state ≡ g.state
-    → r ≡ nameFault (isStep k s) (done (stageOf g) s) (all (done (stageOf g)) (forerunners s)) → r ≡ faultOf k g s
-fault-named k g s e q f = f ∙ rw (← q, e) refl
+pub fault_named : (k : ℕ) (g : Progress) (s : Step) {state : State} {r : ℕ} → state ≡ UnderWay → state ≡ g.state
+    → r ≡ name_fault (is_step k s) (done (stage_of g) s) (all (done (stage_of g)) (forerunners s)) → r ≡ fault_of k g s
+fault_named k g s e q f = f ∙ rw (← q, e) refl

@@ -8,20 +8,20 @@ use Rattle.layout.specs.declared.Layout.{Layout}
 use Rattle.heading_format.specs.declared.Progress.{Progress}
 use Rattle.heading_format.specs.Heading.{idle}
 use Rattle.workspace.specs.Memory.{cleared}
-use Rattle.update.specs.Calls.{advanced, refusedBy, stepped}
+use Rattle.update.specs.Calls.{advanced, refused_by, stepped}
 use Rattle.step.specs.declared.step_result.StepResult.{StepResult}
 
 -- the answer and the progress, by the row of the pivot that the step refuses: one step more, or 26 and no update
-abbrev pub movedBy : Layout → Progress → Step → Option ℕ → StepResult
-movedBy y g s none = record { answer = Accepted; progress = advanced g s }
-movedBy y g s (some r) = record { answer = refuse 26 (col s) r; progress = idle y.k }
+abbrev pub moved_by : Layout → Progress → Step → Option ℕ → StepResult
+moved_by y g s none = record { answer = Accepted; progress = advanced g s }
+moved_by y g s (some r) = record { answer = refuse 26 (col s) r; progress = idle y.k }
 
 -- the doubles: as the step leaves them, or the working ones +0.0
-abbrev pub doublesBy : Layout → List ℕ → List Float → Step → Option ℕ → List Float
-doublesBy y h w s none = (stepped h w s).doubles
-doublesBy y h w s (some r) = cleared y w
+abbrev pub doubles_by : Layout → List ℕ → List Float → Step → Option ℕ → List Float
+doubles_by y h w s none = (stepped h w s).doubles
+doubles_by y h w s (some r) = cleared y w
 
 -- step s, taken on the doubles w: w' is left, and m handed back
 pub record Applied (y : Layout) (g : Progress) (h : List ℕ) (w w' : List Float) (s : Step) (m : StepResult) : Type 0 where
-  pub moved : m ≡ movedBy y g s (refusedBy h w s)
-  pub doubles : w' ≡ doublesBy y h w s (refusedBy h w s)
+  pub moved : m ≡ moved_by y g s (refused_by h w s)
+  pub doubles : w' ≡ doubles_by y h w s (refused_by h w s)

@@ -10,139 +10,139 @@ use Rattle.storage.specs.Shape.{Shape, packed, diagonal, size_of}
 use Rattle.storage.specs.Part.{part, store}
 use Rattle.storage.specs.declared.Block.{Block}
 use Rattle.storage.specs.Placed.{Placed, Lies}
-use Rattle.storage.proofs.Starts.{start-single}
-use Rattle.storage.proofs.Parts.{length-store, part_same, store-behind}
-use Rattle.storage.proofs.Blocks.{length-fill}
+use Rattle.storage.proofs.Starts.{start_single}
+use Rattle.storage.proofs.Parts.{length_store, part_same, store_behind}
+use Rattle.storage.proofs.Blocks.{length_fill}
 use Rattle.step_order.specs.Steps.{C}
 use Rattle.rules.specs.Arithmetic.{ieee}
 use Rattle.layout.specs.declared.Layout.{Layout}
 use Rattle.layout.specs.declared.FactorKind.{FactorKind}
 use Rattle.layout.specs.declared.FactorKind.TheVariants.{Diagonal, Packed}
-use Rattle.layout.specs.Shapes.{factorKind, shape, sizes, sum_at, doublesNeeded}
-use Rattle.heading_format.specs.Heading.{layout_of, entryRow}
+use Rattle.layout.specs.Shapes.{factor_kind, shape, sizes, sum_at, doubles_needed}
+use Rattle.heading_format.specs.Heading.{layout_of, entry_row}
 use Rattle.heading_format.specs.Fits.{Fits}
-use Rattle.layout.proofs.Places.{size-working, working-inside}
-use Rattle.workspace.specs.Memory.{cell_of, logSum}
+use Rattle.layout.proofs.Places.{size_working, working_inside}
+use Rattle.workspace.specs.Memory.{cell_of, log_sum}
 use Rattle.block_places.specs.block_kinds.Rows.{rows_of}
-use Rattle.block_places.specs.Working.{working, asFactor}
-use Rattle.block_places.proofs.block_kinds.Shapes.{own-shape, packed-limit}
+use Rattle.block_places.specs.Working.{working, as_factor}
+use Rattle.block_places.proofs.block_kinds.Shapes.{own_shape, packed_limit}
 use Rattle.re_lower.specs.declared.Pivots.{Pivots}
 use Rattle.re_lower.specs.declared.Pivots.TheVariants.{Accepted, Refused}
 use Rattle.re_lower.specs.Lower.{answer_of}
-use Rattle.re_lower.proofs.Blocks.{accepted-none, refused-some, triangle-room, diagonal-room}
-use Rattle.re_factor.specs.Factor.{pivotAt}
-use Rattle.update.specs.Working.{refusedRow, factored, logged, pivotCount}
-use Rattle.update.specs.Calls.{madeBy, sumBy, refusedBy}
-use Rattle.step_blocks.specs.factor_logs.Factors.{left_of, BlockFactored, sumWith, Factors}
+use Rattle.re_lower.proofs.Blocks.{accepted_none, refused_some, triangle_room, diagonal_room}
+use Rattle.re_factor.specs.Factor.{pivot_at}
+use Rattle.update.specs.Working.{refused_row, factored, logged, pivot_count}
+use Rattle.update.specs.Calls.{made_by, sum_by, refused_by}
+use Rattle.step_blocks.specs.factor_logs.Factors.{left_of, BlockFactored, sum_with, Factors}
 
 -- ---- a factor's block b, and its doubles l
 module _ (b : Block) (l : List Float) where
   -- what C leaves has room in it
-  left-room : (d : FactorKind) (p : Pivots) → p ≡ answer_of (refusedRow (asFactor d b).shape l) → length (left_of (asFactor d b).shape l p) ≤ size_of (asFactor d b).shape
-  unfolding refusedRow
-  left-room Diagonal p e = omega (arith, start-single b.rows, diagonal-room (λ r. cell_of (diagonal b.rows) l r r) b.rows p e)
-  left-room Packed p e = triangle-room (cell_of (packed b.rows) l) b.rows p e
+  left_room : (d : FactorKind) (p : Pivots) → p ≡ answer_of (refused_row (as_factor d b).shape l) → length (left_of (as_factor d b).shape l p) ≤ size_of (as_factor d b).shape
+  unfolding refused_row
+  left_room Diagonal p e = omega (arith, start_single b.rows, diagonal_room (λ r. cell_of (diagonal b.rows) l r r) b.rows p e)
+  left_room Packed p e = triangle_room (cell_of (packed b.rows) l) b.rows p e
 
   -- accepted, it is the factor
-  left-factored : (d : FactorKind) → left_of (asFactor d b).shape l Accepted ≡ factored (asFactor d b).shape l
+  left_factored : (d : FactorKind) → left_of (as_factor d b).shape l Accepted ≡ factored (as_factor d b).shape l
   unfolding factored
-  left-factored Diagonal = refl
-  left-factored Packed = refl
+  left_factored Diagonal = refl
+  left_factored Packed = refl
 
   -- which has the block's length
-  length-factored : (d : FactorKind) → length (factored (asFactor d b).shape l) ≡ size_of (asFactor d b).shape
+  length_factored : (d : FactorKind) → length (factored (as_factor d b).shape l) ≡ size_of (as_factor d b).shape
   unfolding factored
-  length-factored Diagonal = length-fill (diagonal b.rows) _
-  length-factored Packed = length-fill (packed b.rows) _
+  length_factored Diagonal = length_fill (diagonal b.rows) _
+  length_factored Packed = length_fill (packed b.rows) _
 
-rows-counted : (b : Block) (d : FactorKind) → pivotCount (asFactor d b).shape ≡ b.rows
-rows-counted b Diagonal = refl
-rows-counted b Packed = refl
+rows_counted : (b : Block) (d : FactorKind) → pivot_count (as_factor d b).shape ≡ b.rows
+rows_counted b Diagonal = refl
+rows_counted b Packed = refl
 
 -- ---- the workspace
 module _ (h : List ℕ) (w : List Float) (y : Layout) (fit : Fits y h (length w)) (j : ℕ) (below : j ≤ y.k) where
-  room : doublesNeeded y ≤ length w
+  room : doubles_needed y ≤ length w
   room = fit.room
 
   -- its block, as it lies
   abbrev own : Placed
-  own = asFactor (factorKind y j) (working y j j)
+  own = as_factor (factor_kind y j) (working y j j)
 
   abbrev cells : List Float
   cells = part own.at (size_of own.shape) w
 
-  is-shape : shape y (entryRow h) j j ≡ own.shape
-  is-shape = own-shape y fit.valid (entryRow h) j below refl
+  is_shape : shape y (entry_row h) j j ≡ own.shape
+  is_shape = own_shape y fit.valid (entry_row h) j below refl
 
-  own-size : sizes y j j ≡ size_of own.shape
-  own-size = sym (size-working y (entryRow h) j j) ∙ ap size_of is-shape
+  own_size : sizes y j j ≡ size_of own.shape
+  own_size = sym (size_working y (entry_row h) j j) ∙ ap size_of is_shape
 
   -- it ends before the sum
   inside : Lies (sum_at y) own
-  inside = omega (arith, own-size, working-inside y j j (omega arith) below)
+  inside = omega (arith, own_size, working_inside y j j (omega arith) below)
 
   -- what the kernels ask
-  pub limited : factorKind y j ≡ Packed → rows_of y j ≤ 316
-  limited e = packed-limit y fit.valid j below e
+  pub limited : factor_kind y j ≡ Packed → rows_of y j ≤ 316
+  limited e = packed_limit y fit.valid j below e
 
-  pub first-diagonal : j ≡ 0 → factorKind y j ≡ Diagonal
-  first-diagonal e = rw e refl
+  pub first_diagonal : j ≡ 0 → factor_kind y j ≡ Diagonal
+  first_diagonal e = rw e refl
 
-  pub block-fits : Lies (length w) own
-  block-fits = omega (arith, inside, room)
+  pub block_fits : Lies (length w) own
+  block_fits = omega (arith, inside, room)
 
   -- ---- the definitions, by the block
-  refused-is : refusedBy h w (C j) ≡ refusedRow own.shape cells
-  unfolding refusedBy
-  refused-is = rw (← is-shape, fit.same) refl
+  refused_is : refused_by h w (C j) ≡ refused_row own.shape cells
+  unfolding refused_by
+  refused_is = rw (← is_shape, fit.same) refl
 
-  made-is : madeBy h w (C j) ≡ factored own.shape cells
-  unfolding madeBy
-  made-is = rw (← is-shape, fit.same) refl
+  made_is : made_by h w (C j) ≡ factored own.shape cells
+  unfolding made_by
+  made_is = rw (← is_shape, fit.same) refl
 
   abbrev before : Float
   before = get_or w (sum_at y) ieee.zero
 
   -- the sum s with the logarithms of a factor f of shape b
-  abbrev with-logs : Layout → Shape → Float → List Float → ℕ → Float
-  with-logs z b s f m = sumWith z j s (λ i. cell_of b f i i) m
+  abbrev with_logs : Layout → Shape → Float → List Float → ℕ → Float
+  with_logs z b s f m = sum_with z j s (λ i. cell_of b f i i) m
 
-  sum-read : sumBy h w (C j) ≡ with-logs (layout_of h) (shape (layout_of h) (entryRow h) j j) (logSum h w) (madeBy h w (C j)) (pivotCount (shape (layout_of h) (entryRow h) j j))
-  unfolding sumBy logged
-  sum-read = refl
+  sum_read : sum_by h w (C j) ≡ with_logs (layout_of h) (shape (layout_of h) (entry_row h) j j) (log_sum h w) (made_by h w (C j)) (pivot_count (shape (layout_of h) (entry_row h) j j))
+  unfolding sum_by logged
+  sum_read = refl
 
-  sum_is : sumBy h w (C j) ≡ with-logs y own.shape before (factored own.shape cells) (rows_of y j)
+  sum_is : sum_by h w (C j) ≡ with_logs y own.shape before (factored own.shape cells) (rows_of y j)
   sum_is =
-      sum-read
-      ∙ ap (λ (z : Layout). with-logs z (shape z (entryRow h) j j) (get_or w (sum_at z) ieee.zero) (madeBy h w (C j)) (pivotCount (shape z (entryRow h) j j))) (sym fit.same)
-      ∙ ap (λ (s : Shape). with-logs y s before (madeBy h w (C j)) (pivotCount s)) is-shape
-      ∙ ap₂ (λ (f : List Float) (m : ℕ). with-logs y own.shape before f m) made-is (rows-counted (working y j j) (factorKind y j))
+      sum_read
+      ∙ ap (λ (z : Layout). with_logs z (shape z (entry_row h) j j) (get_or w (sum_at z) ieee.zero) (made_by h w (C j)) (pivot_count (shape z (entry_row h) j j))) (sym fit.same)
+      ∙ ap (λ (s : Shape). with_logs y s before (made_by h w (C j)) (pivot_count s)) is_shape
+      ∙ ap₂ (λ (f : List Float) (m : ℕ). with_logs y own.shape before f m) made_is (rows_counted (working y j j) (factor_kind y j))
 
   -- ---- what fit.same left
   module _ (w₁ : List Float) (p : Pivots) (f : BlockFactored own w w₁ p) where
-    left-fits : length (left_of own.shape cells p) ≤ size_of own.shape
-    left-fits = left-room (working y j j) cells (factorKind y j) p f.answer
+    left_fits : length (left_of own.shape cells p) ≤ size_of own.shape
+    left_fits = left_room (working y j j) cells (factor_kind y j) p f.answer
 
-    length-same : length w₁ ≡ length w
-    length-same = rw f.exit (length-store own.at (left_of own.shape cells p) w (omega (arith, left-fits, block-fits)))
+    length_same : length w₁ ≡ length w
+    length_same = rw f.exit (length_store own.at (left_of own.shape cells p) w (omega (arith, left_fits, block_fits)))
 
     -- the sum has its room still, and the block
-    pub still-fits : (sum_at y < length w₁) × Lies (length w₁) own
-    still-fits = (omega (arith, length-same, room), omega (arith, length-same, block-fits))
+    pub still_fits : (sum_at y < length w₁) × Lies (length w₁) own
+    still_fits = (omega (arith, length_same, room), omega (arith, length_same, block_fits))
 
-    answered : p ≡ answer_of (refusedBy h w (C j))
-    answered = f.answer ∙ ap answer_of (sym refused-is)
+    answered : p ≡ answer_of (refused_by h w (C j))
+    answered = f.answer ∙ ap answer_of (sym refused_is)
 
     -- a pivot fit.same refused
-    pub refused-left : (r : ℕ) → p ≡ Refused r → Factors y h w w₁ j (Refused r)
-    refused-left r e =
-        let some-row : refusedBy h w (C j) ≡ some r = refused-some (refusedBy h w (C j)) r (sym e ∙ answered) in
+    pub refused_left : (r : ℕ) → p ≡ Refused r → Factors y h w w₁ j (Refused r)
+    refused_left r e =
+        let some_row : refused_by h w (C j) ≡ some r = refused_some (refused_by h w (C j)) r (sym e ∙ answered) in
         record {
           answer = sym e ∙ answered;
           accepted = λ q. absurd (let z : ◌≡◌ {A = ℕ} 0 1 = cc in omega arith);
           refused = λ q t. record {
             left = left_of own.shape cells p;
-            fits = omega (arith, left-fits, own-size);
+            fits = omega (arith, left_fits, own_size);
             stands = f.exit;
           };
         }
@@ -152,25 +152,25 @@ module _ (h : List ℕ) (w : List Float) (y : Layout) (fit : Fits y h (length w)
       abbrev new : List Float
       new = factored own.shape cells
 
-      new-length : length new ≡ size_of own.shape
-      new-length = length-factored (working y j j) cells (factorKind y j)
+      new_length : length new ≡ size_of own.shape
+      new_length = length_factored (working y j j) cells (factor_kind y j)
 
       made : w₁ ≡ store own.at new w
-      made = f.exit ∙ ap (λ (x : Pivots). store own.at (left_of own.shape cells x) w) e ∙ ap (λ (l : List Float). store own.at l w) (left-factored (working y j j) cells (factorKind y j))
+      made = f.exit ∙ ap (λ (x : Pivots). store own.at (left_of own.shape cells x) w) e ∙ ap (λ (l : List Float). store own.at l w) (left_factored (working y j j) cells (factor_kind y j))
 
-      own-now : part own.at (size_of own.shape) w₁ ≡ new
-      own-now = ap (part own.at (size_of own.shape)) made ∙ part_same own.at new w (omega (arith, new-length, block-fits)) (size_of own.shape) new-length
+      own_now : part own.at (size_of own.shape) w₁ ≡ new
+      own_now = ap (part own.at (size_of own.shape)) made ∙ part_same own.at new w (omega (arith, new_length, block_fits)) (size_of own.shape) new_length
 
-      sum-now : get_or w₁ (sum_at y) ieee.zero ≡ before
-      sum-now = ap (λ (l : List Float). get_or l (sum_at y) ieee.zero) made ∙ store-behind own.at new w (omega (arith, new-length, block-fits)) ieee.zero (sum_at y) (omega (arith, new-length, inside))
+      sum_now : get_or w₁ (sum_at y) ieee.zero ≡ before
+      sum_now = ap (λ (l : List Float). get_or l (sum_at y) ieee.zero) made ∙ store_behind own.at new w (omega (arith, new_length, block_fits)) ieee.zero (sum_at y) (omega (arith, new_length, inside))
 
-      pub accepted-left : (w₂ : List Float) → w₂ ≡ store (sum_at y) (sumWith y j (get_or w₁ (sum_at y) ieee.zero) (pivotAt own w₁) (rows_of y j) ∷ []) w₁ → Factors y h w w₂ j Accepted
-      accepted-left w₂ s =
-          let none-refused : refusedBy h w (C j) ≡ none = accepted-none (refusedBy h w (C j)) (sym e ∙ answered) in
+      pub accepted_left : (w₂ : List Float) → w₂ ≡ store (sum_at y) (sum_with y j (get_or w₁ (sum_at y) ieee.zero) (pivot_at own w₁) (rows_of y j) ∷ []) w₁ → Factors y h w w₂ j Accepted
+      accepted_left w₂ s =
+          let none_refused : refused_by h w (C j) ≡ none = accepted_none (refused_by h w (C j)) (sym e ∙ answered) in
           record {
             answer = sym e ∙ answered;
             accepted = λ q. s ∙ ap₂ (λ (x : Float) (l : List Float). store (sum_at y) (x ∷ []) l)
-                (ap₂ (λ (x : Float) (l : List Float). with-logs y own.shape x l (rows_of y j)) sum-now own-now ∙ sym sum_is)
-                (made ∙ ap (λ (l : List Float). store own.at l w) (sym made-is));
+                (ap₂ (λ (x : Float) (l : List Float). with_logs y own.shape x l (rows_of y j)) sum_now own_now ∙ sym sum_is)
+                (made ∙ ap (λ (l : List Float). store own.at l w) (sym made_is));
             refused = λ r q. absurd (let z : ◌≡◌ {A = ℕ} 0 1 = cc in omega arith);
           }

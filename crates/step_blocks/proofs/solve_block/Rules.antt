@@ -9,22 +9,22 @@ use lib.Ieee.{Float}
 use Rattle.storage.specs.Shape.{size_of}
 use Rattle.storage.specs.Part.{part, store}
 use Rattle.storage.specs.declared.Block.{Block}
-use Rattle.storage.specs.Placed.{Placed, block_of, asColumns, asTriangle, asDiagonal, asEntries}
+use Rattle.storage.specs.Placed.{Placed, block_of, as_columns, as_triangle, as_diagonal, as_entries}
 use Rattle.step_order.specs.Steps.{T}
 use Rattle.layout.specs.declared.Layout.{Layout}
 use Rattle.layout.specs.declared.FactorKind.TheVariants.{Diagonal, Packed}
-use Rattle.layout.specs.Shapes.{factorKind, workingAt}
-use Rattle.heading_format.specs.Heading.{layout_of, entryRow}
+use Rattle.layout.specs.Shapes.{factor_kind, working_at}
+use Rattle.heading_format.specs.Heading.{layout_of, entry_row}
 use Rattle.heading_format.specs.Fits.{Fits}
-use Rattle.cross_block.specs.Blocks.{dividedColumns, solvedRows}
-use Rattle.cross_block.proofs.Turns.{divided-entries}
+use Rattle.cross_block.specs.Blocks.{divided_columns, solved_rows}
+use Rattle.cross_block.proofs.Turns.{divided_entries}
 use Rattle.update.specs.Working.{solved}
-use Rattle.update.specs.Calls.{madeBy}
+use Rattle.update.specs.Calls.{made_by}
 use Rattle.block_places.specs.block_kinds.Rows.{rows_of}
 use Rattle.block_places.specs.Working.{working, placed}
-use Rattle.block_places.proofs.block_kinds.Workspace.{fits-two}
-use Rattle.block_places.proofs.Placing.{is-columns, is-factor, is-entries}
-use Rattle.step_blocks.proofs.solve_block.Ready.{is-solved}
+use Rattle.block_places.proofs.block_kinds.Workspace.{fits_two}
+use Rattle.block_places.proofs.Placing.{is_columns, is_factor, is_entries}
+use Rattle.step_blocks.proofs.solve_block.Ready.{is_solved}
 use mathlib.Core.Bool.{true, false}
 
 -- ---- each kind, by the forms
@@ -34,43 +34,43 @@ module _ (w : List Float) (t f : Placed) where
   abbrev stored : List Float
   stored = store t.at (solved t.shape f.shape (part t.at (size_of t.shape) w) (part f.at (size_of f.shape) w)) w
 
-  by-diagonal : (b d : Block) → t ≡ asColumns b → f ≡ asDiagonal d → stored ≡ dividedColumns b d w
+  by_diagonal : (b d : Block) → t ≡ as_columns b → f ≡ as_diagonal d → stored ≡ divided_columns b d w
   unfolding solved
-  by-diagonal b d e g = rw (e, g) refl
+  by_diagonal b d e g = rw (e, g) refl
 
-  by-triangle : (b d : Block) → t ≡ asColumns b → f ≡ asTriangle d → stored ≡ solvedRows b d w
+  by_triangle : (b d : Block) → t ≡ as_columns b → f ≡ as_triangle d → stored ≡ solved_rows b d w
   unfolding solved
-  by-triangle b d e g = rw (e, g) refl
+  by_triangle b d e g = rw (e, g) refl
 
-  of-entries : (row : ℕ → ℕ) (b d : Block) → t ≡ asEntries row b → f ≡ asDiagonal d → stored ≡ dividedColumns (block_of b.at 1 b.cols) d w
+  of_entries : (row : ℕ → ℕ) (b d : Block) → t ≡ as_entries row b → f ≡ as_diagonal d → stored ≡ divided_columns (block_of b.at 1 b.cols) d w
   unfolding solved
-  of-entries row b d e g = rw (e, g) (sym (divided-entries b d row w))
+  of_entries row b d e g = rw (e, g) (sym (divided_entries b d row w))
 
 -- ---- on a workspace
 
 module _ (h : List ℕ) (w : List Float) (y : Layout) (fit : Fits y h (length w)) (i j : ℕ) (l : j < i) (g : i ≤ y.k) where
   abbrev row : ℕ → ℕ
-  row = entryRow h
+  row = entry_row h
 
   -- T is that, at the layout's places and shapes
-  made-is : store (workingAt y i j) (madeBy h w (T i j)) w ≡ stored w (placed y row i j) (placed y row j j)
-  unfolding madeBy
-  made-is = rw fit.same refl
+  made_is : store (working_at y i j) (made_by h w (T i j)) w ≡ stored w (placed y row i j) (placed y row j j)
+  unfolding made_by
+  made_is = rw fit.same refl
 
   -- a dense block by a diagonal
-  pub made-divided : factorKind y j ≡ Diagonal → (i ≡ y.k) ⊎ (y.sparse ≡ false) → dividedColumns (working y i j) (working y j j) w ≡ store (workingAt y i j) (madeBy h w (T i j)) w
-  made-divided d why = sym (made-is ∙ by-diagonal w (placed y row i j) (placed y row j j) (working y i j) (working y j j) (is-columns y row i j l g why) (is-factor y row fit.valid j (omega arith) d))
+  pub made_divided : factor_kind y j ≡ Diagonal → (i ≡ y.k) ⊎ (y.sparse ≡ false) → divided_columns (working y i j) (working y j j) w ≡ store (working_at y i j) (made_by h w (T i j)) w
+  made_divided d why = sym (made_is ∙ by_diagonal w (placed y row i j) (placed y row j j) (working y i j) (working y j j) (is_columns y row i j l g why) (is_factor y row fit.valid j (omega arith) d))
 
   -- a sparse pair
-  pub made-entries : y.sparse ≡ true → (i ≡ y.k → ⊥) → dividedColumns (block_of (workingAt y 1 0) 1 (rows_of y 0)) (working y 0 0) w ≡ store (workingAt y i j) (madeBy h w (T i j)) w
-  made-entries p o =
-      let two = fits-two h w y fit p in
+  pub made_entries : y.sparse ≡ true → (i ≡ y.k → ⊥) → divided_columns (block_of (working_at y 1 0) 1 (rows_of y 0)) (working y 0 0) w ≡ store (working_at y i j) (made_by h w (T i j)) w
+  made_entries p o =
+      let two = fits_two h w y fit p in
       let i₁ : i ≡ 1 = omega arith in
       let j₀ : j ≡ 0 = omega arith in
-      sym (made-is ∙ rw (i₁, j₀) (of-entries w (placed y row 1 0) (placed y row 0 0) row (working y 1 0) (working y 0 0) (is-entries y row two p) (is-factor y row fit.valid 0 (omega arith) refl)))
+      sym (made_is ∙ rw (i₁, j₀) (of_entries w (placed y row 1 0) (placed y row 0 0) row (working y 1 0) (working y 0 0) (is_entries y row two p) (is_factor y row fit.valid 0 (omega arith) refl)))
 
   -- by a triangle
-  pub made-solved : factorKind y j ≡ Packed → solvedRows (working y i j) (working y j j) w ≡ store (workingAt y i j) (madeBy h w (T i j)) w
-  made-solved d =
-      let s = is-solved y fit.valid row i j l g d in
-      sym (made-is ∙ by-triangle w (placed y row i j) (placed y row j j) (working y i j) (working y j j) s.0 s.1)
+  pub made_solved : factor_kind y j ≡ Packed → solved_rows (working y i j) (working y j j) w ≡ store (working_at y i j) (made_by h w (T i j)) w
+  made_solved d =
+      let s = is_solved y fit.valid row i j l g d in
+      sym (made_is ∙ by_triangle w (placed y row i j) (placed y row j j) (working y i j) (working y j j) s.0 s.1)

@@ -1,7 +1,7 @@
 -- `text_output::put_digits`: the digits of the tenth, and the last. The measure is the number.
 use borrow.Author.Rules.{rules}
 use native.Mathlib.Omega.{arith}
-use Rattle.text_output.proofs.Digits.{digits-one, digits_more, digits-one-put, digits-more-put}
+use Rattle.text_output.proofs.Digits.{digits_one, digits_more, digits_one_put, digits_more_put}
 use Prim.Native.Nat.{ℕ, ◌<◌}
 use borrow.Fn.Kinds.{In}
 use borrow.Fn.PlainCycle.{Measures, is, falls, and}
@@ -45,7 +45,7 @@ put-digits-put-byte-requires : (t : ℕ) → put-digits-lts.Need-put-byte-requir
   put-digits-below t,
   put-digits.Post,
 ) (put-digits-at t) put-digits.Post
-put-digits-put-byte-requires t c κs = let e = digits-one _ c.before.if1.taken in search rules
+put-digits-put-byte-requires t c κs = let e = digits_one _ c.before.if1.taken in search rules
 
 put-digits-same-length : (t : ℕ) → put-digits-lts.Need-same-length (
   put-byte-reads.Asked,
@@ -62,7 +62,7 @@ put-digits-returns : (t : ℕ) → put-digits-lts.Need-returns (
   put-digits.Post,
 ) (put-digits-at t) put-digits.Post
 put-digits-returns t c =
-    digits-one-put _ c.before.before.before.before.before.before.args.x _ c.before.before.before.before.if1.taken c.before.before.put_byte.ensures
+    digits_one_put _ c.before.before.before.before.before.before.args.x _ c.before.before.before.before.if1.taken c.before.before.put_byte.ensures
 
 put-digits-put-digits-requires : (t : ℕ) → put-digits-lts.Need-put-digits-requires (
   put-byte-reads.Asked,
@@ -116,7 +116,7 @@ put-digits-returns-2 : (t : ℕ) → put-digits-lts.Need-returns-2 (
 ) (put-digits-at t) put-digits.Post
 put-digits-returns-2 t c =
     let s = c.before.before.before.before.before.before.before.before.before.before in
-    digits-more-put s.args.at s.args.x s.args.out.now (omega arith) (omega arith) s.pre.1 c.before.before.before.before.before.before.put-digits.ensures c.before.before.put-byte2.ensures
+    digits_more_put s.args.at s.args.x s.args.out.now (omega arith) (omega arith) s.pre.1 c.before.before.before.before.before.before.put-digits.ensures c.before.before.put-byte2.ensures
 
 pub +put-digits-spec : {M : Type 1} → statement M
 +put-digits-spec = close μ-put-digits λ t. put-digits-lts.spec (

@@ -1,7 +1,7 @@
 -- `text_output::put_hexadecimal`: the digits of the sixteenth, and the last. The measure is the number of digits.
 use borrow.Author.Rules.{rules}
 use native.Mathlib.Omega.{arith}
-use Rattle.text_output.proofs.Digits.{hexadecimal-none-put, hexadecimal-more-put}
+use Rattle.text_output.proofs.Digits.{hexadecimal_none_put, hexadecimal_more_put}
 use Prim.Native.Nat.{ℕ, ◌<◌}
 use borrow.Fn.Kinds.{In}
 use borrow.Fn.PlainCycle.{Measures, is, falls, and}
@@ -42,7 +42,7 @@ put-hexadecimal-returns : (t : ℕ) → put-hexadecimal-lts.Need-returns (
 ) (put-hexadecimal-at t) put-hexadecimal.Post
 put-hexadecimal-returns t c =
     let a = c.before.before.args in
-    hexadecimal-none-put a.at a.n a.x a.out.now c.if1.taken
+    hexadecimal_none_put a.at a.n a.x a.out.now c.if1.taken
 
 put-hexadecimal-sub-put-hexadecimal : (t : ℕ) → put-hexadecimal-lts.Need-overflow-sub-put-hexadecimal (
   put-hexadecimal-below t,
@@ -106,7 +106,7 @@ put-hexadecimal-returns-2 : (t : ℕ) → put-hexadecimal-lts.Need-returns-2 (
 ) (put-hexadecimal-at t) put-hexadecimal.Post
 put-hexadecimal-returns-2 t c =
     let s = c.before.before.before.before.before.before.before.before.before.before.before in
-    hexadecimal-more-put s.args.at s.args.n s.args.x s.args.out.now c.before.before.before.before.before.before.before.before.before.if1.left s.pre.1 c.before.before.before.before.before.before.before.put-hexadecimal.ensures c.before.before.before.hex-digit.ensures c.before.before.put_byte.ensures
+    hexadecimal_more_put s.args.at s.args.n s.args.x s.args.out.now c.before.before.before.before.before.before.before.before.before.if1.left s.pre.1 c.before.before.before.before.before.before.before.put-hexadecimal.ensures c.before.before.before.hex-digit.ensures c.before.before.put_byte.ensures
 
 pub +put-hexadecimal-spec : {M : Type 1} → statement M
 +put-hexadecimal-spec = close μ-put-hexadecimal λ t. put-hexadecimal-lts.spec (

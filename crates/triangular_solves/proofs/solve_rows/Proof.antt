@@ -3,7 +3,7 @@ use borrow.Author.Rules.{rules}
 use Prim.Native.Nat.{◌-◌, ◌≤◌}
 use native.Mathlib.Omega.{arith}
 use Rattle.triangular_solves.proofs.scaled_row.Scaled.{row_sized}
-use Rattle.triangular_solves.proofs.Rows.{Rows, rows-room, rows_more, rows_all}
+use Rattle.triangular_solves.proofs.Rows.{Rows, rows_room, rows_more, rows_all}
 use Rattle.triangular_solves.proofs.solve_rows.Statement.{statement}
 use Rattle.triangular_solves.proofs.solve_rows.Tie as tie
 
@@ -19,12 +19,12 @@ w-at-requires c κs = let s = c.before.before.before.before.before in
 
 scale-row-requires : tie.Need-scale-row-requires invariant-loop decreases-loop
 scale-row-requires c κs = let s = c.before.before.before.before.before.before.before in
-    (s.pre.0, omega arith, rows-room c.before.before.before.loop.invariant.0 (omega arith) c.before.w_at.ensures)
+    (s.pre.0, omega arith, rows_room c.before.before.before.loop.invariant.0 (omega arith) c.before.w_at.ensures)
 
 backsolve-a-inv-requires : tie.Need-backsolve-a-inv-requires invariant-loop decreases-loop
 backsolve-a-inv-requires c κs =
     let s = c.before.before.before.before.before.before.before.before.before.before.before in
-    (s.pre.0, omega (arith, rows-room c.before.before.before.before.before.before.before.loop.invariant.0 (omega arith) c.before.before.before.before.before.w_at.ensures))
+    (s.pre.0, omega (arith, rows_room c.before.before.before.before.before.before.before.loop.invariant.0 (omega arith) c.before.before.before.before.before.w_at.ensures))
 
 loop-again : tie.Need-loop-preserved invariant-loop decreases-loop
 loop-again c =

@@ -13,45 +13,45 @@ use lib.ListN.{length, get_or, length-set}
 use lib.Seq.{get_or-set_same, get_or-set_other}
 use borrow.Author.Tests.{lt-ltb, le-leb, ltb-true, leb-true, eq-eqb, ne_eqb, eqb-true}
 use Rattle.storage.specs.Runs.{start, triangle}
-use Rattle.storage.proofs.Starts.{start-triangle, same-run, same-cell}
-use Rattle.step_order.specs.Steps.{Step, IsStep, row, col, index, forerunners, rustOrder}
-use Rattle.step_order.specs.Progress.{all, join, stepsLeft, done, advance, Bounded, Ready, Represents}
-use Rattle.step_order.proofs.Tables.{at, put-here, put-else, in-range, step-unique}
-use Rattle.step_order.proofs.Invariant.{bounded-moved}
-use Rattle.step_order.proofs.Sets.{ready-after, represents-same, represents-moved}
-use Rattle.step_order.proofs.Listing.{rust-named, rust-has}
-use Rattle.step_order.proofs.Left.{left-moved, left-represents}
+use Rattle.storage.proofs.Starts.{start_triangle, same_run, same_cell}
+use Rattle.step_order.specs.Steps.{Step, IsStep, row, col, index, forerunners, rust_order}
+use Rattle.step_order.specs.Progress.{all, join, steps_left, done, advance, Bounded, Ready, Represents}
+use Rattle.step_order.proofs.Tables.{at, put_here, put_else, in_range, step_unique}
+use Rattle.step_order.proofs.Invariant.{bounded_moved}
+use Rattle.step_order.proofs.Sets.{ready_after, represents_same, represents_moved}
+use Rattle.step_order.proofs.Listing.{rust_named, rust_has}
+use Rattle.step_order.proofs.Left.{left_moved, left_represents}
 use Rattle.layout.specs.declared.Layout.{Layout}
 use Rattle.heading_format.specs.declared.Progress.{Progress}
 use Rattle.heading_format.specs.declared.State.{State}
 use Rattle.heading_format.specs.declared.State.TheVariants.{Idle, UnderWay, Finished}
-use Rattle.layout.specs.Shapes.{levels, doublesNeeded}
-use Rattle.heading_format.specs.Heading.{stageOf, written, every, forerunnersDone, validState, validLayout, validProgress, validHeading, numbersNeeded}
-use Rattle.heading_format.proofs.Valid.{both, unless, unless-at, every_of, every-at}
-use Rattle.heading_format.proofs.Heading.{never-20}
+use Rattle.layout.specs.Shapes.{levels, doubles_needed}
+use Rattle.heading_format.specs.Heading.{stage_of, written, every, forerunners_done, valid_state, valid_layout, valid_progress, valid_heading, numbers_needed}
+use Rattle.heading_format.proofs.Valid.{both, unless, unless_at_lem, every_of, every_at}
+use Rattle.heading_format.proofs.Heading.{never_20}
 use Rattle.update.specs.Calls.{advanced}
-use Rattle.step_order.proofs.Next.{all-grows}
-use Rattle.heading_format.specs.Parts.{mostTargets, headingLength}
+use Rattle.step_order.proofs.Next.{all_grows}
+use Rattle.heading_format.specs.Parts.{most_targets, heading_length}
 
 -- ---- no step is done without its forerunners, as a fact
 -- the test passes where it holds of every step of the list
-forerun-of : (g : ℕ → ℕ → ℕ) (l : List Step) → ((s : Step) → Memᴰ s l → done g s ≡ true → all (done g) (forerunners s) ≡ true) → forerunnersDone g l ≡ true
-forerun-of g [] h = refl
-forerun-of g (s ∷ l) h =
-    both (not (done g s) || all (done g) (forerunners s)) (forerunnersDone g l) (unless (done g s) (all (done g) (forerunners s)) (h s (Memᴰ.head refl)))
-    (forerun-of g l (λ t m. h t (Memᴰ.tail m)))
+forerun_of : (g : ℕ → ℕ → ℕ) (l : List Step) → ((s : Step) → Memᴰ s l → done g s ≡ true → all (done g) (forerunners s) ≡ true) → forerunners_done g l ≡ true
+forerun_of g [] h = refl
+forerun_of g (s ∷ l) h =
+    both (not (done g s) || all (done g) (forerunners s)) (forerunners_done g l) (unless (done g s) (all (done g) (forerunners s)) (h s (Memᴰ.head refl)))
+    (forerun_of g l (λ t m. h t (Memᴰ.tail m)))
 
 -- and where it passes, it holds of every step
-forerun-at : (g : ℕ → ℕ → ℕ) (l : List Step) → forerunnersDone g l ≡ true → (s : Step) → Memᴰ s l → done g s ≡ true → all (done g) (forerunners s) ≡ true
-forerun-at g [] e s m = absurd (Memᴰ.not-nil m)
-forerun-at g (t ∷ l) e s m =
-    let k = (and-eq-true_iff (not (done g t) || all (done g) (forerunners t)) (forerunnersDone g l)).0 e in
-    ⊎_elim (λ q. rw q (unless-at (done g t) (all (done g) (forerunners t)) k.0)) (forerun-at g l k.1 s) (Memᴰ.cases_cons m)
+forerun_at : (g : ℕ → ℕ → ℕ) (l : List Step) → forerunners_done g l ≡ true → (s : Step) → Memᴰ s l → done g s ≡ true → all (done g) (forerunners s) ≡ true
+forerun_at g [] e s m = absurd (Memᴰ.not-nil m)
+forerun_at g (t ∷ l) e s m =
+    let k = (and-eq-true_iff (not (done g t) || all (done g) (forerunners t)) (forerunners_done g l)).0 e in
+    ⊎_elim (λ q. rw q (unless_at_lem (done g t) (all (done g) (forerunners t)) k.0)) (forerun_at g l k.1 s) (Memᴰ.cases_cons m)
 
 -- ---- a valid progress, taken apart
 pub record StaysValid (k : ℕ) (g : Progress) : Type 0 where
-  pub most : Bounded k (stageOf g)
-  pub left : g.left ≡ stepsLeft k (done (stageOf g))
+  pub most : Bounded k (stage_of g)
+  pub left : g.left ≡ steps_left k (done (stage_of g))
 
 -- the parts of a true conjunction
 four : (a b c d : Bool) → (a && b && c && d) ≡ true → (a ≡ true) × (b ≡ true) × (c ≡ true) × (d ≡ true)
@@ -63,72 +63,72 @@ four a b c d t =
 
 -- the bound of every stage, as a test
 abbrev bounded : ℕ → Progress → Bool
-bounded k g = every (λ i. every (λ j. leb (stageOf g i j) (suc j)) (suc i)) (suc k)
+bounded k g = every (λ i. every (λ j. leb (stage_of g i j) (suc j)) (suc i)) (suc k)
 
 -- the four tests of a valid progress
-tests : (k : ℕ) (g : Progress) → validProgress k g ≡ true
-    → (bounded k g ≡ true) × (eqb g.left (stepsLeft k (done (stageOf g))) ≡ true) × (forerunnersDone (stageOf g) (rustOrder k) ≡ true) × (validState g.state g.left (length (rustOrder k)) ≡ true)
-unfolding validProgress
-tests k g = four (bounded k g) (eqb g.left (stepsLeft k (done (stageOf g)))) (forerunnersDone (stageOf g) (rustOrder k)) (validState g.state g.left (length (rustOrder k)))
+tests : (k : ℕ) (g : Progress) → valid_progress k g ≡ true
+    → (bounded k g ≡ true) × (eqb g.left (steps_left k (done (stage_of g))) ≡ true) × (forerunners_done (stage_of g) (rust_order k) ≡ true) × (valid_state g.state g.left (length (rust_order k)) ≡ true)
+unfolding valid_progress
+tests k g = four (bounded k g) (eqb g.left (steps_left k (done (stage_of g)))) (forerunners_done (stage_of g) (rust_order k)) (valid_state g.state g.left (length (rust_order k)))
 
 -- no stage is past its target's last step, and the steps left are those outside the set
-pub stays-valid : (k : ℕ) (g : Progress) → validProgress k g ≡ true → StaysValid k g
-stays-valid k g e =
+pub stays_valid : (k : ℕ) (g : Progress) → valid_progress k g ≡ true → StaysValid k g
+stays_valid k g e =
     let t = tests k g e in
     record {
       most =
           λ i j l m.
-          leb-true (stageOf g i j) (suc j)
-          (every-at (λ c. leb (stageOf g i c) (suc c)) (suc i) (every-at (λ r. every (λ c. leb (stageOf g r c) (suc c)) (suc r)) (suc k) t.0 i (omega arith)) j (omega arith));
-      left = eqb-true g.left (stepsLeft k (done (stageOf g))) t.1;
+          leb-true (stage_of g i j) (suc j)
+          (every_at (λ c. leb (stage_of g i c) (suc c)) (suc i) (every_at (λ r. every (λ c. leb (stage_of g r c) (suc c)) (suc r)) (suc k) t.0 i (omega arith)) j (omega arith));
+      left = eqb-true g.left (steps_left k (done (stage_of g))) t.1;
     }
 
 -- every done step of a valid progress has its forerunners done
-pub stays-valid-after : (k : ℕ) (g : Progress) → validProgress k g ≡ true → (s : Step) → IsStep k s → done (stageOf g) s ≡ true → all (done (stageOf g)) (forerunners s) ≡ true
-stays-valid-after k g e s n = forerun-at (stageOf g) (rustOrder k) (tests k g e).2 s (rust-has k s n)
+pub stays_valid_after : (k : ℕ) (g : Progress) → valid_progress k g ≡ true → (s : Step) → IsStep k s → done (stage_of g) s ≡ true → all (done (stage_of g)) (forerunners s) ≡ true
+stays_valid_after k g e s n = forerun_at (stage_of g) (rust_order k) (tests k g e).2 s (rust_has k s n)
 
 -- and facts put together
-pub valid-of : (k : ℕ) (g : Progress) → Bounded k (stageOf g) → g.left ≡ stepsLeft k (done (stageOf g))
-    → ((s : Step) → IsStep k s → done (stageOf g) s ≡ true → all (done (stageOf g)) (forerunners s) ≡ true) → validState g.state g.left (length (rustOrder k)) ≡ true → validProgress k g ≡ true
-unfolding validProgress
-valid-of k g most left fore state =
+pub valid_of : (k : ℕ) (g : Progress) → Bounded k (stage_of g) → g.left ≡ steps_left k (done (stage_of g))
+    → ((s : Step) → IsStep k s → done (stage_of g) s ≡ true → all (done (stage_of g)) (forerunners s) ≡ true) → valid_state g.state g.left (length (rust_order k)) ≡ true → valid_progress k g ≡ true
+unfolding valid_progress
+valid_of k g most left fore state =
     both _ _
     (both _ _
     (both _ _
-    (every_of (λ i. every (λ j. leb (stageOf g i j) (suc j)) (suc i)) (suc k)
-    (λ i l. every_of (λ j. leb (stageOf g i j) (suc j)) (suc i) (λ j m. le-leb (stageOf g i j) (suc j) (most i j (omega arith) (omega arith)))))
-    (eq-eqb g.left (stepsLeft k (done (stageOf g))) left))
-    (forerun-of (stageOf g) (rustOrder k) (λ s m. fore s (rust-named k s m))))
+    (every_of (λ i. every (λ j. leb (stage_of g i j) (suc j)) (suc i)) (suc k)
+    (λ i l. every_of (λ j. leb (stage_of g i j) (suc j)) (suc i) (λ j m. le-leb (stage_of g i j) (suc j) (most i j (omega arith) (omega arith)))))
+    (eq-eqb g.left (steps_left k (done (stage_of g))) left))
+    (forerun_of (stage_of g) (rust_order k) (λ s m. fore s (rust_named k s m))))
     state
 
 -- ---- the state of a valid progress goes with the steps left
-pub state-law : (k : ℕ) (g : Progress) → validProgress k g ≡ true → validState g.state g.left (length (rustOrder k)) ≡ true
-state-law k g e = (tests k g e).3
+pub state_law : (k : ℕ) (g : Progress) → valid_progress k g ≡ true → valid_state g.state g.left (length (rust_order k)) ≡ true
+state_law k g e = (tests k g e).3
 
 -- an update that is begun is finished with no step left, and under way before
-pub begun-state : (s : State) (left every-step : ℕ) → (s ≡ Idle → ⊥) → validState s left every-step ≡ true → s ≡ cond (eqb left 0) Finished UnderWay
-begun-state Idle left every-step b e = absurd (b refl)
-begun-state UnderWay left every-step b e = rw (ne_eqb left 0 (λ q. omega (arith, ltb-true 0 left e)))
-begun-state Finished left every-step b e = rw e
+pub begun_state : (s : State) (left every-step : ℕ) → (s ≡ Idle → ⊥) → valid_state s left every-step ≡ true → s ≡ cond (eqb left 0) Finished UnderWay
+begun_state Idle left every-step b e = absurd (b refl)
+begun_state UnderWay left every-step b e = rw (ne_eqb left 0 (λ q. omega (arith, ltb-true 0 left e)))
+begun_state Finished left every-step b e = rw e
 
 -- so with a step left it is under way
-pub under-way : (s : State) (left every-step : ℕ) → (s ≡ Idle → ⊥) → validState s left every-step ≡ true → 1 ≤ left → s ≡ UnderWay
-under-way s left every-step b e h = begun-state s left every-step b e ∙ rw (ne_eqb left 0 (λ q. omega arith))
+pub under_way_lem : (s : State) (left every-step : ℕ) → (s ≡ Idle → ⊥) → valid_state s left every-step ≡ true → 1 ≤ left → s ≡ UnderWay
+under_way_lem s left every-step b e h = begun_state s left every-step b e ∙ rw (ne_eqb left 0 (λ q. omega arith))
 
 -- after a step it is not none
-abbrev pub isIdle : State → Bool
-isIdle Idle = true
-isIdle UnderWay = false
-isIdle Finished = false
+abbrev pub is_idle : State → Bool
+is_idle Idle = true
+is_idle UnderWay = false
+is_idle Finished = false
 
-pub never-idle : (b : Bool) → cond b Finished UnderWay ≡ Idle → ⊥
-never-idle true e = true≢false (ap isIdle (sym e))
-never-idle false e = true≢false (ap isIdle (sym e))
+pub never_idle : (b : Bool) → cond b Finished UnderWay ≡ Idle → ⊥
+never_idle true e = true≢false (ap is_idle (sym e))
+never_idle false e = true≢false (ap is_idle (sym e))
 
 -- a state under way is valid after a step more: under way, or finished with the last
-state-advanced : (s : State) (left every-step : ℕ) → s ≡ UnderWay → validState s left every-step ≡ true
-    → (0 < left) × (validState (cond (eqb left 1) Finished UnderWay) (left - 1) every-step ≡ true)
-state-advanced s left every-step u e =
+state_advanced : (s : State) (left every-step : ℕ) → s ≡ UnderWay → valid_state s left every-step ≡ true
+    → (0 < left) × (valid_state (cond (eqb left 1) Finished UnderWay) (left - 1) every-step ≡ true)
+state_advanced s left every-step u e =
     let going : 0 < left = ltb-true 0 left (rw u at e) in (
       going,
       by_cases (dec_lt 1 left) (λ m. rw (ne_eqb left 1 (λ q. omega arith)) (lt-ltb 0 (left - 1) (omega arith)))
@@ -136,94 +136,94 @@ state-advanced s left every-step u e =
     )
 
 -- target (i, j) of nine rows at most has a stage
-below-most : (i j : ℕ) → j ≤ i → i ≤ 8 → start triangle i + j < mostTargets
-below-most i j l m = let g : i + 1 ≤ 9 = omega arith in omega (arith, start-triangle i, mul-le-mul m g)
+below_most : (i j : ℕ) → j ≤ i → i ≤ 8 → start triangle i + j < most_targets
+below_most i j l m = let g : i + 1 ≤ 9 = omega arith in omega (arith, start_triangle i, mul-le-mul m g)
 
-module _ (k : ℕ) (few : k ≤ 8) (g : Progress) (many : length g.stages ≡ mostTargets) (s : Step) (n : IsStep k s) where
+module _ (k : ℕ) (few : k ≤ 8) (g : Progress) (many : length g.stages ≡ most_targets) (s : Step) (n : IsStep k s) where
   -- its target has a stage
-  pub place-below : start triangle (row s) + col s < mostTargets
-  place-below = below-most (row s) (col s) (in-range k s n).1 (omega (arith, in-range k s n))
+  pub place_below : start triangle (row s) + col s < most_targets
+  place_below = below_most (row s) (col s) (in_range k s n).1 (omega (arith, in_range k s n))
 
   -- the stages stay as many
-  pub length-advanced : length (advanced g s).stages ≡ mostTargets
-  length-advanced = length-set g.stages (start triangle (row s) + col s) (suc (index s)) ∙ many
+  pub length_advanced : length (advanced g s).stages ≡ most_targets
+  length_advanced = length-set g.stages (start triangle (row s) + col s) (suc (index s)) ∙ many
 
   -- its stage alone moves
-  pub stage-advanced : (i j : ℕ) → j ≤ i → i ≤ k → stageOf (advanced g s) i j ≡ advance (stageOf g) s i j
-  stage-advanced i j l m =
+  pub stage_advanced : (i j : ℕ) → j ≤ i → i ≤ k → stage_of (advanced g s) i j ≡ advance (stage_of g) s i j
+  stage_advanced i j l m =
       ⊎_elim
       (λ w. rw (w.0, w.1)
-      (get_or-set_same g.stages (start triangle (row s) + col s) (suc (index s)) 0 (omega (arith, place-below))
-      ∙ sym (put-here (stageOf g) (row s) (col s) (suc (index s)))))
+      (get_or-set_same g.stages (start triangle (row s) + col s) (suc (index s)) 0 (omega (arith, place_below))
+      ∙ sym (put_here (stage_of g) (row s) (col s) (suc (index s)))))
       (λ w. get_or-set_other g.stages (start triangle (row s) + col s) (start triangle i + j) (suc (index s)) 0 (other w.1)
-      ∙ sym (put-else (stageOf g) (row s) (col s) (suc (index s)) i j w.1))
+      ∙ sym (put_else (stage_of g) (row s) (col s) (suc (index s)) i j w.1))
       (at i j (row s) (col s))
     where
       other : (i ≡ row s → j ≡ col s → ⊥) → start triangle i + j ≡ start triangle (row s) + col s → ⊥
       other f e =
           let a : j < triangle i = omega arith in
-          let b : col s < triangle (row s) = omega (arith, in-range k s n) in
-          f (same-run triangle i j (row s) (col s) a b e) (same-cell triangle i j (row s) (col s) a b e)
+          let b : col s < triangle (row s) = omega (arith, in_range k s n) in
+          f (same_run triangle i j (row s) (col s) a b e) (same_cell triangle i j (row s) (col s) a b e)
 
   -- a ready step joins the set that the stages stand for
-  pub represents-advanced : (d : Step → Bool) → Bounded k (stageOf g) → Represents k (stageOf g) d → Ready (stageOf g) s → Represents k (stageOf (advanced g s)) (join d s)
-  represents-advanced d most is r =
-      represents-same k (advance (stageOf g) s) (stageOf (advanced g s)) (join d s) (λ i j l m. sym (stage-advanced i j l m)) (represents-moved k (stageOf g) most d is s n r)
+  pub represents_advanced : (d : Step → Bool) → Bounded k (stage_of g) → Represents k (stage_of g) d → Ready (stage_of g) s → Represents k (stage_of (advanced g s)) (join d s)
+  represents_advanced d most is r =
+      represents_same k (advance (stage_of g) s) (stage_of (advanced g s)) (join d s) (λ i j l m. sym (stage_advanced i j l m)) (represents_moved k (stage_of g) most d is s n r)
 
   -- no stage falls
-  stage-rises : stageOf g (row s) (col s) ≡ index s → (i j : ℕ) → stageOf g i j ≤ stageOf (advanced g s) i j
-  stage-rises r i j =
+  stage_rises : stage_of g (row s) (col s) ≡ index s → (i j : ℕ) → stage_of g i j ≤ stage_of (advanced g s) i j
+  stage_rises r i j =
       ⊎_elim
       (λ w. let e : start triangle i + j ≡ start triangle (row s) + col s = w.0 in
       omega (
         arith,
         ap (λ (x : ℕ). get_or g.stages x 0) e,
         ap (λ (x : ℕ). get_or (advanced g s).stages x 0) e,
-        get_or-set_same g.stages (start triangle (row s) + col s) (suc (index s)) 0 (omega (arith, place-below)),
+        get_or-set_same g.stages (start triangle (row s) + col s) (suc (index s)) 0 (omega (arith, place_below)),
       ))
       (λ w. omega (arith, get_or-set_other g.stages (start triangle (row s) + col s) (start triangle i + j) (suc (index s)) 0 (λ e. w.1 e refl)))
       (at (start triangle i + j) 0 (start triangle (row s) + col s) 0)
 
   -- a ready step of an update under way leaves a valid progress
-  pub valid-advanced : validProgress k g ≡ true → g.state ≡ UnderWay → Ready (stageOf g) s → validProgress k (advanced g s) ≡ true
-  valid-advanced e u r =
-      let f = stays-valid k g e in
-      let state = state-advanced g.state g.left (length (rustOrder k)) u (tests k g e).3 in
-      let d : Represents k (stageOf (advanced g s)) (done (advance (stageOf g) s)) =
-      represents-same k (advance (stageOf g) s) (stageOf (advanced g s)) (done (advance (stageOf g) s)) (λ i j l m. sym (stage-advanced i j l m)) (λ t o. refl) in
-      valid-of k (advanced g s)
-      (λ i j l m. rw (stage-advanced i j l m) (bounded-moved k (stageOf g) f.most s n i j l m))
-      (omega (arith, f.left, left-moved k (stageOf g) f.most s n r, left-represents k (stageOf (advanced g s)) (done (advance (stageOf g) s)) d))
+  pub valid_advanced : valid_progress k g ≡ true → g.state ≡ UnderWay → Ready (stage_of g) s → valid_progress k (advanced g s) ≡ true
+  valid_advanced e u r =
+      let f = stays_valid k g e in
+      let state = state_advanced g.state g.left (length (rust_order k)) u (tests k g e).3 in
+      let d : Represents k (stage_of (advanced g s)) (done (advance (stage_of g) s)) =
+      represents_same k (advance (stage_of g) s) (stage_of (advanced g s)) (done (advance (stage_of g) s)) (λ i j l m. sym (stage_advanced i j l m)) (λ t o. refl) in
+      valid_of k (advanced g s)
+      (λ i j l m. rw (stage_advanced i j l m) (bounded_moved k (stage_of g) f.most s n i j l m))
+      (omega (arith, f.left, left_moved k (stage_of g) f.most s n r, left_represents k (stage_of (advanced g s)) (done (advance (stage_of g) s)) d))
       fore
       state.1
     where
-      more : (t : Step) → done (stageOf g) t ≡ true → done (stageOf (advanced g s)) t ≡ true
-      more t q = lt-ltb (index t) (stageOf (advanced g s) (row t) (col t)) (omega (arith, ltb-true (index t) (stageOf g (row t) (col t)) q, stage-rises r.0 (row t) (col t)))
+      more : (t : Step) → done (stage_of g) t ≡ true → done (stage_of (advanced g s)) t ≡ true
+      more t q = lt-ltb (index t) (stage_of (advanced g s) (row t) (col t)) (omega (arith, ltb-true (index t) (stage_of g (row t) (col t)) q, stage_rises r.0 (row t) (col t)))
 
-      fore : (t : Step) → IsStep k t → done (stageOf (advanced g s)) t ≡ true → all (done (stageOf (advanced g s))) (forerunners t) ≡ true
+      fore : (t : Step) → IsStep k t → done (stage_of (advanced g s)) t ≡ true → all (done (stage_of (advanced g s))) (forerunners t) ≡ true
       fore t o q =
-          all-grows (done (stageOf g)) (done (stageOf (advanced g s))) more (forerunners t)
-          (by_cases (dec_lt (index t) (stageOf g (row t) (col t))) (λ m. stays-valid-after k g e t o (lt-ltb (index t) (stageOf g (row t) (col t)) m)) (λ m. rw (new m) ((ready-after k (stageOf g) (stays-valid k g e).most (done (stageOf g)) (λ x y. refl) s n).0 r).1))
+          all_grows (done (stage_of g)) (done (stage_of (advanced g s))) more (forerunners t)
+          (by_cases (dec_lt (index t) (stage_of g (row t) (col t))) (λ m. stays_valid_after k g e t o (lt-ltb (index t) (stage_of g (row t) (col t)) m)) (λ m. rw (new m) ((ready_after k (stage_of g) (stays_valid k g e).most (done (stage_of g)) (λ x y. refl) s n).0 r).1))
         where
-          new : (index t < stageOf g (row t) (col t) → ⊥) → t ≡ s
+          new : (index t < stage_of g (row t) (col t) → ⊥) → t ≡ s
           new m =
-              let b : index t < advance (stageOf g) s (row t) (col t) =
-              rw (stage-advanced (row t) (col t) (in-range k t o).1 (in-range k t o).2) at (ltb-true (index t) (stageOf (advanced g s) (row t) (col t)) q) in
+              let b : index t < advance (stage_of g) s (row t) (col t) =
+              rw (stage_advanced (row t) (col t) (in_range k t o).1 (in_range k t o).2) at (ltb-true (index t) (stage_of (advanced g s) (row t) (col t)) q) in
               ⊎_elim
-              (λ w. let c : index t < suc (index s) = rw (w.0, w.1, put-here (stageOf g) (row s) (col s) (suc (index s))) at b in
-              let a : stageOf g (row t) (col t) ≡ stageOf g (row s) (col s) = ap₂ (stageOf g) w.0 w.1 in
-              step-unique k t s o n w.0 w.1 (omega (arith, r.0)))
-              (λ w. absurd (m (rw (put-else (stageOf g) (row s) (col s) (suc (index s)) (row t) (col t) w.1) at b)))
+              (λ w. let c : index t < suc (index s) = rw (w.0, w.1, put_here (stage_of g) (row s) (col s) (suc (index s))) at b in
+              let a : stage_of g (row t) (col t) ≡ stage_of g (row s) (col s) = ap₂ (stage_of g) w.0 w.1 in
+              step_unique k t s o n w.0 w.1 (omega (arith, r.0)))
+              (λ w. absurd (m (rw (put_else (stage_of g) (row s) (col s) (suc (index s)) (row t) (col t) w.1) at b)))
               (at (row t) (col t) (row s) (col s))
 
 -- ---- a heading is never refused with 20 where layout and progress are valid, and numbers and doubles are enough
-module _ (y : Layout) (valid-layout : validLayout y ≡ true) (eight : length y.m ≡ 8) (eight' : length y.order ≡ 8)
-    (rest : List ℕ) (numbers : numbersNeeded y ≤ headingLength + length rest) (rows : y.sparse ≡ true → (c : ℕ) → c < levels y 0 → get_or rest c 0 < levels y 1)
-    (g : Progress) (many : length g.stages ≡ mostTargets) (valid-progress : validProgress y.k g ≡ true) where
+module _ (y : Layout) (valid-layout : valid_layout y ≡ true) (eight : length y.m ≡ 8) (eight' : length y.order ≡ 8)
+    (rest : List ℕ) (numbers : numbers_needed y ≤ heading_length + length rest) (rows : y.sparse ≡ true → (c : ℕ) → c < levels y 0 → get_or rest c 0 < levels y 1)
+    (g : Progress) (many : length g.stages ≡ most_targets) (valid_progress_lem : valid_progress y.k g ≡ true) where
   -- whatever number of doubles is lent, if they are enough
-  pub valid-heading-written : (doubles : ℕ) → doublesNeeded y ≤ doubles → validHeading (written y g ++ rest) doubles ≡ true
-  valid-heading-written doubles room =
-      never-20 y g rest doubles valid-layout valid-progress eight eight' many (λ s. (long y.sparse s numbers, rows s)) room
+  pub valid_heading_written : (doubles : ℕ) → doubles_needed y ≤ doubles → valid_heading (written y g ++ rest) doubles ≡ true
+  valid_heading_written doubles room =
+      never_20 y g rest doubles valid-layout valid_progress_lem eight eight' many (λ s. (long y.sparse s numbers, rows s)) room
     where
-      long : (b : Bool) → b ≡ true → headingLength + cond b (levels y 0) 0 ≤ headingLength + length rest → levels y 0 ≤ length rest
-      long b e h = let z : headingLength + levels y 0 ≤ headingLength + length rest = rw e at h in omega arith
+      long : (b : Bool) → b ≡ true → heading_length + cond b (levels y 0) 0 ≤ heading_length + length rest → levels y 0 ≤ length rest
+      long b e h = let z : heading_length + levels y 0 ≤ heading_length + length rest = rw e at h in omega arith

@@ -1,5 +1,5 @@
 -- `begin::init_blocks::init_blocks`: kind by kind.
-use Rattle.begin.proofs.scaled_blocks.Blocks.{targets-done}
+use Rattle.begin.proofs.scaled_blocks.Blocks.{targets_done}
 use native.Mathlib.Omega.{arith}
 use borrow.Author.Rules.{rules}
 use Rattle.begin.proofs.init_blocks.init_blocks.Statement.{statement}
@@ -12,7 +12,7 @@ init-row-requires c κs = let s = c.before.before.before.before.before.before.be
 returns : tie.Need-returns
 returns c =
     let s = c.before.before.before.before.before.before.before.before.before.before.before.before.before.before.before.before.before.before in
-    targets-done s.args.layout s.args.theta.now s.args.doubles.now _ _ _ _ c.before.before.before.before.before.before.before.before.before.before.before.before.before.before.init-factors.ensures c.before.before.before.before.before.before.before.before.before.before.init-pairs.ensures c.before.before.before.before.before.before.init-row.ensures c.before.before.init-last.ensures
+    targets_done s.args.layout s.args.theta.now s.args.doubles.now _ _ _ _ c.before.before.before.before.before.before.before.before.before.before.before.before.before.before.init-factors.ensures c.before.before.before.before.before.before.before.before.before.before.init-pairs.ensures c.before.before.before.before.before.before.init-row.ensures c.before.before.init-last.ensures
 
 pub init-blocks-spec : {M : Type 1} → statement M
 init-blocks-spec = tie.close (tie.spec (λ c κs. search rules) (λ c κs. search rules) init-row-requires

@@ -2,9 +2,9 @@
 use Prim.Native.Nat.{◌-◌}
 use native.Mathlib.Omega.{arith}
 use Rattle.layout.specs.Shapes.{across, pairs}
-use Rattle.block_places.proofs.block_sizes.Growing.{pairs-grow}
-use Rattle.block_places.proofs.block_sizes.Sizes.{few-blocks}
-use Rattle.begin.proofs.scaled_blocks.Blocks.{Scaling, scaling-none, scaling-more, scaling-all}
+use Rattle.block_places.proofs.block_sizes.Growing.{pairs_grow}
+use Rattle.block_places.proofs.block_sizes.Sizes.{few_blocks}
+use Rattle.begin.proofs.scaled_blocks.Blocks.{Scaling, scaling_none, scaling_more, scaling_all}
 use Rattle.begin.proofs.init_blocks.init_pairs.Statement.{statement}
 use Rattle.begin.proofs.init_blocks.init_pairs.Tie as tie
 
@@ -20,18 +20,18 @@ init-row-requires c κs = let s = c.before.before.before.before.before in let l 
 
 add-i : tie.Need-overflow-add-i invariant-loop decreases-loop
 add-i c = let s = c.before.before.before.before.before.before.before.before in
-    omega (arith, few-blocks s.args.layout s.pre.0.valid, c.before.before.before.before.before.loop.invariant.within, c.before.before.before.before.loop-test.true)
+    omega (arith, few_blocks s.args.layout s.pre.0.valid, c.before.before.before.before.before.loop.invariant.within, c.before.before.before.before.loop-test.true)
 
 loop-less : tie.Need-loop-smaller invariant-loop decreases-loop
 loop-less c = omega (arith, c.before.before.before.before.loop-test.true)
 
 loop-again : tie.Need-loop-preserved invariant-loop decreases-loop
 loop-again c =
-    scaling-more c.before.before.before.before.before.loop.invariant c.before.before.before.before.loop-test.true c.before.before.init-row.ensures (omega arith)
+    scaling_more c.before.before.before.before.before.loop.invariant c.before.before.before.before.loop-test.true c.before.before.init-row.ensures (omega arith)
 
 returns : tie.Need-returns invariant-loop decreases-loop
-returns c = scaling-all c.before.loop.invariant (omega arith)
+returns c = scaling_all c.before.loop.invariant (omega arith)
 
 pub init-pairs-spec : {M : Type 1} → statement M
-init-pairs-spec = tie.close (tie.spec invariant-loop decreases-loop (λ c. scaling-none pairs-grow) init-row-requires add-i
+init-pairs-spec = tie.close (tie.spec invariant-loop decreases-loop (λ c. scaling_none pairs_grow) init-row-requires add-i
     loop-less loop-again (λ c. c.before.loop.invariant.long) returns)

@@ -4,9 +4,9 @@ use mathlib.Core.Path.{◌≡◌, sym, subst, ◌∙◌}
 use mathlib.Core.Logic.{⊎_elim}
 use native.Mathlib.Omega.{arith}
 use Rattle.layout.specs.Shapes.{targets, factors, cells_of, before}
-use Rattle.block_places.specs.block_sizes.Kind.{sizesOf}
+use Rattle.block_places.specs.block_sizes.Kind.{sizes_of}
 use Rattle.block_places.proofs.block_sizes.Sizes.{before_small}
-use Rattle.block_places.proofs.block_sizes.Before.{before-factor, before-row}
+use Rattle.block_places.proofs.block_sizes.Before.{before_factor, before_row}
 use borrow.Author.Rules.{rules}
 use Rattle.block_places.proofs.block_sizes.cells_before.Statement.{statement}
 use Rattle.block_places.proofs.block_sizes.cells_before.Tie as tie
@@ -15,8 +15,8 @@ returns : tie.Need-returns
 returns c = let a = c.before.before.before.before.args in let e : a.i ≡ a.j = c.before.before.before.if1.true in
     c.factor-cells.ensures
     ∙ sym
-    (subst (λ (x : ℕ). before (sizesOf a.layout a.loaded) (targets a.layout.k) x a.j ≡ cells_of (sizesOf a.layout a.loaded) (factors a.j)) (sym e)
-    (before-factor (sizesOf a.layout a.loaded) a.layout.k a.j (omega arith)))
+    (subst (λ (x : ℕ). before (sizes_of a.layout a.loaded) (targets a.layout.k) x a.j ≡ cells_of (sizes_of a.layout a.loaded) (factors a.j)) (sym e)
+    (before_factor (sizes_of a.layout a.loaded) a.layout.k a.j (omega arith)))
 
 add-result : tie.Need-overflow-add-result
 add-result c = let s = c.before.before.before in let a = s.args in
@@ -34,7 +34,7 @@ add-result-2 c = let s = c.before.before.before.before in let a = s.args in omeg
 returns-2 : tie.Need-returns-2
 returns-2 c = let s = c.before.before.before.before in let a = s.args in omega (
   arith,
-  before-row (sizesOf a.layout a.loaded) a.layout.k a.i a.j s.pre.1 s.pre.2 (⊎_elim (λ t e l. omega arith) (λ t e l. absurd (t.left e)) c.before.before.before.if1.branch),
+  before_row (sizes_of a.layout a.loaded) a.layout.k a.i a.j s.pre.1 s.pre.2 (⊎_elim (λ t e l. omega arith) (λ t e l. absurd (t.left e)) c.before.before.before.if1.branch),
   c.before.before.factor-cells2.ensures,
   c.before.pair-cells.ensures,
   c.row-cells.ensures,

@@ -1,11 +1,11 @@
 -- `block_places::places::theta_at`: all loaded cells.
-use Rattle.layout.specs.Shapes.{triangleEnd}
+use Rattle.layout.specs.Shapes.{triangle_end}
 use borrow.Author.Rules.{rules}
 use Rattle.block_places.proofs.places.theta_at.Statement.{statement}
 use Rattle.block_places.proofs.places.theta_at.Tie as tie
 
 returns : tie.Need-returns
-unfolding triangleEnd
+unfolding triangle_end
 returns c = c.all-cells.ensures
 
 pub theta-at-spec : {M : Type 1} → statement M

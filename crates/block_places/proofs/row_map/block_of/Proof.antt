@@ -8,26 +8,26 @@ use borrow.Author.Rules.{rules}
 use lib.Dec.{ltb, leb}
 use lib.ListN.{get_or}
 use Rattle.layout.specs.declared.Layout.{Layout}
-use Rattle.heading_format.proofs.Valid.{is-valid}
-use Rattle.block_places.specs.sheet_rows.Blocks.{blockOfRow, FirstRows}
+use Rattle.heading_format.proofs.Valid.{is_valid}
+use Rattle.block_places.specs.sheet_rows.Blocks.{block_of_row, FirstRows}
 use Rattle.block_places.proofs.sheet_rows.Rows.{start_small, block_none, block_more}
 use Rattle.block_places.proofs.row_map.block_of.Statement.{statement}
 use Rattle.block_places.proofs.row_map.block_of.Tie as tie
 
 abbrev invariant-loop : tie.invariant-loop
 invariant-loop counts first x k b₀ j₀ b j =
-    (k ≤ 8) × (j ≤ k) × ((y : Layout) → y.k ≡ k → counts ≡ y.m → FirstRows y first → b ≡ blockOfRow y j x)
+    (k ≤ 8) × (j ≤ k) × ((y : Layout) → y.k ≡ k → counts ≡ y.m → FirstRows y first → b ≡ block_of_row y j x)
 
 abbrev decreases-loop : tie.decreases-loop
 decreases-loop counts first x k b₀ j₀ b j = k - j
 
 loop-holds : tie.Need-loop-init invariant-loop decreases-loop
-loop-holds c = ((is-valid c.args.layout c.requires.0).blocks.1, omega arith, λ y e f g. sym e ∙ block_none y c.args.x)
+loop-holds c = ((is_valid c.args.layout c.requires.0).blocks.1, omega arith, λ y e f g. sym e ∙ block_none y c.args.x)
 
 within-requires : tie.Need-within-requires invariant-loop decreases-loop
 within-requires c κs = let s = c.before.before.before.before in let j = c.before.before.before.loop.j in (
   omega (arith, s.pre.2 j (omega arith), start_small s.args.layout s.pre.0 j (omega arith)),
-  omega (arith, ap (λ (t : List ℕ). get_or t j 0) s.pre.1, ((is-valid s.args.layout s.pre.0).level j (omega arith)).1),
+  omega (arith, ap (λ (t : List ℕ). get_or t j 0) s.pre.1, ((is_valid s.args.layout s.pre.0).level j (omega arith)).1),
 )
 
 loop-again : tie.Need-loop-preserved invariant-loop decreases-loop
@@ -42,7 +42,7 @@ loop-again c = let s = c.before.before.before.before.before.before in
 
 returns : tie.Need-returns invariant-loop decreases-loop
 returns c = let s = c.before.before in let l = c.before.loop in
-    l.inv.2 s.args.layout refl s.pre.1 s.pre.2 ∙ ap (λ (j : ℕ). blockOfRow s.args.layout j s.args.x) (omega arith)
+    l.inv.2 s.args.layout refl s.pre.1 s.pre.2 ∙ ap (λ (j : ℕ). block_of_row s.args.layout j s.args.x) (omega arith)
 
 pub block-of-spec : {M : Type 1} → statement M
 block-of-spec = tie.close (tie.spec invariant-loop decreases-loop loop-holds (λ c. search rules) (λ c. search rules)

@@ -4,29 +4,29 @@ use mathlib.Core.Path.{refl}
 use Prim.Native.Nat.{◌-◌}
 use native.Mathlib.Omega.{arith}
 use lib.Ieee.{Float, nan}
-use Rattle.storage.proofs.Filling.{Filling, filling-none, filling-next, filling-done}
+use Rattle.storage.proofs.Filling.{Filling, filling_none, filling_next, filling_done}
 use Rattle.rules.specs.Arithmetic.{ieee}
-use Rattle.block_runs.specs.axpy.Axpy.{at, oneMore}
+use Rattle.block_runs.specs.axpy.Axpy.{at, one_more}
 use Rattle.block_runs.proofs.axpy.add_four.Statement.{statement}
 use Rattle.block_runs.proofs.axpy.add_four.Tie as tie
 
 abbrev invariant-loop : tie.invariant-loop
-invariant-loop acc₀ n w p p1 p2 p3 f f1 f2 f3 i₀ acc i = Filling (oneMore ieee.plus w p3 f3 (oneMore ieee.plus w p2 f2 (oneMore ieee.plus w p1 f1 (oneMore ieee.plus w p f (at acc₀))))) 0 n acc₀ acc i
+invariant-loop acc₀ n w p p1 p2 p3 f f1 f2 f3 i₀ acc i = Filling (one_more ieee.plus w p3 f3 (one_more ieee.plus w p2 f2 (one_more ieee.plus w p1 f1 (one_more ieee.plus w p f (at acc₀))))) 0 n acc₀ acc i
 
 abbrev decreases-loop : tie.decreases-loop
 decreases-loop acc₀ n w p p1 p2 p3 f f1 f2 f3 i₀ acc i = n - i
 
 loop-holds : tie.Need-loop-init invariant-loop decreases-loop
-loop-holds c = let a = c.args in filling-none _ 0 a.n a.acc.now (omega arith)
+loop-holds c = let a = c.args in filling_none _ 0 a.n a.acc.now (omega arith)
 
 loop-again : tie.Need-loop-preserved invariant-loop decreases-loop
 loop-again c = let a = c.before.before.before.before.before.before.before.args in
-    let l = c.before.before.before.before.before.before.loop in filling-next l.inv
-    (λ (s : Float). oneMore ieee.plus a.doubles.now a.p3 a.f3 (oneMore ieee.plus a.doubles.now a.p2 a.f2 (oneMore ieee.plus a.doubles.now a.p1 a.f1 (oneMore ieee.plus a.doubles.now a.p a.f (λ i. s)))) l.i)
+    let l = c.before.before.before.before.before.before.loop in filling_next l.inv
+    (λ (s : Float). one_more ieee.plus a.doubles.now a.p3 a.f3 (one_more ieee.plus a.doubles.now a.p2 a.f2 (one_more ieee.plus a.doubles.now a.p1 a.f1 (one_more ieee.plus a.doubles.now a.p a.f (λ i. s)))) l.i)
     nan (omega arith) (omega arith) refl
 
 returns : tie.Need-returns invariant-loop decreases-loop
-returns c = filling-done c.before.loop.invariant (omega arith)
+returns c = filling_done c.before.loop.invariant (omega arith)
 
 pub add-four-spec : {M : Type 1} → statement M
 add-four-spec = tie.close (tie.spec invariant-loop decreases-loop loop-holds (λ c. search rules) (λ c. search rules)

@@ -6,8 +6,8 @@ use native.Mathlib.Omega.{arith}
 use lib.ListN.{length}
 use Rattle.rules.specs.Arithmetic.{ieee}
 use Rattle.block_runs.specs.axpy.Axpy.{products}
-use Rattle.block_runs.proofs.axpy.Sums.{none-added}
-use Rattle.block_runs.proofs.axpy_pair.Laws.{Reached, reached, reached-four, reached-next, four-more}
+use Rattle.block_runs.proofs.axpy.Sums.{none_added}
+use Rattle.block_runs.proofs.axpy_pair.Laws.{Reached, reached, reached_four, reached_next, four_more_lem}
 use Rattle.block_runs.proofs.axpy_pair.add_fours_pair.Statement.{statement}
 use Rattle.block_runs.proofs.axpy_pair.add_fours_pair.Tie as tie
 
@@ -24,38 +24,38 @@ loop-holds c = let a = c.before.before.before.before.args in (
   reached a.doubles.now a.a a.rows a.v.now a.b a.step a.inner 0 a.a a.b (omega arith) (omega arith) (omega arith) (omega arith) (omega arith),
   refl,
   refl,
-  none-added ieee.plus a.acc.now a.n a.doubles.now a.a a.rows a.v.now a.b a.step a.r (omega arith) (omega arith) (omega arith),
-  none-added ieee.plus a.acc2.now a.n a.doubles.now a.a a.rows a.v.now a.b a.step (a.r + 1) (omega arith) (omega arith) (omega arith),
+  none_added ieee.plus a.acc.now a.n a.doubles.now a.a a.rows a.v.now a.b a.step a.r (omega arith) (omega arith) (omega arith),
+  none_added ieee.plus a.acc2.now a.n a.doubles.now a.a a.rows a.v.now a.b a.step (a.r + 1) (omega arith) (omega arith) (omega arith),
 )
 
 add-add-columns-pair : tie.Need-overflow-add-add-columns-pair invariant-loop decreases-loop
-add-add-columns-pair c = omega (arith, reached-four c.before.before.before.loop.invariant.0 (omega arith))
+add-add-columns-pair c = omega (arith, reached_four c.before.before.before.loop.invariant.0 (omega arith))
 
 add-columns-pair-requires : tie.Need-add-columns-pair-requires invariant-loop decreases-loop
-add-columns-pair-requires c κs = omega (arith, reached-four c.before.before.before.loop.invariant.0 (omega arith))
+add-columns-pair-requires c κs = omega (arith, reached_four c.before.before.before.loop.invariant.0 (omega arith))
 
 mul-p : tie.Need-overflow-mul-p invariant-loop decreases-loop
-mul-p c = omega (arith, reached-four c.before.before.before.before.before.before.before.before.loop.invariant.0 (omega arith))
+mul-p c = omega (arith, reached_four c.before.before.before.before.before.before.before.before.loop.invariant.0 (omega arith))
 
 add-p : tie.Need-overflow-add-p invariant-loop decreases-loop
-add-p c = omega (arith, reached-four c.before.before.before.before.before.before.before.before.loop.invariant.0 (omega arith))
+add-p c = omega (arith, reached_four c.before.before.before.before.before.before.before.before.loop.invariant.0 (omega arith))
 
 mul-q : tie.Need-overflow-mul-q invariant-loop decreases-loop
-mul-q c = omega (arith, reached-four c.before.before.before.before.before.before.before.before.loop.invariant.0 (omega arith))
+mul-q c = omega (arith, reached_four c.before.before.before.before.before.before.before.before.loop.invariant.0 (omega arith))
 
 add-q : tie.Need-overflow-add-q invariant-loop decreases-loop
-add-q c = omega (arith, reached-four c.before.before.before.before.before.before.before.before.loop.invariant.0 (omega arith))
+add-q c = omega (arith, reached_four c.before.before.before.before.before.before.before.before.loop.invariant.0 (omega arith))
 
 loop-again : tie.Need-loop-preserved invariant-loop decreases-loop
 loop-again c =
     let a = c.before.before.before.before.before.before.before.before.before.before.before.before.before.args in
     let l = c.before.before.before.before.before.before.before.before.loop in
     let s = c.before.before.before.before.add-columns-pair in let more : l.x + 4 ≤ a.inner = omega arith in (
-      reached-next l.inv.0 more,
+      reached_next l.inv.0 more,
       omega arith,
       omega arith,
-      four-more l.inv.0 more a.acc.now l.acc _ a.n a.r (l.q + a.r) (omega arith) (omega arith) (omega arith) (omega arith) l.inv.3 s.ensures.0,
-      four-more l.inv.0 more a.acc2.now l.acc2 _ a.n (a.r + 1) (l.q + a.r + 1) (omega arith) (omega arith) (omega arith) (omega arith) l.inv.4 s.ensures.1,
+      four_more_lem l.inv.0 more a.acc.now l.acc _ a.n a.r (l.q + a.r) (omega arith) (omega arith) (omega arith) (omega arith) l.inv.3 s.ensures.0,
+      four_more_lem l.inv.0 more a.acc2.now l.acc2 _ a.n (a.r + 1) (l.q + a.r + 1) (omega arith) (omega arith) (omega arith) (omega arith) l.inv.4 s.ensures.1,
     )
 
 returns : tie.Need-returns invariant-loop decreases-loop

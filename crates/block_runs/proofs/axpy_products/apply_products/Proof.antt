@@ -5,15 +5,15 @@ use Prim.Native.Nat.{◌≤◌, ◌-◌, ◌+◌}
 use native.Mathlib.Omega.{arith}
 use lib.ListN.{length}
 use Rattle.storage.specs.Runs.{start, dense}
-use Rattle.storage.proofs.Starts.{start-dense, start-le}
-use Rattle.block_runs.specs.axpy.Axpy.{products, addOrSubtract}
-use Rattle.block_runs.proofs.axpy.Sums.{left-fits, next_start, none-added, more_added}
+use Rattle.storage.proofs.Starts.{start_dense, start_le}
+use Rattle.block_runs.specs.axpy.Axpy.{products, add_or_subtract}
+use Rattle.block_runs.proofs.axpy.Sums.{left_fits, next_start, none_added, more_added}
 use Rattle.block_runs.proofs.axpy_products.apply_products.Statement.{statement}
 use Rattle.block_runs.proofs.axpy_products.apply_products.Tie as tie
 
 abbrev invariant-loop : tie.invariant-loop
 invariant-loop acc₀ n w a rows v b step r inner subtract x₀ p₀ q₀ acc x p q =
-    (x ≤ inner) × (p ≡ a + start (dense rows) x) × (q ≡ b + start (dense step) x) × (length acc ≡ length acc₀) × (acc ≡ products (addOrSubtract subtract) acc₀ n w a rows v b step r x)
+    (x ≤ inner) × (p ≡ a + start (dense rows) x) × (q ≡ b + start (dense step) x) × (length acc ≡ length acc₀) × (acc ≡ products (add_or_subtract subtract) acc₀ n w a rows v b step r x)
 
 abbrev decreases-loop : tie.decreases-loop
 decreases-loop acc₀ n w a rows v b step r inner subtract x₀ p₀ q₀ acc x p q = inner - x
@@ -21,18 +21,18 @@ decreases-loop acc₀ n w a rows v b step r inner subtract x₀ p₀ q₀ acc x 
 loop-holds : tie.Need-loop-init invariant-loop decreases-loop
 loop-holds c = let a = c.before.before.before.args in (
   omega arith,
-  omega (arith, start-dense a.rows 0),
-  omega (arith, start-dense a.step 0),
+  omega (arith, start_dense a.rows 0),
+  omega (arith, start_dense a.step 0),
   refl,
-  none-added (addOrSubtract a.subtract) a.acc.now a.n a.doubles.now a.a a.rows a.v.now a.b a.step a.r (omega arith) (omega arith) (omega arith),
+  none_added (add_or_subtract a.subtract) a.acc.now a.n a.doubles.now a.a a.rows a.v.now a.b a.step a.r (omega arith) (omega arith) (omega arith),
 )
 
 add-some-requires : tie.Need-add-some-requires invariant-loop decreases-loop
 add-some-requires c κs = let a = c.before.before.before.before.before.before.args in let l = c.before.before.loop in
     omega (
       arith,
-      left-fits a.a a.rows l.x a.inner l.p (length a.doubles.now) (omega arith) (omega arith) (omega arith),
-      left-fits a.b a.step l.x a.inner l.q (length a.v.now) (omega arith) (omega arith) (omega arith),
+      left_fits a.a a.rows l.x a.inner l.p (length a.doubles.now) (omega arith) (omega arith) (omega arith),
+      left_fits a.b a.step l.x a.inner l.q (length a.v.now) (omega arith) (omega arith) (omega arith),
     )
 
 mul-p : tie.Need-overflow-mul-p invariant-loop decreases-loop
@@ -77,16 +77,16 @@ loop-again c = let a = c.before.before.before.before.before.before.before.before
       P.1,
       Q.1,
       omega arith,
-      more_added (addOrSubtract a.subtract) a.acc.now a.n a.doubles.now a.a a.rows a.v.now a.b a.step a.r (omega arith) (omega arith) (omega arith)
+      more_added (add_or_subtract a.subtract) a.acc.now a.n a.doubles.now a.a a.rows a.v.now a.b a.step a.r (omega arith) (omega arith) (omega arith)
           l.x s.result l.p l.q l.acc _ l.inv.1 l.inv.2
-          (omega (arith, start-le (dense a.rows) (l.x + s.result) a.inner room))
-          (omega (arith, start-le (dense a.step) (l.x + s.result) a.inner room)) l.inv.4 s.ensures.2,
+          (omega (arith, start_le (dense a.rows) (l.x + s.result) a.inner room))
+          (omega (arith, start_le (dense a.step) (l.x + s.result) a.inner room)) l.inv.4 s.ensures.2,
     )
 
 returns : tie.Need-returns invariant-loop decreases-loop
 returns c = let a = c.before.before.before.before.before.args in let l = c.before.loop in
     let e : l.x ≡ a.inner = omega arith in
-    l.inv.4 ∙ ap (products (addOrSubtract a.subtract) a.acc.now a.n a.doubles.now a.a a.rows a.v.now a.b a.step a.r) e
+    l.inv.4 ∙ ap (products (add_or_subtract a.subtract) a.acc.now a.n a.doubles.now a.a a.rows a.v.now a.b a.step a.r) e
 
 pub apply-products-spec : {M : Type 1} → statement M
 apply-products-spec = tie.close (tie.spec invariant-loop decreases-loop loop-holds (λ c. search rules) add-some-requires mul-p add-p

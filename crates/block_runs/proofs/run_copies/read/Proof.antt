@@ -3,7 +3,7 @@ use borrow.Author.Rules.{rules}
 use mathlib.Core.Path.{refl}
 use Prim.Native.Nat.{◌-◌, ◌+◌}
 use native.Mathlib.Omega.{arith}
-use Rattle.storage.proofs.Filling.{Filling, filling-none, array-more, filling-done}
+use Rattle.storage.proofs.Filling.{Filling, filling_none, array_more, filling_done}
 use Rattle.block_runs.specs.axpy.Axpy.{at}
 use Rattle.block_runs.proofs.run_copies.read.Statement.{statement}
 use Rattle.block_runs.proofs.run_copies.read.Tie as tie
@@ -15,13 +15,13 @@ abbrev decreases-loop : tie.decreases-loop
 decreases-loop acc₀ n w from i₀ acc i = n - i
 
 loop-holds : tie.Need-loop-init invariant-loop decreases-loop
-loop-holds c = let a = c.args in filling-none _ 0 a.n a.acc.now (omega arith)
+loop-holds c = let a = c.args in filling_none _ 0 a.n a.acc.now (omega arith)
 
 loop-again : tie.Need-loop-preserved invariant-loop decreases-loop
-loop-again c = array-more c.before.before.loop.invariant (omega arith) refl
+loop-again c = array_more c.before.before.loop.invariant (omega arith) refl
 
 returns : tie.Need-returns invariant-loop decreases-loop
-returns c = filling-done c.before.loop.invariant (omega arith)
+returns c = filling_done c.before.loop.invariant (omega arith)
 
 pub read_spec : {M : Type 1} → statement M
 read_spec = tie.close (tie.spec invariant-loop decreases-loop loop-holds (λ c. search rules) (λ c. search rules) (λ c. search rules)

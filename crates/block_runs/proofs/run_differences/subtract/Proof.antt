@@ -6,14 +6,14 @@ use lib.ListN.{take, drop}
 use lib.Ieee.{Float}
 use Rattle.rules.specs.Arithmetic.{ieee}
 use Rattle.block_runs.specs.axpy.Axpy.{at}
-use Rattle.block_runs.proofs.run_differences.Lent.{lent-run, lent-read}
+use Rattle.block_runs.proofs.run_differences.Lent.{lent_run, lent_read}
 use borrow.Author.Rules.{rules}
 use Rattle.block_runs.proofs.run_differences.subtract.Statement.{statement}
 use Rattle.block_runs.proofs.run_differences.subtract.Tie as tie
 
 returns : tie.Need-returns
 returns c = let a = c.before.before.before.before.before.before.args in
-    lent-run a.doubles.now _ a.off a.end a.to a.n (λ i. ieee.minus (at (take (a.end - a.off) (drop a.off a.doubles.now)) (a.to + i)) (at a.acc.now i)) (λ i. ieee.minus (at a.doubles.now (a.off + a.to + i)) (at a.acc.now i)) (omega arith) (omega arith) (λ i l. ap (λ (s : Float). ieee.minus s (at a.acc.now i)) (lent-read a.doubles.now a.off a.end a.to a.n (omega arith) i l)) c.before.before.subtract-part.ensures
+    lent_run a.doubles.now _ a.off a.end a.to a.n (λ i. ieee.minus (at (take (a.end - a.off) (drop a.off a.doubles.now)) (a.to + i)) (at a.acc.now i)) (λ i. ieee.minus (at a.doubles.now (a.off + a.to + i)) (at a.acc.now i)) (omega arith) (omega arith) (λ i l. ap (λ (s : Float). ieee.minus s (at a.acc.now i)) (lent_read a.doubles.now a.off a.end a.to a.n (omega arith) i l)) c.before.before.subtract-part.ensures
 
 pub subtract-spec : {M : Type 1} → statement M
 subtract-spec = tie.close (tie.spec (λ c. search rules) (λ c. search rules) (λ c. search rules) (λ c. search rules)

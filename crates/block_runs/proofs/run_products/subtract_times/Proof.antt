@@ -6,14 +6,14 @@ use lib.ListN.{take, drop}
 use lib.Ieee.{Float}
 use Rattle.rules.specs.Arithmetic.{ieee}
 use Rattle.block_runs.specs.axpy.Axpy.{at}
-use Rattle.block_runs.proofs.run_differences.Lent.{lent-run, lent-read}
+use Rattle.block_runs.proofs.run_differences.Lent.{lent_run, lent_read}
 use borrow.Author.Rules.{rules}
 use Rattle.block_runs.proofs.run_products.subtract_times.Statement.{statement}
 use Rattle.block_runs.proofs.run_products.subtract_times.Tie as tie
 
 returns : tie.Need-returns
 returns c = let a = c.before.before.before.before.before.before.args in
-    lent-run a.doubles.now _ a.off a.end a.to a.n (λ i. ieee.minus (at (take (a.end - a.off) (drop a.off a.doubles.now)) (a.to + i)) (ieee.times (at a.acc.now i) a.f)) (λ i. ieee.minus (at a.doubles.now (a.off + a.to + i)) (ieee.times (at a.acc.now i) a.f)) (omega arith) (omega arith) (λ i l. ap (λ (s : Float). ieee.minus s (ieee.times (at a.acc.now i) a.f)) (lent-read a.doubles.now a.off a.end a.to a.n (omega arith) i l)) c.before.before.subtract-times-part.ensures
+    lent_run a.doubles.now _ a.off a.end a.to a.n (λ i. ieee.minus (at (take (a.end - a.off) (drop a.off a.doubles.now)) (a.to + i)) (ieee.times (at a.acc.now i) a.f)) (λ i. ieee.minus (at a.doubles.now (a.off + a.to + i)) (ieee.times (at a.acc.now i) a.f)) (omega arith) (omega arith) (λ i l. ap (λ (s : Float). ieee.minus s (ieee.times (at a.acc.now i) a.f)) (lent_read a.doubles.now a.off a.end a.to a.n (omega arith) i l)) c.before.before.subtract-times-part.ensures
 
 pub subtract-times-spec : {M : Type 1} → statement M
 subtract-times-spec = tie.close (tie.spec (λ c. search rules) (λ c. search rules) (λ c. search rules) (λ c. search rules)

@@ -4,7 +4,7 @@ use mathlib.Core.Path.{refl}
 use Prim.Native.Nat.{◌-◌, ◌+◌}
 use native.Mathlib.Omega.{arith}
 use lib.Ieee.{Float, nan}
-use Rattle.storage.proofs.Filling.{Filling, filling-none, filling-next, filling-done}
+use Rattle.storage.proofs.Filling.{Filling, filling_none, filling_next, filling_done}
 use Rattle.rules.specs.Arithmetic.{ieee}
 use Rattle.block_runs.specs.axpy.Axpy.{at}
 use Rattle.block_runs.proofs.run_quotients.divide_part.Statement.{statement}
@@ -17,14 +17,14 @@ abbrev decreases-loop : tie.decreases-loop
 decreases-loop t₀ to n p i₀ t i = n - i
 
 loop-holds : tie.Need-loop-init invariant-loop decreases-loop
-loop-holds c = let a = c.args in filling-none _ a.to a.n a.t.now (omega arith)
+loop-holds c = let a = c.args in filling_none _ a.to a.n a.t.now (omega arith)
 
 loop-again : tie.Need-loop-preserved invariant-loop decreases-loop
 loop-again c = let p = c.before.before.before.args.p in
-    filling-next c.before.before.loop.invariant (λ (s : Float). ieee.over s p) nan refl (omega arith) refl
+    filling_next c.before.before.loop.invariant (λ (s : Float). ieee.over s p) nan refl (omega arith) refl
 
 returns : tie.Need-returns invariant-loop decreases-loop
-returns c = filling-done c.before.loop.invariant (omega arith)
+returns c = filling_done c.before.loop.invariant (omega arith)
 
 pub divide-part-spec : {M : Type 1} → statement M
 divide-part-spec = tie.close (tie.spec invariant-loop decreases-loop loop-holds (λ c. search rules) (λ c. search rules)

@@ -3,7 +3,7 @@ use borrow.Author.Rules.{rules}
 use mathlib.Core.Path.{refl}
 use Prim.Native.Nat.{◌-◌}
 use native.Mathlib.Omega.{arith}
-use Rattle.storage.proofs.Filling.{Filling, filling-none, filling-more, filling-done}
+use Rattle.storage.proofs.Filling.{Filling, filling_none, filling_more, filling_done}
 use Rattle.rules.specs.Arithmetic.{ieee}
 use Rattle.block_runs.specs.axpy.Axpy.{at}
 use Rattle.block_runs.proofs.run_quotients.over_part.Statement.{statement}
@@ -16,13 +16,13 @@ abbrev decreases-loop : tie.decreases-loop
 decreases-loop t₀ to n acc p i₀ t i = n - i
 
 loop-holds : tie.Need-loop-init invariant-loop decreases-loop
-loop-holds c = let a = c.args in filling-none _ a.to a.n a.t.now (omega arith)
+loop-holds c = let a = c.args in filling_none _ a.to a.n a.t.now (omega arith)
 
 loop-again : tie.Need-loop-preserved invariant-loop decreases-loop
-loop-again c = filling-more c.before.before.loop.invariant (omega arith) refl
+loop-again c = filling_more c.before.before.loop.invariant (omega arith) refl
 
 returns : tie.Need-returns invariant-loop decreases-loop
-returns c = filling-done c.before.loop.invariant (omega arith)
+returns c = filling_done c.before.loop.invariant (omega arith)
 
 pub over-part-spec : {M : Type 1} → statement M
 over-part-spec = tie.close (tie.spec invariant-loop decreases-loop loop-holds (λ c. search rules) (λ c. search rules)

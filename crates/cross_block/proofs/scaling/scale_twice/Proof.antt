@@ -4,30 +4,30 @@ use mathlib.Core.Path.{ap}
 use Prim.Native.Nat.{◌-◌, ◌+◌}
 use native.Mathlib.Omega.{arith}
 use lib.Ieee.{nan}
-use Rattle.storage.proofs.Filling.{Filling, filling-none, filling-apart, filling-more, filling-done}
+use Rattle.storage.proofs.Filling.{Filling, filling_none, filling_apart, filling_more, filling_done}
 use Rattle.rules.specs.Arithmetic.{ieee}
-use Rattle.rules.specs.Begin.{crossCell}
+use Rattle.rules.specs.Begin.{cross_cell}
 use Rattle.block_runs.specs.axpy.Axpy.{at}
-use Rattle.cross_block.proofs.Turns.{as-shape}
+use Rattle.cross_block.proofs.Turns.{as_shape}
 use Rattle.cross_block.proofs.scaling.scale_twice.Statement.{statement}
 use Rattle.cross_block.proofs.scaling.scale_twice.Tie as tie
 
 abbrev invariant-loop : tie.invariant-loop
-invariant-loop w₀ off src n column row i₀ w i = Filling (λ x. crossCell ieee column row (at w₀ (src + x))) off n w₀ w i
+invariant-loop w₀ off src n column row i₀ w i = Filling (λ x. cross_cell ieee column row (at w₀ (src + x))) off n w₀ w i
 
 abbrev decreases-loop : tie.decreases-loop
 decreases-loop w₀ off src n column row i₀ w i = n - i
 
 loop-holds : tie.Need-loop-init invariant-loop decreases-loop
-loop-holds c = let a = c.args in filling-none _ a.off a.n a.doubles.now (omega arith)
+loop-holds c = let a = c.args in filling_none _ a.off a.n a.doubles.now (omega arith)
 
 loop-again : tie.Need-loop-preserved invariant-loop decreases-loop
 loop-again c = let p = c.before.before.before in let a = p.args in let l = c.before.before.loop in
-    filling-more l.inv (omega arith) (ap (crossCell ieee a.column a.row) (filling-apart l.inv nan a.src a.n p.pre.1 l.i (omega arith)))
+    filling_more l.inv (omega arith) (ap (cross_cell ieee a.column a.row) (filling_apart l.inv nan a.src a.n p.pre.1 l.i (omega arith)))
 
 returns : tie.Need-returns invariant-loop decreases-loop
 returns c = let a = c.before.before.args in
-    as-shape a.off a.n a.src a.doubles.now (crossCell ieee a.column a.row) (omega arith) _ (filling-done c.before.loop.invariant (omega arith))
+    as_shape a.off a.n a.src a.doubles.now (cross_cell ieee a.column a.row) (omega arith) _ (filling_done c.before.loop.invariant (omega arith))
 
 pub scale-twice-spec : {M : Type 1} → statement M
 scale-twice-spec = tie.close (tie.spec invariant-loop decreases-loop loop-holds (λ c. search rules) (λ c. search rules)

@@ -2,29 +2,29 @@
 use borrow.Author.Rules.{rules}
 use native.Mathlib.Omega.{arith}
 use lib.ListN.{length}
-use Rattle.block_runs.proofs.axpy.Sums.{one-fits, four-fit}
-use Rattle.cross_matvec.proofs.Dense.{column-subtracted, four-subtracted}
+use Rattle.block_runs.proofs.axpy.Sums.{one_fits, four_fit}
+use Rattle.cross_matvec.proofs.Dense.{column_subtracted, four_subtracted}
 use Rattle.cross_matvec.proofs.own_products.subtract_some.Statement.{statement}
 use Rattle.cross_matvec.proofs.own_products.subtract_some.Tie as tie
 
 one-requires : tie.Need-one-requires
 one-requires c κs = let a = c.before.before.before.before.args in
-    omega (arith, one-fits a.a.at a.a.rows a.a.cols (length a.v.now) (omega arith) (omega arith))
+    omega (arith, one_fits a.a.at a.a.rows a.a.cols (length a.v.now) (omega arith) (omega arith))
 
 returns : tie.Need-returns
 returns c = let a = c.before.before.before.before.before.before.args in let s = c.before.one in
-    (omega arith, omega arith, column-subtracted a.to a.a.at a.a.rows a.z a.v.now a.v.now (omega arith) s.result s.ensures)
+    (omega arith, omega arith, column_subtracted a.to a.a.at a.a.rows a.z a.v.now a.v.now (omega arith) s.result s.ensures)
 
 four-requires : tie.Need-four-requires
 four-requires c κs = let a = c.before.before.before.before.args in
-    omega (arith, four-fit a.a.at a.a.rows a.a.cols (length a.v.now) (omega arith) (omega arith))
+    omega (arith, four_fit a.a.at a.a.rows a.a.cols (length a.v.now) (omega arith) (omega arith))
 
 returns-2 : tie.Need-returns-2
 returns-2 c = let a = c.before.before.before.before.before.before.before.before.before.args in
     let t = c.before.before.before.before.four in (
       omega arith,
       omega arith,
-      four-subtracted a.to a.a.at a.a.rows a.z a.v.now a.v.now _ t.result.s t.result.s1 t.result.s2 t.result.s3 t.ensures.0.0 t.ensures.0.1 t.ensures.1.0 t.ensures.1.1
+      four_subtracted a.to a.a.at a.a.rows a.z a.v.now a.v.now _ t.result.s t.result.s1 t.result.s2 t.result.s3 t.ensures.0.0 t.ensures.0.1 t.ensures.1.0 t.ensures.1.1
           c.before.before.subtract-sums.ensures,
     )
 

@@ -18,7 +18,7 @@ loop-holds c = let st = c.before.before.before in let a = st.args in
 
 loop-again : tie.Need-loop-preserved invariant-loop decreases-loop
 loop-again c = let st = c.before.before.before.before.before.before.before.before.before.before in let a = st.args in
-    rows_next a.layout (a.doubles).now a.j a.from (a.out).now st.pre.0.valid st.pre.1 st.pre.2 st.pre.3 _ _ _ c.before.before.before.before.before.before.loop.invariant (omega (arith, c.before.before.before.before.before.before.before.rows_of_lem.ensures, c.before.before.before.before.before.loop-test.true)) _ _ _ c.before.before.before.before.read-pivot.ensures c.before.before.put-pivot.ensures
+    rows_next a.layout (a.doubles).now a.j a.from (a.out).now st.pre.0.valid st.pre.1 st.pre.2 st.pre.3 _ _ _ c.before.before.before.before.before.before.loop.invariant (omega (arith, c.before.before.before.before.before.before.before.rows_of_lem.ensures, c.before.before.before.before.before.loop-test.true)) _ _ _ c.before.before.before.before.read_pivot.ensures c.before.before.put-pivot.ensures
 
 returns : tie.Need-returns invariant-loop decreases-loop
 returns c = let st = c.before.before.before.before.before in let a = st.args in

@@ -2,7 +2,7 @@
 use Rattle.refusal.specs.declared.Answer.{Answer}
 use Rattle.heading_format.specs.Heading.{layout_of}
 use Rattle.workspace.specs.Answers.{workspace}
-use Rattle.factor_output.specs.Program.{printSteps}
+use Rattle.factor_output.specs.Program.{print_steps}
 use Rattle.factor_text.proofs.refusal_text.Texts.{answered}
 use borrow.Author.Rules.{rules}
 use Rattle.factor_text.proofs.steps_text.put_steps.Statement.{statement}
@@ -15,12 +15,12 @@ put-pivots-requires c κs = let st = c.before.before.before.before.before.before
 returns : tie.Need-returns
 returns c = let st = c.before.before.before.before.before.before.before.before.before in
     let v = workspace (st.args.heading).now (st.args.doubles).now in
-    answered (λ (x : Answer). printSteps x v (layout_of (st.args.heading).now).k) _ _ _ _ _ c.before.before.before.before.enum_told.given.1 c.before.before.put-pivots.ensures
+    answered (λ (x : Answer). print_steps x v (layout_of (st.args.heading).now).k) _ _ _ _ _ c.before.before.before.before.enum_told.given.1 c.before.before.put-pivots.ensures
 
 returns-2 : tie.Need-returns-2
 returns-2 c = let st = c.before.before.before.before.before.before.before.before.before.before in
     let v = workspace (st.args.heading).now (st.args.doubles).now in
-    answered (λ (x : Answer). printSteps x v (layout_of (st.args.heading).now).k) _ _ _ _ _ c.before.before.before.before.before.a.given.1 c.before.before.put-refusal.ensures
+    answered (λ (x : Answer). print_steps x v (layout_of (st.args.heading).now).k) _ _ _ _ _ c.before.before.before.before.before.a.given.1 c.before.before.put-refusal.ensures
 
 pub put-steps-spec : {M : Type 1} → statement M
 put-steps-spec = tie.close (tie.spec (λ c. search rules) put-pivots-requires (λ c. search rules) (λ c κs. search rules)

@@ -2,7 +2,7 @@
 use mathlib.Core.Path.{sym}
 use lib.Seq.{length-take-le}
 use native.Mathlib.Omega.{arith}
-use Rattle.factor_text.proofs.refusal_text.Texts.{theta-good, theta-bad, theta-number}
+use Rattle.factor_text.proofs.refusal_text.Texts.{theta_good, theta_bad, theta_number}
 use borrow.Author.Rules.{rules}
 use Rattle.factor_text.proofs.theta_text.put_theta.Statement.{statement}
 use Rattle.factor_text.proofs.theta_text.put_theta.Tie as tie
@@ -17,13 +17,13 @@ returns c =
     let st = c.before.before.before.before.before.before.before.before.before.before.before.before.before.before.before.before.before.before.before.before.before in
     let a = st.args in
     let r = c.before.before.before.before.before.before.before.before.before.before.before.before.before.before.before.read-theta.ensures in
-    theta-good (a.bytes).now a.starts (a.heading).now (a.doubles).now _ _ _ _ _ r.0 c.before.before.before.before.before.before.before.before.before.before.before.if1.true (r.1 (theta-number _ _ c.before.before.before.before.before.before.before.before.before.before.before.if1.true)) (length-take-le a.starts.counts.k _ (omega (arith, st.pre.0, r.2))) c.before.before.before.before.before.before.put-factor.ensures
+    theta_good (a.bytes).now a.starts (a.heading).now (a.doubles).now _ _ _ _ _ r.0 c.before.before.before.before.before.before.before.before.before.before.before.if1.true (r.1 (theta_number _ _ c.before.before.before.before.before.before.before.before.before.before.before.if1.true)) (length-take-le a.starts.counts.k _ (omega (arith, st.pre.0, r.2))) c.before.before.before.before.before.before.put-factor.ensures
 
 returns-2 : tie.Need-returns-2
 returns-2 c =
     let st = c.before.before.before.before.before.before.before.before.before.before.before.before.before.before in
     let a = st.args in
-    theta-bad (a.bytes).now a.starts (a.heading).now (a.doubles).now _ _ _ _ c.before.before.before.before.before.before.before.before.read-theta.ensures.0 c.before.before.before.before.if1.false c.before.before.put-refusal.ensures
+    theta_bad (a.bytes).now a.starts (a.heading).now (a.doubles).now _ _ _ _ c.before.before.before.before.before.before.before.before.read-theta.ensures.0 c.before.before.before.before.if1.false c.before.before.put-refusal.ensures
 
 pub put-theta-spec : {M : Type 1} → statement M
 put-theta-spec = tie.close (tie.spec (λ c. search rules) (λ c κs. search rules) (λ c. search rules)

@@ -1,7 +1,7 @@
 -- `heading::writer::write_layout`: part by part.
 use native.Mathlib.Omega.{arith}
 use borrow.Author.Rules.{rules}
-use Rattle.heading.proofs.Numbers.{layout-stored}
+use Rattle.heading.proofs.Numbers.{layout_stored}
 use Rattle.heading.proofs.writer.write_layout.Statement.{statement}
 use Rattle.heading.proofs.writer.write_layout.Tie as tie
 
@@ -20,7 +20,7 @@ write-numbers-requires-2 c κs = (search rules, omega (arith, slice-aggregate-wr
 returns : tie.Need-returns
 returns c =
     let start = c.before.before.before.before.before.before.before.before.before.before.before.before.before.before.before.before.before.before.before.before.before in
-    layout-stored start.args.heading.now start.args.layout c.before.before.write-flags.ensures c.before.before.before.before.before.before.write-numbers2.ensures c.before.before.before.before.before.before.before.before.before.before.before.before.write-numbers.ensures c.before.before.before.before.before.before.before.before.before.before.before.before.before.before.before.before.before.before.write-counts.ensures start.pre.0
+    layout_stored start.args.heading.now start.args.layout c.before.before.write-flags.ensures c.before.before.before.before.before.before.write-numbers2.ensures c.before.before.before.before.before.before.before.before.before.before.before.before.write-numbers.ensures c.before.before.before.before.before.before.before.before.before.before.before.before.before.before.before.before.before.before.write-counts.ensures start.pre.0
 
 pub write-layout-spec : {M : Type 1} → statement M
 write-layout-spec = tie.close (tie.spec (λ c κs. search rules) slice-aggregate-write-numbers write-numbers-requires

@@ -1,7 +1,7 @@
 -- `heading::writer::write_progress`: part by part.
 use native.Mathlib.Omega.{arith}
 use borrow.Author.Rules.{rules}
-use Rattle.heading.proofs.Numbers.{progress-stored}
+use Rattle.heading.proofs.Numbers.{progress_stored}
 use Rattle.heading.proofs.writer.write_progress.Statement.{statement}
 use Rattle.heading.proofs.writer.write_progress.Tie as tie
 
@@ -14,7 +14,7 @@ write-numbers-requires c κs = (search rules, omega (arith, slice-aggregate-writ
 returns : tie.Need-returns
 returns c =
     let start = c.before.before.before.before.before.before.before.before.before.before.before.before.before.before.before.before in
-    progress-stored start.args.heading.now start.args.progress c.before.before.write-numbers.ensures c.before.before.before.before.before.before.before.before.put2.ensures c.before.before.before.before.before.before.before.before.before.before.before.before.put.ensures c.before.before.before.before.before.before.before.before.before.before.before.before.before.state-number.ensures.0 start.pre.0
+    progress_stored start.args.heading.now start.args.progress c.before.before.write-numbers.ensures c.before.before.before.before.before.before.before.before.put2.ensures c.before.before.before.before.before.before.before.before.before.before.before.before.put.ensures c.before.before.before.before.before.before.before.before.before.before.before.before.before.state-number.ensures.0 start.pre.0
 
 pub write-progress-spec : {M : Type 1} → statement M
 write-progress-spec = tie.close (tie.spec (λ c κs. search rules) (λ c κs. (search rules, c.state-number.ensures.1))

@@ -3,13 +3,13 @@ use borrow.Author.Rules.{rules}
 use Prim.Native.Nat.{suc, ◌+◌, ◌-◌, ◌*◌, ◌≤◌, ◌<◌}
 use mathlib.Core.List.{[], ◌∷◌, ◌++◌}
 use Rattle.step_order.specs.Steps.{T, each, subtractions}
-use Rattle.heading_check.specs.stage_check.Walk.{walked, stagesIn}
+use Rattle.heading_check.specs.stage_check.Walk.{walked, stages_in}
 use Rattle.heading_check.proofs.stage_check.Walks.{Going, going_start, going_more, going_done}
 use Rattle.heading_check.proofs.forerunner_check.below.Statement.{statement}
 use Rattle.heading_check.proofs.forerunner_check.below.Tie as tie
 
 abbrev invariant-loop : tie.invariant-loop
-invariant-loop h j k v₀ i₀ v i = Going (stagesIn h) (walked (stagesIn h) v₀ (each (λ r. subtractions r j ++ (T r j ∷ [])) (suc j) (k - j))) (λ r. subtractions r j ++ (T r j ∷ [])) i (suc k) v
+invariant-loop h j k v₀ i₀ v i = Going (stages_in h) (walked (stages_in h) v₀ (each (λ r. subtractions r j ++ (T r j ∷ [])) (suc j) (k - j))) (λ r. subtractions r j ++ (T r j ∷ [])) i (suc k) v
     × (v.left ≤ v₀.left + 9 * i)
     × (j < i)
 
@@ -18,7 +18,7 @@ decreases-loop h j k v₀ i₀ v i = suc k - i
 
 loop-holds : tie.Need-loop-init invariant-loop decreases-loop
 loop-holds c =
-    (going_start (stagesIn _) _ (λ r. subtractions r c.before.args.j ++ (T r c.before.args.j ∷ [])) (suc c.before.args.j) (c.before.args.k - c.before.args.j) (search rules) (search rules), search rules, search rules)
+    (going_start (stages_in _) _ (λ r. subtractions r c.before.args.j ++ (T r c.before.args.j ∷ [])) (suc c.before.args.j) (c.before.args.k - c.before.args.j) (search rules) (search rules), search rules, search rules)
 
 loop-again : tie.Need-loop-preserved invariant-loop decreases-loop
 loop-again c = (going_more c.before.before.loop.invariant.0 (search rules) c.target.ensures.0, search rules, search rules)

@@ -1,7 +1,7 @@
 -- `heading_check::order_check::by_sheet`: the first s sorted blocks stand by sheet index.
 use Prim.Native.Nat.{◌-◌, ◌≤◌}
 use borrow.Author.Rules.{rules}
-use Rattle.heading_check.proofs.order_check.Sheets.{Sheets, sheets-done, sheets-none, sheets-more}
+use Rattle.heading_check.proofs.order_check.Sheets.{Sheets, sheets_done, sheets_none, sheets_more}
 use Rattle.heading_check.proofs.order_check.by_sheet.Statement.{statement}
 use Rattle.heading_check.proofs.order_check.by_sheet.Tie as tie
 
@@ -12,6 +12,6 @@ abbrev decreases-loop : tie.decreases-loop
 decreases-loop y k r₀ s₀ r s = k - s
 
 pub by-sheet-spec : {M : Type 1} → statement M
-by-sheet-spec = tie.close (tie.spec invariant-loop decreases-loop (λ c. (search rules, search sheets-none)) (λ c κs. search rules)
+by-sheet-spec = tie.close (tie.spec invariant-loop decreases-loop (λ c. (search rules, search sheets_none)) (λ c κs. search rules)
     (λ c κs. search rules) (λ c κs. search rules) (λ c. search rules) (λ c. search rules)
-    (λ c. (search rules, search sheets-more)) (λ c. search sheets-done))
+    (λ c. (search rules, search sheets_more)) (λ c. search sheets_done))

@@ -11,7 +11,7 @@ subtract-dense-requires c κs = let p = neither _ _ c.before.if1.false in let q 
     let n = c.before.before.before.before.before.before.before.columns-size.ensures.0 in
     let h = clear_at n c.before.before.before.before.before.before.columns-size2.ensures.0 (c.before.before.before.clash.ensures q.1) in
     let l = clear_at n c.before.before.before.before.before.columns-size3.ensures.0 (c.before.before.clash2.ensures p.1) in
-    (ltb-false _ _ q.0, record { rows = refl; cols = refl; inner = refl; target = h.first; left = h.second; right = l.second; off-left = h.apart; off-right = l.apart })
+    (ltb-false _ _ q.0, record { rows = refl; cols = refl; inner = refl; target = h.first; left = h.second; right = l.second; off_left = h.apart; off_right = l.apart })
 
 pub subtract-dense-spec : {M : Type 1} → statement M
 subtract-dense-spec = tie.close (tie.spec (λ c κs. search rules) (λ c κs. search rules) (λ c κs. search rules)

@@ -3,7 +3,7 @@ use mathlib.Core.Path.{refl}
 use borrow.Author.Rules.{rules}
 use native.Mathlib.Omega.{arith}
 use Rattle.layout_gate.specs.column_entries.Columns.{in_turn, entries_at}
-use Rattle.layout_gate.proofs.column_entries.Lines.{Turn, turn_more, turn-other, turn-fits, turn-done}
+use Rattle.layout_gate.proofs.column_entries.Lines.{Turn, turn_more, turn_other, turn_fits, turn_done}
 use Rattle.layout_gate.proofs.column_entries.in_turn.Statement.{statement}
 use Rattle.layout_gate.proofs.column_entries.in_turn.Tie as tie
 
@@ -18,5 +18,5 @@ loop-holds c = record { same = refl; within = omega arith }
 
 pub in-turn-spec : {M : Type 1} → statement M
 in-turn-spec = tie.close (tie.spec invariant-loop decreases-loop loop-holds (λ c κs. search rules) (λ c κs. search rules)
-    (λ c. search turn-other) (λ c. record { fits = search turn-fits }) (λ c. search rules) (λ c. search rules)
-    (λ c. search turn_more) (λ c. search rules) (λ c. search turn-done))
+    (λ c. search turn_other) (λ c. record { fits = search turn_fits }) (λ c. search rules) (λ c. search rules)
+    (λ c. search turn_more) (λ c. search rules) (λ c. search turn_done))

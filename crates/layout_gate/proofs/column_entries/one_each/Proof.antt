@@ -1,17 +1,17 @@
--- `layout_gate::column_entries::one_each`: the pass over the zz lines of the held sheet, which rise.
+-- `layout_gate::column_entries::one_each_lem`: the pass over the zz lines of the held sheet, which rise.
 use mathlib.Core.Path.{◌∙◌}
 use borrow.Author.Rules.{rules}
 use Rattle.sheet.proofs.Whole.{read_whole}
-use Rattle.layout_gate.proofs.column_entries.Lines.{held-turn}
+use Rattle.layout_gate.proofs.column_entries.Lines.{held_turn}
 use Rattle.layout_gate.proofs.column_entries.Turns.{turn_is}
 use Rattle.layout_gate.proofs.column_entries.one_each.Statement.{statement}
 use Rattle.layout_gate.proofs.column_entries.one_each.Tie as tie
 
 returns : tie.Need-returns
 returns c = λ sheet e.
-    c.in-turn.ensures
-    ∙ held-turn _ _ _ _ _ sheet _ e _ (c.before.entries.ensures.0 _ sheet e)
-    ∙ turn_is _ _ _ _ sheet.zz (read_whole _ sheet _ e).shape.zz-rising
+    c.in_turn_lem.ensures
+    ∙ held_turn _ _ _ _ _ sheet _ e _ (c.before.entries.ensures.0 _ sheet e)
+    ∙ turn_is _ _ _ _ sheet.zz (read_whole _ sheet _ e).shape.zz_rising
 
 pub one-each-spec : {M : Type 1} → statement M
 one-each-spec = tie.close (tie.spec (λ c κs. search rules) (λ c κs. search rules) returns)

@@ -1,16 +1,16 @@
 -- `load_numbers::sheet_words::load_numbers`: +0.0 everywhere, then all runs.
 use native.Mathlib.Omega.{arith}
-use Rattle.load_numbers.proofs.sheet_words.Loads.{ready-valid, loaded}
+use Rattle.load_numbers.proofs.sheet_words.Loads.{ready_valid, loaded}
 use borrow.Author.Rules.{rules}
 use Rattle.load_numbers.proofs.sheet_words.load_numbers.Statement.{statement}
 use Rattle.load_numbers.proofs.sheet_words.load_numbers.Tie as tie
 
 map-of-requires : tie.Need-map-of-requires
-map-of-requires c κs = let st = c.before.before in let a = st.args in ready-valid (a.bytes).now a.starts a.layout st.pre.0
+map-of-requires c κs = let st = c.before.before in let a = st.args in ready_valid (a.bytes).now a.starts a.layout st.pre.0
 
 clear-all-requires : tie.Need-clear-all-requires
 clear-all-requires c κs = let st = c.before.before.before.before in let a = st.args in
-    record { valid = ready-valid (a.bytes).now a.starts a.layout st.pre.0; room = st.pre.1 }
+    record { valid = ready_valid (a.bytes).now a.starts a.layout st.pre.0; room = st.pre.1 }
 
 returns : tie.Need-returns
 returns c =

@@ -5,7 +5,7 @@ use mathlib.Core.List.{[], ◌∷◌, ◌++◌}
 use lib.ListN.{length}
 use Rattle.step_order.specs.Steps.{T, each, subtractions}
 use Rattle.workspace.specs.Answers.{workspace}
-use Rattle.profile_deviance.proofs.ready_step.Runs.{outcome, Going, going_start, going-turn, going_more, going-refused, going_done}
+use Rattle.profile_deviance.proofs.ready_step.Runs.{outcome, Going, going_start, going_turn, going_more, going_refused, going_done}
 use borrow.Author.Rules.{rules}
 use Rattle.profile_deviance.proofs.rust_order.below.Statement.{statement}
 use Rattle.profile_deviance.proofs.rust_order.below.Tie as tie
@@ -20,10 +20,10 @@ loop-holds : tie.Need-loop-init invariant-loop decreases-loop
 loop-holds c = let s = c.before.before in (going_start (workspace s.args.heading.now s.args.doubles.now) (λ z. subtractions z s.args.j ++ (T z s.args.j ∷ [])) (suc s.args.j) (s.args.k - s.args.j) s.pre.2 (search rules) (search rules), refl, refl)
 
 target-requires : tie.Need-target-requires invariant-loop decreases-loop
-target-requires c κs = (search rules, going-turn c.before.before.before.loop.invariant.0 (search rules))
+target-requires c κs = (search rules, going_turn c.before.before.before.loop.invariant.0 (search rules))
 
 returns : tie.Need-returns invariant-loop decreases-loop
-returns c = going-refused c.before.before.before.before.before.before.before.before.before.before.loop.invariant.0 (search rules) (outcome c.before.before.before.before.before.before.target.result (workspace c.before.before.before.before.before.before.target.new.0 c.before.before.before.before.before.before.target.new.1.0)) c.before.before.before.before.before.before.target.ensures (sym c.before.is-refused.ensures ∙ c.if1.true)
+returns c = going_refused c.before.before.before.before.before.before.before.before.before.before.loop.invariant.0 (search rules) (outcome c.before.before.before.before.before.before.target.result (workspace c.before.before.before.before.before.before.target.new.0 c.before.before.before.before.before.before.target.new.1.0)) c.before.before.before.before.before.before.target.ensures (sym c.before.is-refused.ensures ∙ c.if1.true)
 
 loop-again : tie.Need-loop-preserved invariant-loop decreases-loop
 loop-again c = (going_more c.before.before.before.before.before.before.before.before.before.before.loop.invariant.0 (search rules) (outcome c.before.before.before.before.before.before.target.result (workspace c.before.before.before.before.before.before.target.new.0 c.before.before.before.before.before.before.target.new.1.0)) c.before.before.before.before.before.before.target.ensures (sym c.before.is-refused.ensures ∙ c.if1.false), search rules, search rules)

@@ -6,7 +6,7 @@ use native.Mathlib.Omega.{arith}
 use lib.ListN.{length}
 use Rattle.step_order.specs.Steps.{S, subtractions}
 use Rattle.workspace.specs.Answers.{workspace}
-use Rattle.profile_deviance.proofs.ready_step.Runs.{outcome, Going, going_start, going-turn, going_more, going-refused, going_done}
+use Rattle.profile_deviance.proofs.ready_step.Runs.{outcome, Going, going_start, going_turn, going_more, going_refused, going_done}
 use borrow.Author.Rules.{rules}
 use Rattle.profile_deviance.proofs.rust_order.subtract_all.Statement.{statement}
 use Rattle.profile_deviance.proofs.rust_order.subtract_all.Tie as tie
@@ -21,10 +21,10 @@ loop-holds : tie.Need-loop-init invariant-loop decreases-loop
 loop-holds c = let s = c.before.before in (going_start (workspace s.args.heading.now s.args.doubles.now) (λ z. S s.args.i s.args.j z ∷ []) 0 s.args.j s.pre.1 refl (omega arith), refl, refl)
 
 apply-requires : tie.Need-apply-requires invariant-loop decreases-loop
-apply-requires c κs = going-turn c.before.before.before.loop.invariant.0 (search rules)
+apply-requires c κs = going_turn c.before.before.before.loop.invariant.0 (search rules)
 
 returns : tie.Need-returns invariant-loop decreases-loop
-returns c = going-refused c.before.before.before.before.before.before.before.before.before.before.loop.invariant.0 (search rules) (outcome c.before.before.before.before.before.before.apply.result (workspace c.before.before.before.before.before.before.apply.new.0 c.before.before.before.before.before.before.apply.new.1.0)) c.before.before.before.before.before.before.apply.ensures (sym c.before.is-refused.ensures ∙ c.if1.true)
+returns c = going_refused c.before.before.before.before.before.before.before.before.before.before.loop.invariant.0 (search rules) (outcome c.before.before.before.before.before.before.apply.result (workspace c.before.before.before.before.before.before.apply.new.0 c.before.before.before.before.before.before.apply.new.1.0)) c.before.before.before.before.before.before.apply.ensures (sym c.before.is-refused.ensures ∙ c.if1.true)
 
 loop-again : tie.Need-loop-preserved invariant-loop decreases-loop
 loop-again c = (going_more c.before.before.before.before.before.before.before.before.before.before.loop.invariant.0 (search rules) (outcome c.before.before.before.before.before.before.apply.result (workspace c.before.before.before.before.before.before.apply.new.0 c.before.before.before.before.before.before.apply.new.1.0)) c.before.before.before.before.before.before.apply.ensures (sym c.before.is-refused.ensures ∙ c.if1.false), search rules, search rules)

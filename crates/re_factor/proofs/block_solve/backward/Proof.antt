@@ -2,8 +2,8 @@
 use native.Mathlib.Omega.{arith}
 use Rattle.rules.specs.Arithmetic.{ieee}
 use Rattle.rules.specs.Solves.{backward}
-use Rattle.re_lower.proofs.Back.{length-backward}
-use Rattle.re_factor.proofs.Lends.{lent-solve}
+use Rattle.re_lower.proofs.Back.{length_backward}
+use Rattle.re_factor.proofs.Lends.{lent_solve}
 use borrow.Author.Rules.{rules}
 use Rattle.re_factor.proofs.block_solve.backward.Statement.{statement}
 use Rattle.re_factor.proofs.block_solve.backward.Tie as tie
@@ -11,7 +11,7 @@ use Rattle.re_factor.proofs.block_solve.backward.Tie as tie
 returns : tie.Need-returns
 returns c = let a = c.before.before.before.before.before.before.before.before.before.args in
     let p = c.before.before.backward in
-    lent-solve (λ b f. backward ieee b f a.b.rows a.b.rows) a.b.rows (λ b f. length-backward ieee b f a.b.rows a.b.rows) a.v.now a.z (omega arith)
+    lent_solve (λ b f. backward ieee b f a.b.rows a.b.rows) a.b.rows (λ b f. length_backward ieee b f a.b.rows a.b.rows) a.v.now a.z (omega arith)
     a.doubles.now a.b.at _ c.before.before.before.before.before.row-start.ensures p.last.0 p.ensures
 
 pub backward-spec : {M : Type 1} → statement M

@@ -2,16 +2,16 @@
 use native.Mathlib.Omega.{arith}
 use Rattle.rules.specs.Arithmetic.{ieee}
 use Rattle.rules.specs.Cholesky.{forward}
-use Rattle.re_factor.proofs.Lends.{lent-solve}
+use Rattle.re_factor.proofs.Lends.{lent_solve}
 use borrow.Author.Rules.{rules}
-use Rattle.rules.proofs.Rows.{length-forward}
+use Rattle.rules.proofs.Rows.{length_forward}
 use Rattle.re_factor.proofs.block_solve.forward.Statement.{statement}
 use Rattle.re_factor.proofs.block_solve.forward.Tie as tie
 
 returns : tie.Need-returns
 returns c = let a = c.before.before.before.before.before.before.before.before.before.args in
     let p = c.before.before.solve-row in
-    lent-solve (λ b f. forward ieee b f a.b.rows) a.b.rows (λ b f. length-forward ieee b f a.b.rows) a.v.now a.z (omega arith)
+    lent_solve (λ b f. forward ieee b f a.b.rows) a.b.rows (λ b f. length_forward ieee b f a.b.rows) a.v.now a.z (omega arith)
     a.doubles.now a.b.at _ c.before.before.before.before.before.row-start.ensures p.last.0 p.ensures
 
 pub forward-spec : {M : Type 1} → statement M

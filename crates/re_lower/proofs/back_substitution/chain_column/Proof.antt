@@ -4,23 +4,23 @@ use Prim.Native.Nat.{◌≤◌, ◌<◌, ◌-◌, ◌+◌, suc}
 use native.Mathlib.Omega.{arith}
 use native.Mathlib.Numerals.{add-one}
 use Rattle.storage.specs.Runs.{start, triangle}
-use Rattle.storage.proofs.Starts.{start-below}
-use Rattle.re_lower.proofs.Back.{columnTo, column-none, column-turn}
+use Rattle.storage.proofs.Starts.{start_below}
+use Rattle.re_lower.proofs.Back.{column_to, column_none, column_turn}
 use Rattle.re_lower.proofs.back_substitution.chain_column.Statement.{statement}
 use Rattle.re_lower.proofs.back_substitution.chain_column.Tie as tie
 
 abbrev invariant-loop : tie.invariant-loop
-invariant-loop t l i from n s v₀ q₀ row₀ v q row = (i < q) × (q ≤ n) × (row ≡ start triangle q) × (v ≡ columnTo s l t i (q - suc i))
+invariant-loop t l i from n s v₀ q₀ row₀ v q row = (i < q) × (q ≤ n) × (row ≡ start triangle q) × (v ≡ column_to s l t i (q - suc i))
 
 abbrev decreases-loop : tie.decreases-loop
 decreases-loop t l i from n s v₀ q₀ row₀ v q row = n - q
 
 -- row q ends inside the list
 room : (c : tie.In-loop invariant-loop decreases-loop) → start triangle c.before.loop.q + suc c.before.loop.q ≤ start triangle c.before.before.args.n
-room c = start-below triangle c.before.loop.q c.before.before.args.n c.loop-test.true
+room c = start_below triangle c.before.loop.q c.before.before.args.n c.loop-test.true
 
 loop-holds : tie.Need-loop-init invariant-loop decreases-loop
-loop-holds c = (omega arith, omega arith, omega arith, column-none c.args.s c.args.l.now c.args.t.now c.args.i)
+loop-holds c = (omega arith, omega arith, omega arith, column_none c.args.s c.args.l.now c.args.t.now c.args.i)
 
 loop-again : tie.Need-loop-preserved invariant-loop decreases-loop
 unfolding start
@@ -29,8 +29,8 @@ loop-again c = let a = c.before.before.before.before.args in let l = c.before.be
       omega arith,
       omega arith,
       rw add-one (omega arith),
-      column-turn a.s l.v a.l.now a.t.now a.i l.q l.row (l.q - suc a.i) (omega arith) l.inv.2 (omega (arith, room c.before.before)) (omega arith) l.inv.3
-          ∙ ap (columnTo a.s a.l.now a.t.now a.i) e,
+      column_turn a.s l.v a.l.now a.t.now a.i l.q l.row (l.q - suc a.i) (omega arith) l.inv.2 (omega (arith, room c.before.before)) (omega arith) l.inv.3
+          ∙ ap (column_to a.s a.l.now a.t.now a.i) e,
     )
 
 returns : tie.Need-returns invariant-loop decreases-loop

@@ -2,8 +2,8 @@
 use mathlib.Core.Path.{◌∙◌}
 use native.Mathlib.Omega.{arith}
 use Rattle.storage.specs.Runs.{triangle}
-use Rattle.storage.proofs.Starts.{start-triangle, start-le}
-use Rattle.re_lower.proofs.Back.{start-half}
+use Rattle.storage.proofs.Starts.{start_triangle, start_le}
+use Rattle.re_lower.proofs.Back.{start_half}
 use Rattle.re_lower.proofs.Band.{row_back}
 use borrow.Author.Rules.{rules}
 use Rattle.re_lower.proofs.band_row.band_row.Statement.{statement}
@@ -14,11 +14,11 @@ put-row-requires c κs = ((λ h. omega (arith, c.before.before.before.requires.3
 
 mul-row-left-of-pivot : tie.Need-overflow-mul-row-left-of-pivot
 mul-row-left-of-pivot c = let a = c.before.before.before.before.before.before.before.args in
-    omega (arith, start-triangle a.base, start-le triangle a.base a.r (omega arith))
+    omega (arith, start_triangle a.base, start_le triangle a.base a.r (omega arith))
 
 row-left-of-pivot-requires : tie.Need-row-left-of-pivot-requires
 row-left-of-pivot-requires c κs = let a = c.before.before.before.before.before.before.before.args in
-    (c.before.before.before.before.before.before.before.requires.0, omega arith, start-half a.base, omega arith)
+    (c.before.before.before.before.before.before.before.requires.0, omega arith, start_half a.base, omega arith)
 
 returns : tie.Need-returns
 returns c = let a = c.before.before.before.before.before.before.before.before.before.before.args in

@@ -5,9 +5,9 @@ use native.Mathlib.Omega.{arith}
 use native.Mathlib.Numerals.{add-one}
 use lib.ListN.{length, length-set}
 use Rattle.storage.specs.Runs.{start, triangle}
-use Rattle.storage.proofs.Starts.{start-below}
+use Rattle.storage.proofs.Starts.{start_below}
 use Rattle.re_lower.specs.Band.{LeftOfPivotFrom}
-use Rattle.re_lower.proofs.Turns.{row-turn}
+use Rattle.re_lower.proofs.Turns.{row_turn}
 use Rattle.re_lower.proofs.band_row.row_left_of_pivot.Statement.{statement}
 use Rattle.re_lower.proofs.band_row.row_left_of_pivot.Tie as tie
 
@@ -19,7 +19,7 @@ decreases-loop t₀ from first c0 r c₀ at₀ t c at = r - c
 
 -- row c ends before row r begins
 room : (c : tie.In-loop invariant-loop decreases-loop) → start triangle c.before.loop.c + suc c.before.loop.c ≤ start triangle c.before.before.before.args.r
-room c = start-below triangle c.before.loop.c c.before.before.before.args.r c.loop-test.true
+room c = start_below triangle c.before.loop.c c.before.before.before.args.r c.loop-test.true
 
 loop-holds : tie.Need-loop-init invariant-loop decreases-loop
 loop-holds c = (omega arith, omega arith, refl, λ w k q. q)
@@ -43,7 +43,7 @@ loop-again c = let a = c.before.before.before.before.before.before.before.args i
       omega arith,
       rw add-one (omega arith),
       simp length-set l.inv.2,
-      λ w k q. rw add-one (row-turn w a.from a.r (omega arith) (omega arith) l.c (omega arith) l.t (omega arith) (l.inv.3 w k q) l.at l.inv.1 _ c.before.chain.ensures),
+      λ w k q. rw add-one (row_turn w a.from a.r (omega arith) (omega arith) l.c (omega arith) l.t (omega arith) (l.inv.3 w k q) l.at l.inv.1 _ c.before.chain.ensures),
     )
 
 returns : tie.Need-returns invariant-loop decreases-loop

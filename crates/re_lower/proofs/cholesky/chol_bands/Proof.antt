@@ -9,15 +9,15 @@ use mathlib.Core.Option.{none}
 use Rattle.storage.specs.Runs.{start, triangle, cells}
 use Rattle.storage.specs.Shape.{fill}
 use Rattle.storage.specs.Part.{store}
-use Rattle.storage.proofs.Starts.{start-below}
-use Rattle.storage.proofs.Parts.{store-nil}
+use Rattle.storage.proofs.Starts.{start_below}
+use Rattle.storage.proofs.Parts.{store_nil}
 use Rattle.rules.specs.Arithmetic.{ieee}
-use Rattle.rules.specs.Cholesky.{radicand, firstBad, pivots}
+use Rattle.rules.specs.Cholesky.{radicand, first_bad, pivots}
 use Rattle.re_lower.specs.Lower.{lower, answer_of}
 use Rattle.re_lower.specs.Band.{BandReady}
-use Rattle.re_lower.proofs.Laws.{goes_on, refused-at}
-use Rattle.re_lower.proofs.Band.{row-ready}
-use Rattle.re_lower.proofs.Turns.{rows_to, row_done, is-radicand, chol-turn}
+use Rattle.re_lower.proofs.Laws.{goes_on, refused_at_lem}
+use Rattle.re_lower.proofs.Band.{row_ready}
+use Rattle.re_lower.proofs.Turns.{rows_to, row_done, is_radicand, chol_turn}
 use Rattle.re_lower.proofs.cholesky.chol_bands.Statement.{statement}
 use Rattle.re_lower.proofs.cholesky.chol_bands.Tie as tie
 
@@ -29,17 +29,17 @@ decreases-loop t₀ x₀ n r₀ from₀ base₀ t x r from base = n - r
 
 -- row r ends inside the list
 room : (c : tie.In-loop invariant-loop decreases-loop) → start triangle c.before.loop.r + suc c.before.loop.r ≤ start triangle c.before.before.before.before.args.n
-room c = start-below triangle c.before.loop.r c.before.before.before.before.args.n c.loop-test.true
+room c = start_below triangle c.before.loop.r c.before.before.before.before.args.n c.loop-test.true
 
 -- the radicand of row r is what the test is of
 tested : (c : tie.After-refused invariant-loop decreases-loop) → c.refused.result ≡ ieee.refused (radicand ieee (lower c.before.before.before.before.before.before.before.before.before.before.before.before.before.before.before.before.before.before.args.t.now) c.before.before.before.before.before.before.before.before.before.before.before.before.before.before.before.loop.r)
 tested c = let a = c.before.before.before.before.before.before.before.before.before.before.before.before.before.before.before.before.before.before.args in
     let l = c.before.before.before.before.before.before.before.before.before.before.before.before.before.before.before.loop in
-    c.refused.ensures ∙ ap ieee.refused (is-radicand a.t.now a.n c.before.before.before.before.before.before.before.before.before.before.before.before.before.before.before.before.before.before.requires.0 l.r c.before.before.before.before.before.before.before.before.before.before.before.before.before.before.loop-test.true l.t _ (omega arith) l.inv.3 l.from l.inv.1 c.before.before.before.before.before.before.band-row.ensures _ c.before.chain.ensures)
+    c.refused.ensures ∙ ap ieee.refused (is_radicand a.t.now a.n c.before.before.before.before.before.before.before.before.before.before.before.before.before.before.before.before.before.before.requires.0 l.r c.before.before.before.before.before.before.before.before.before.before.before.before.before.before.loop-test.true l.t _ (omega arith) l.inv.3 l.from l.inv.1 c.before.before.before.before.before.before.band-row.ensures _ c.before.chain.ensures)
 
 loop-holds : tie.Need-loop-init invariant-loop decreases-loop
-unfolding start cells firstBad
-loop-holds c = (omega arith, refl, refl, sym (store-nil 0 c.before.before.args.t.now), refl, omega arith, refl, (λ i y h k m. absurd (omega arith)))
+unfolding start cells first_bad
+loop-holds c = (omega arith, refl, refl, sym (store_nil 0 c.before.before.args.t.now), refl, omega arith, refl, (λ i y h k m. absurd (omega arith)))
 
 next-band-requires : tie.Need-next-band-requires invariant-loop decreases-loop
 next-band-requires c κs = let l = c.before.before.before.loop in
@@ -54,7 +54,7 @@ band-row-requires c κs = let a = c.before.before.before.before.before.before.be
       k.ensures.within,
       k.ensures.short,
       k.ensures.room,
-      row-ready a.t.now a.n c.before.before.before.before.before.before.before.before.before.before.before.requires.0 l.t l.r c.before.before.before.before.before.before.before.loop-test.true l.inv.3 k.last.0 k.result l.from k.ensures.within k.ensures.short l.inv.1
+      row_ready a.t.now a.n c.before.before.before.before.before.before.before.before.before.before.before.requires.0 l.t l.r c.before.before.before.before.before.before.before.loop-test.true l.inv.3 k.last.0 k.result l.from k.ensures.within k.ensures.short l.inv.1
           (k.ensures.ready a.t.now c.before.before.before.before.before.before.before.before.before.before.before.requires.0 l.inv.3 l.inv.7),
     )
 
@@ -75,7 +75,7 @@ unfolding fill
 returns c = let a = c.before.before.before.before.before.before.before.before.before.before.before.before.before.before.before.before.before.before.before.args in
     let l = c.before.before.before.before.before.before.before.before.before.before.before.before.before.before.before.before.loop in
     record {
-      answer = ap answer_of (sym (refused-at ieee (radicand ieee (lower a.t.now)) l.r a.n c.before.before.before.before.before.before.before.before.before.before.before.before.before.before.before.loop-test.true l.inv.4 (sym (tested c.before) ∙ c.if1.true)));
+      answer = ap answer_of (sym (refused_at_lem ieee (radicand ieee (lower a.t.now)) l.r a.n c.before.before.before.before.before.before.before.before.before.before.before.before.before.before.before.loop-test.true l.inv.4 (sym (tested c.before) ∙ c.if1.true)));
       left = row_done a.t.now a.n c.before.before.before.before.before.before.before.before.before.before.before.before.before.before.before.before.before.before.before.requires.0 l.r c.before.before.before.before.before.before.before.before.before.before.before.before.before.before.before.loop-test.true l.t _ (omega arith) l.inv.3 l.from l.inv.1 c.before.before.before.before.before.before.before.band-row.ensures;
     }
 
@@ -99,7 +99,7 @@ loop-again c = let a = c.before.before.before.before.before.before.before.before
       omega arith,
       rw add-one (omega arith),
       simp length-set (omega arith),
-      rw add-one (chol-turn a.t.now a.n c.before.before.before.before.before.before.before.before.before.before.before.before.before.before.before.before.before.before.before.before.requires.0 l.r c.before.before.before.before.before.before.before.before.before.before.before.before.before.before.before.before.loop-test.true l.t _ (omega arith) l.inv.3 l.from l.inv.1 c.before.before.before.before.before.before.before.before.band-row.ensures _ c.before.before.before.chain.ensures _ c.sqrt.ensures),
+      rw add-one (chol_turn a.t.now a.n c.before.before.before.before.before.before.before.before.before.before.before.before.before.before.before.before.before.before.before.before.requires.0 l.r c.before.before.before.before.before.before.before.before.before.before.before.before.before.before.before.before.loop-test.true l.t _ (omega arith) l.inv.3 l.from l.inv.1 c.before.before.before.before.before.before.before.before.band-row.ensures _ c.before.before.before.chain.ensures _ c.sqrt.ensures),
       rw add-one (goes_on ieee (radicand ieee (lower a.t.now)) l.r l.inv.4 (sym (tested c.before.before) ∙ c.before.if1.false)),
       omega (arith, k.ensures.within),
       omega arith,

@@ -6,9 +6,9 @@ use native.Mathlib.Numerals.{add-one}
 use native.Mathlib.Nat.{add-zero}
 use lib.ListN.{length}
 use Rattle.storage.specs.Runs.{start, triangle}
-use Rattle.storage.proofs.Starts.{start-below}
+use Rattle.storage.proofs.Starts.{start_below}
 use Rattle.re_lower.specs.Band.{BandGathered}
-use Rattle.re_lower.proofs.Band.{band-turn}
+use Rattle.re_lower.proofs.Band.{band_turn}
 use Rattle.re_lower.proofs.four_rows.gather.Statement.{statement}
 use Rattle.re_lower.proofs.four_rows.gather.Tie as tie
 
@@ -20,7 +20,7 @@ decreases-loop x₀ t from base rows i₀ at₀ x i at = rows - i
 
 -- row base + i ends inside the list
 room : (c : tie.In-loop invariant-loop decreases-loop) → start triangle (c.before.before.before.before.args.base + c.before.loop.i) + suc (c.before.before.before.before.args.base + c.before.loop.i) ≤ start triangle (c.before.before.before.before.args.base + c.before.before.before.before.args.rows)
-room c = start-below triangle (c.before.before.before.before.args.base + c.before.loop.i) (c.before.before.before.before.args.base + c.before.before.before.before.args.rows) (omega arith)
+room c = start_below triangle (c.before.before.before.before.args.base + c.before.loop.i) (c.before.before.before.before.args.base + c.before.before.before.before.args.rows) (omega arith)
 
 loop-holds : tie.Need-loop-init invariant-loop decreases-loop
 loop-holds c = let a = c.before.before.args in
@@ -40,7 +40,7 @@ loop-again c = let a = c.before.before.before.before.before.before.before.before
       omega arith,
       rw e (omega arith),
       omega arith,
-      rw add-one (band-turn a.t.now l.x _ a.base l.at l.i (omega arith) l.inv.1 l.inv.3 c.before.before.gather-row.ensures),
+      rw add-one (band_turn a.t.now l.x _ a.base l.at l.i (omega arith) l.inv.1 l.inv.3 c.before.before.gather-row.ensures),
     )
 
 returns : tie.Need-returns invariant-loop decreases-loop

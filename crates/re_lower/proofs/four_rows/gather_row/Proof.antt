@@ -5,7 +5,7 @@ use native.Mathlib.Omega.{arith}
 use native.Mathlib.Numerals.{add-one}
 use lib.ListN.{length, length-set}
 use Rattle.re_lower.specs.Band.{Gathered}
-use Rattle.re_lower.proofs.Band.{gather-turn}
+use Rattle.re_lower.proofs.Band.{gather_turn}
 use Rattle.re_lower.proofs.four_rows.gather_row.Statement.{statement}
 use Rattle.re_lower.proofs.four_rows.gather_row.Tie as tie
 
@@ -20,7 +20,7 @@ loop-holds c = (omega arith, refl, record { mine = λ y h. absurd (omega arith);
 
 loop-again : tie.Need-loop-preserved invariant-loop decreases-loop
 loop-again c = let a = c.before.before.before.args in let l = c.before.before.loop in
-    (omega arith, simp length-set l.inv.1, rw add-one (gather-turn a.x.now a.t.now l.x a.from a.i l.c _ l.inv.2 refl (omega arith) (omega arith) (omega arith)))
+    (omega arith, simp length-set l.inv.1, rw add-one (gather_turn a.x.now a.t.now l.x a.from a.i l.c _ l.inv.2 refl (omega arith) (omega arith) (omega arith)))
 
 returns : tie.Need-returns invariant-loop decreases-loop
 returns c = let e : c.before.loop.c ≡ c.before.before.args.n = omega arith in rw e at c.before.loop.invariant.2

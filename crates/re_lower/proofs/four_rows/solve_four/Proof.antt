@@ -5,11 +5,11 @@ use native.Mathlib.Omega.{arith}
 use native.Mathlib.Numerals.{add-one}
 use lib.ListN.{length}
 use Rattle.storage.specs.Runs.{start, triangle}
-use Rattle.storage.proofs.Starts.{start-below}
+use Rattle.storage.proofs.Starts.{start_below}
 use Rattle.rules.specs.Arithmetic.{ieee}
 use Rattle.rules.specs.Cholesky.{at}
-use Rattle.re_lower.specs.Band.{FourSolved, fourDone}
-use Rattle.re_lower.proofs.Band.{four-rest, four-solved}
+use Rattle.re_lower.specs.Band.{FourSolved, four_done}
+use Rattle.re_lower.proofs.Band.{four_rest, four_solved}
 use Rattle.re_lower.proofs.four_rows.solve_four.Statement.{statement}
 use Rattle.re_lower.proofs.four_rows.solve_four.Tie as tie
 
@@ -24,22 +24,22 @@ unfolding start
 loop-holds c = (omega arith, refl, refl, (λ i y h k. absurd (omega arith)), (λ z h. refl))
 
 four-cells-requires : tie.Need-four-cells-requires invariant-loop decreases-loop
-four-cells-requires c κs = omega (arith, start-below triangle c.before.before.loop.c c.before.before.before.before.before.args.n (omega arith))
+four-cells-requires c κs = omega (arith, start_below triangle c.before.before.loop.c c.before.before.before.before.before.args.n (omega arith))
 
 add-from : tie.Need-overflow-add-from invariant-loop decreases-loop
-add-from c = omega (arith, start-below triangle c.before.before.before.before.before.loop.c c.before.before.before.before.before.before.before.before.args.n (omega arith))
+add-from c = omega (arith, start_below triangle c.before.before.before.before.before.loop.c c.before.before.before.before.before.before.before.before.args.n (omega arith))
 
 loop-again : tie.Need-loop-preserved invariant-loop decreases-loop
 unfolding start
 loop-again c = let a = c.before.before.before.before.before.before.before.before.args in
     let l = c.before.before.before.before.before.loop in
-    let e : c.before.before.four-cells.new.0 ≡ fourDone l.x a.l.now l.from l.c = c.before.before.four-cells.ensures in
+    let e : c.before.before.four-cells.new.0 ≡ four_done l.x a.l.now l.from l.c = c.before.before.four-cells.ensures in
     let f : 4 * l.c + 4 ≤ length l.x = omega arith in (
       omega arith,
       rw add-one (omega arith),
       omega arith,
-      rw (add-one, e) (four-solved a.x.now a.l.now l.x l.from l.c l.inv.1 f l.inv.3 l.inv.4),
-      rw (add-one, e) (four-rest a.x.now a.l.now l.x l.from l.c l.inv.1 f l.inv.3 l.inv.4),
+      rw (add-one, e) (four_solved a.x.now a.l.now l.x l.from l.c l.inv.1 f l.inv.3 l.inv.4),
+      rw (add-one, e) (four_rest a.x.now a.l.now l.x l.from l.c l.inv.1 f l.inv.3 l.inv.4),
     )
 
 returns : tie.Need-returns invariant-loop decreases-loop

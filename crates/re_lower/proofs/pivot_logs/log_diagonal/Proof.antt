@@ -5,29 +5,29 @@ use Prim.Native.Nat.{◌≤◌, ◌-◌, ◌+◌}
 use native.Mathlib.Omega.{arith}
 use native.Mathlib.Numerals.{add-one}
 use Rattle.storage.specs.Runs.{start, single}
-use Rattle.storage.proofs.Starts.{start-single}
-use Rattle.rules.specs.Sums.{logsFrom}
+use Rattle.storage.proofs.Starts.{start_single}
+use Rattle.rules.specs.Sums.{logs_from}
 use Rattle.rules.specs.Cholesky.{at}
 use Rattle.rules.specs.Arithmetic.{ieee}
-use Rattle.re_lower.specs.Lower.{pivot, logsOfDiagonal}
-use Rattle.re_lower.proofs.Turns.{log-turn}
+use Rattle.re_lower.specs.Lower.{pivot, logs_of_diagonal}
+use Rattle.re_lower.proofs.Turns.{log_turn}
 use Rattle.re_lower.proofs.pivot_logs.log_diagonal.Statement.{statement}
 use Rattle.re_lower.proofs.pivot_logs.log_diagonal.Tie as tie
 
 abbrev invariant-loop : tie.invariant-loop
-invariant-loop t n s v₀ r₀ v r = (r ≤ n) × (v ≡ logsOfDiagonal t r s)
+invariant-loop t n s v₀ r₀ v r = (r ≤ n) × (v ≡ logs_of_diagonal t r s)
 
 abbrev decreases-loop : tie.decreases-loop
 decreases-loop t n s v₀ r₀ v r = n - r
 
 loop-holds : tie.Need-loop-init invariant-loop decreases-loop
-unfolding logsFrom
+unfolding logs_from
 loop-holds c = (omega arith, refl)
 
 loop-again : tie.Need-loop-preserved invariant-loop decreases-loop
 loop-again c = let a = c.before.before.before.before.before.args in let l = c.before.before.before.loop in
-    let e : l.r ≡ start single l.r + 0 = omega (arith, start-single l.r) in
-    (omega arith, rw add-one (log-turn a.s l.v _ a.t.now _ l.r (pivot a.t.now) (omega arith) (ap (at ieee a.t.now) e) l.inv.1 c.ln.ensures))
+    let e : l.r ≡ start single l.r + 0 = omega (arith, start_single l.r) in
+    (omega arith, rw add-one (log_turn a.s l.v _ a.t.now _ l.r (pivot a.t.now) (omega arith) (ap (at ieee a.t.now) e) l.inv.1 c.ln.ensures))
 
 returns : tie.Need-returns invariant-loop decreases-loop
 returns c = let e : c.before.loop.r ≡ c.before.before.before.args.n = omega arith in cc

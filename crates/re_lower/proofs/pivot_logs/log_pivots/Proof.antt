@@ -5,27 +5,27 @@ use Prim.Native.Nat.{ℕ, ◌≤◌, ◌-◌, ◌+◌, suc}
 use native.Mathlib.Omega.{arith}
 use native.Mathlib.Numerals.{add-one}
 use Rattle.storage.specs.Runs.{start, triangle}
-use Rattle.storage.proofs.Starts.{start-below}
-use Rattle.rules.specs.Sums.{logsFrom}
+use Rattle.storage.proofs.Starts.{start_below}
+use Rattle.rules.specs.Sums.{logs_from}
 use Rattle.rules.specs.Cholesky.{at}
 use Rattle.rules.specs.Arithmetic.{ieee}
-use Rattle.re_lower.specs.Lower.{lower, logsOfTriangle}
-use Rattle.re_lower.proofs.Turns.{log-turn}
+use Rattle.re_lower.specs.Lower.{lower, logs_of_triangle}
+use Rattle.re_lower.proofs.Turns.{log_turn}
 use Rattle.re_lower.proofs.pivot_logs.log_pivots.Statement.{statement}
 use Rattle.re_lower.proofs.pivot_logs.log_pivots.Tie as tie
 
 abbrev invariant-loop : tie.invariant-loop
-invariant-loop t n s v₀ r₀ from₀ v r from = (r ≤ n) × (from ≡ start triangle r) × (v ≡ logsOfTriangle t r s)
+invariant-loop t n s v₀ r₀ from₀ v r from = (r ≤ n) × (from ≡ start triangle r) × (v ≡ logs_of_triangle t r s)
 
 abbrev decreases-loop : tie.decreases-loop
 decreases-loop t n s v₀ r₀ from₀ v r from = n - r
 
 -- row r ends inside the list
 room : (c : tie.In-loop invariant-loop decreases-loop) → start triangle c.before.loop.r + suc c.before.loop.r ≤ start triangle c.before.before.before.args.n
-room c = start-below triangle c.before.loop.r c.before.before.before.args.n c.loop-test.true
+room c = start_below triangle c.before.loop.r c.before.before.before.args.n c.loop-test.true
 
 loop-holds : tie.Need-loop-init invariant-loop decreases-loop
-unfolding start logsFrom
+unfolding start logs_from
 loop-holds c = (omega arith, refl, refl)
 
 loop-again : tie.Need-loop-preserved invariant-loop decreases-loop
@@ -34,7 +34,7 @@ loop-again c = let a = c.before.before.before.before.before.args in let l = c.be
   omega arith,
   rw add-one (omega arith),
   rw add-one
-      (log-turn a.s l.v _ a.t.now _ l.r (λ r. lower a.t.now r r) (omega (arith, room c.before.before))
+      (log_turn a.s l.v _ a.t.now _ l.r (λ r. lower a.t.now r r) (omega (arith, room c.before.before))
       (ap (λ (i : ℕ). at ieee a.t.now (i + l.r)) l.inv.1) l.inv.2 c.ln.ensures),
 )
 

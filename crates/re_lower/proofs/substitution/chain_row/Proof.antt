@@ -5,9 +5,9 @@ use native.Mathlib.Omega.{arith}
 use native.Mathlib.Numerals.{add-one}
 use native.Mathlib.Nat.{zero-add}
 use mathlib.Core.Path.{sym}
-use Rattle.rules.specs.Sums.{subtractFrom}
+use Rattle.rules.specs.Sums.{subtract_from}
 use Rattle.re_lower.specs.Lower.{chained}
-use Rattle.re_lower.proofs.Turns.{chain-turn}
+use Rattle.re_lower.proofs.Turns.{chain_turn}
 use Rattle.re_lower.proofs.substitution.chain_row.Statement.{statement}
 use Rattle.re_lower.proofs.substitution.chain_row.Tie as tie
 
@@ -18,12 +18,12 @@ abbrev decreases-loop : tie.decreases-loop
 decreases-loop t l from n s v₀ y₀ v y = n - y
 
 loop-holds : tie.Need-loop-init invariant-loop decreases-loop
-unfolding subtractFrom
+unfolding subtract_from
 loop-holds c = (omega arith, refl)
 
 loop-again : tie.Need-loop-preserved invariant-loop decreases-loop
 loop-again c = let a = c.before.before.before.before.args in let l = c.before.before.before.loop in
-    (omega arith, rw add-one (chain-turn a.s l.v a.t.now a.l.now 0 a.from l.y _ _ (sym (zero-add l.y)) refl (omega arith) (omega arith) l.inv.1))
+    (omega arith, rw add-one (chain_turn a.s l.v a.t.now a.l.now 0 a.from l.y _ _ (sym (zero-add l.y)) refl (omega arith) (omega arith) l.inv.1))
 
 returns : tie.Need-returns invariant-loop decreases-loop
 returns c = let e : c.before.loop.y ≡ c.before.before.args.n = omega arith in cc

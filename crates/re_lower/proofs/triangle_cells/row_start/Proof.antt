@@ -8,7 +8,7 @@ use lib.Dec.{eqb, eqb→eq}
 use lib.ListN.{get_or}
 use borrow.Author.Rules.{rules}
 use Rattle.storage.specs.Runs.{start, triangle}
-use Rattle.storage.proofs.Starts.{start-triangle}
+use Rattle.storage.proofs.Starts.{start_triangle}
 use Rattle.storage.proofs.Table.{entry}
 use Rattle.re_lower.proofs.triangle_cells.row_start.Statement.{statement}
 use Rattle.re_lower.proofs.triangle_cells.row_start.Tie as tie
@@ -38,7 +38,7 @@ right : ℕ → ℕ → Bool
 right k x = eqb (2 * x) (k * (k + 1))
 
 half : (v r : ℕ) → 2 * v ≡ r * (r + 1) → v ≡ start triangle r
-half v r e = omega (arith, start-triangle r)
+half v r e = omega (arith, start_triangle r)
 
 returns : tie.Need-returns
 unfolding starts right

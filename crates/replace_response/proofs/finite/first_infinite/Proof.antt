@@ -3,7 +3,7 @@ use borrow.Author.Rules.{rules}
 use Prim.Native.Nat.{◌-◌}
 use mathlib.Core.Path.{sym, ◌∙◌}
 use lib.ListN.{length}
-use Rattle.replace_response.proofs.finite.Walk.{Walked, walked_none, walked_more, walked-found, walked_all}
+use Rattle.replace_response.proofs.finite.Walk.{Walked, walked_none, walked_more, walked_found, walked_all}
 use Rattle.replace_response.proofs.finite.first_infinite.Statement.{statement}
 use Rattle.replace_response.proofs.finite.first_infinite.Tie as tie
 
@@ -17,7 +17,7 @@ loop-again : tie.Need-loop-preserved invariant-loop decreases-loop
 loop-again c = walked_more _ _ c.before.before.before.before.loop.invariant c.before.before.before.loop-test.true (sym c.if1.true ∙ c.before.is_finite.ensures)
 
 returns : tie.Need-returns invariant-loop decreases-loop
-returns c = walked-found _ _ c.before.before.before.before.loop.invariant c.before.before.before.loop-test.true (sym c.if1.false ∙ c.before.is_finite.ensures)
+returns c = walked_found _ _ c.before.before.before.before.loop.invariant c.before.before.before.loop-test.true (sym c.if1.false ∙ c.before.is_finite.ensures)
 
 returns-2 : tie.Need-returns-2 invariant-loop decreases-loop
 returns-2 c = walked_all _ _ c.before.loop.invariant c.loop-test.false

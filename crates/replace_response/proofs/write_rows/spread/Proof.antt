@@ -5,7 +5,7 @@ use mathlib.Core.Path.{◌≡◌, refl, ap, ◌∙◌}
 use native.Mathlib.Omega.{arith}
 use lib.ListN.{length, length-set}
 use Rattle.replace_response.specs.write_rows.Strided.{strided, from}
-use Rattle.replace_response.proofs.write_rows.Strided.{strided-none, strided-more}
+use Rattle.replace_response.proofs.write_rows.Strided.{strided_none, strided_more}
 use Rattle.replace_response.proofs.write_rows.spread.Statement.{statement}
 use Rattle.replace_response.proofs.write_rows.spread.Tie as tie
 
@@ -16,7 +16,7 @@ abbrev decreases-loop : tie.decreases-loop
 decreases-loop w₀ to step n l at c₀ w c = n - c
 
 loop-holds : tie.Need-loop-init invariant-loop decreases-loop
-loop-holds c = (omega arith, strided-none _ _ _ _, refl)
+loop-holds c = (omega arith, strided_none _ _ _ _, refl)
 
 mul-doubles-2 : tie.Need-overflow-mul-doubles-2 invariant-loop decreases-loop
 mul-doubles-2 c = let h = c.before.before.before.requires.1 c.before.before.loop.c c.before.loop-test.true in search rules
@@ -32,7 +32,7 @@ slice-write-doubles c = let h = c.before.before.before.requires.1 c.before.befor
 
 loop-again : tie.Need-loop-preserved invariant-loop decreases-loop
 loop-again c = let s = c.before.before.before in let l = c.before.before.loop in
-    (omega arith, strided-more s.args.to s.args.step _ s.args.doubles.now l.c l.doubles l.inv.1, simp length-set l.inv.2)
+    (omega arith, strided_more s.args.to s.args.step _ s.args.doubles.now l.c l.doubles l.inv.1, simp length-set l.inv.2)
 
 returns : tie.Need-returns invariant-loop decreases-loop
 returns c = let l = c.before.loop in let a = c.before.before.args in

@@ -2,14 +2,14 @@
 use native.Mathlib.Omega.{arith}
 use mathlib.Core.Path.{ap, ◌∙◌}
 use lib.ListN.{length}
-use Rattle.replace_response.proofs.write_rows.Strided.{length-strided}
-use Rattle.replace_response.proofs.write_rows.Cells.{few-effects, last_fits, last_written}
+use Rattle.replace_response.proofs.write_rows.Strided.{length_strided}
+use Rattle.replace_response.proofs.write_rows.Cells.{few_effects, last_fits, last_written}
 use borrow.Author.Rules.{rules}
 use Rattle.replace_response.proofs.write_rows.write_last.Statement.{statement}
 use Rattle.replace_response.proofs.write_rows.write_last.Tie as tie
 
 row-start-requires : tie.Need-row-start-requires
-row-start-requires c κs = let s = c.before.before.before.before in few-effects s.args.layout s.pre.0
+row-start-requires c κs = let s = c.before.before.before.before in few_effects s.args.layout s.pre.0
 
 add-to : tie.Need-overflow-add-to
 add-to c = let s = c.before.before.before.before.before in
@@ -29,7 +29,7 @@ add-spread c = let s = c.before.before.before.before.before.before.before.before
 spread-requires-2 : tie.Need-spread-requires-2
 spread-requires-2 c κs = let s = c.before.before.before.before.before.before.before.before.before.before in
     let b = c.before.before.before.before.before in
-    let kept = ap length c.before.before.before.spread.ensures ∙ length-strided _ _ _ _ s.args.layout.p in (
+    let kept = ap length c.before.before.before.spread.ensures ∙ length_strided _ _ _ _ s.args.layout.p in (
       omega (arith, s.pre.4),
       λ x l. omega (arith, kept, last_fits s.args.layout s.pre.0 _ _ s.pre.2 _ b.before.start_of_lem.ensures b.row-start.ensures s.args.layout.p (omega arith)),
     )

@@ -3,35 +3,35 @@ use mathlib.Core.Path.{◌≡◌, refl}
 use Prim.Native.Nat.{◌-◌}
 use native.Mathlib.Omega.{arith}
 use lib.ListN.{length}
-use Rattle.storage.specs.Placed.{asTriangle, asColumns}
-use Rattle.schur.specs.Schur.{subtractSquares}
-use Rattle.block_runs.proofs.blocks.Going.{Going, going-none, going-room, going-all, turn}
-use Rattle.schur.proofs.Turns.{subtractSum, sums-swapped}
+use Rattle.storage.specs.Placed.{as_triangle, as_columns}
+use Rattle.schur.specs.Schur.{subtract_squares}
+use Rattle.block_runs.proofs.blocks.Going.{Going, going_none, going_room, going_all, turn}
+use Rattle.schur.proofs.Turns.{subtract_sum, sums_swapped}
 use borrow.Author.Rules.{rules}
 use Rattle.schur.proofs.dense_triangle.rank_sub.Statement.{statement}
 use Rattle.schur.proofs.dense_triangle.rank_sub.Tie as tie
 
 abbrev invariant-loop : tie.invariant-loop
-invariant-loop w₀ t a acc₀ r₀ to₀ w acc r to = (length acc ≡ 316) × Going (asTriangle t) (subtractSquares t a w₀) w₀ r to w
+invariant-loop w₀ t a acc₀ r₀ to₀ w acc r to = (length acc ≡ 316) × Going (as_triangle t) (subtract_squares t a w₀) w₀ r to w
 
 abbrev decreases-loop : tie.decreases-loop
 decreases-loop w₀ t a acc₀ r₀ to₀ w acc r to = t.rows - r
 
 loop-holds : tie.Need-loop-init invariant-loop decreases-loop
-loop-holds c = let s = c.before in (refl, going-none (asTriangle s.args.t) _ s.args.doubles.now s.pre.1.target)
+loop-holds c = let s = c.before in (refl, going_none (as_triangle s.args.t) _ s.args.doubles.now s.pre.1.target)
 
 subtract-run-requires : tie.Need-subtract-run-requires invariant-loop decreases-loop
-subtract-run-requires c κs = omega (arith, going-room c.before.before.before.before.loop.invariant.1 (omega arith))
+subtract-run-requires c κs = omega (arith, going_room c.before.before.before.before.loop.invariant.1 (omega arith))
 
 add-to : tie.Need-overflow-add-to invariant-loop decreases-loop
-add-to c = omega (arith, going-room c.before.before.before.before.before.before.before.before.loop.invariant.1 (omega arith))
+add-to c = omega (arith, going_room c.before.before.before.before.before.before.before.before.loop.invariant.1 (omega arith))
 
 loop-again : tie.Need-loop-preserved invariant-loop decreases-loop
 loop-again c = let s = c.before.before.before.before.before.before.before.before.before.before in let a = s.args.a in let P = s.pre.1 in
-    (omega arith, turn c.before.before.before.before.before.before.before.before.loop.invariant.1 (omega arith) (subtractSum a.cols) (asColumns a) (asColumns a) _ P.off-left P.off-right (λ i. sums-swapped a.cols _ _ _) (omega arith) refl c.before.before.before.subtract-run.ensures)
+    (omega arith, turn c.before.before.before.before.before.before.before.before.loop.invariant.1 (omega arith) (subtract_sum a.cols) (as_columns a) (as_columns a) _ P.off_left P.off_right (λ i. sums_swapped a.cols _ _ _) (omega arith) refl c.before.before.before.subtract-run.ensures)
 
 returns : tie.Need-returns invariant-loop decreases-loop
-returns c = going-all c.before.before.loop.invariant.1 (omega arith)
+returns c = going_all c.before.before.loop.invariant.1 (omega arith)
 
 pub rank-sub-spec : {M : Type 1} → statement M
 rank-sub-spec = tie.close (tie.spec invariant-loop decreases-loop loop-holds (λ c. search rules) (λ c. search rules)

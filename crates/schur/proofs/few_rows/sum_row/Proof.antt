@@ -1,13 +1,13 @@
 -- `schur::few_rows::sum_row`: cleared, then the products, then put.
 use native.Mathlib.Omega.{arith}
-use Rattle.schur.proofs.Turns.{lies-as}
+use Rattle.schur.proofs.Turns.{lies_as}
 use Rattle.schur.proofs.few_rows.Laws.{row_put}
 use borrow.Author.Rules.{rules}
 use Rattle.schur.proofs.few_rows.sum_row.Statement.{statement}
 use Rattle.schur.proofs.few_rows.sum_row.Tie as tie
 
 add-products-requires : tie.Need-add-products-requires
-add-products-requires c κs = let s = c.before.before.before.before.before.before.before.before in omega (arith, lies-as _ _ s.args.b s.pre.3 s.pre.5)
+add-products-requires c κs = let s = c.before.before.before.before.before.before.before.before in omega (arith, lies_as _ _ s.args.b s.pre.3 s.pre.5)
 
 returns : tie.Need-returns
 returns c = let s = c.before.before.before.before.before.before.before.before.before.before.before.before.before.before.before.before in let a = s.args in

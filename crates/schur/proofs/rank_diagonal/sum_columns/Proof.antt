@@ -6,16 +6,16 @@ use borrow.Author.Rules.{rules}
 use native.Mathlib.Omega.{arith}
 use native.Mathlib.Numerals.{add-one}
 use Rattle.storage.specs.Runs.{start, dense}
-use Rattle.storage.specs.Placed.{asColumns}
-use Rattle.storage.proofs.Starts.{start-below}
+use Rattle.storage.specs.Placed.{as_columns}
+use Rattle.storage.proofs.Starts.{start_below}
 use Rattle.schur.specs.rank_diagonal.Rows.{Summed}
-use Rattle.schur.proofs.rank_diagonal.Squares.{summed-none, summed-more}
+use Rattle.schur.proofs.rank_diagonal.Squares.{summed_none, summed_more}
 use Rattle.schur.proofs.rank_diagonal.sum_columns.Statement.{statement}
 use Rattle.schur.proofs.rank_diagonal.sum_columns.Tie as tie
 
 abbrev invariant-loop : tie.invariant-loop
 invariant-loop sums₀ w a src x₀ p₀ q₀ sums x p q =
-    (x ≤ a.cols) × (p ≡ a.at + start (dense a.rows) x) × (q ≡ src + start (dense a.rows) x) × (length sums ≡ length sums₀) × Summed (asColumns a) src w 0 a.rows x sums
+    (x ≤ a.cols) × (p ≡ a.at + start (dense a.rows) x) × (q ≡ src + start (dense a.rows) x) × (length sums ≡ length sums₀) × Summed (as_columns a) src w 0 a.rows x sums
 
 abbrev decreases-loop : tie.decreases-loop
 decreases-loop sums₀ w a src x₀ p₀ q₀ sums x p q = a.cols - x
@@ -27,14 +27,14 @@ loop-holds c = let p = c.before.before in let a = p.args in (
   omega arith,
   omega arith,
   refl,
-  summed-none (asColumns a.a) a.src a.doubles.now 0 a.a.rows a.sums.now p.pre.1,
+  summed_none (as_columns a.a) a.src a.doubles.now 0 a.a.rows a.sums.now p.pre.1,
 )
 
 add-p : tie.Need-overflow-add-p invariant-loop decreases-loop
-add-p c = let a = c.before.before.before.before.before.before.before.before.before.before.args.a in omega (arith, start-below (dense a.rows) c.before.before.before.before.before.before.before.loop.x a.cols (omega arith))
+add-p c = let a = c.before.before.before.before.before.before.before.before.before.before.args.a in omega (arith, start_below (dense a.rows) c.before.before.before.before.before.before.before.loop.x a.cols (omega arith))
 
 add-q : tie.Need-overflow-add-q invariant-loop decreases-loop
-add-q c = let a = c.before.before.before.before.before.before.before.before.before.before.before.args.a in omega (arith, start-below (dense a.rows) c.before.before.before.before.before.before.before.before.loop.x a.cols (omega arith))
+add-q c = let a = c.before.before.before.before.before.before.before.before.before.before.before.args.a in omega (arith, start_below (dense a.rows) c.before.before.before.before.before.before.before.before.loop.x a.cols (omega arith))
 
 loop-again : tie.Need-loop-preserved invariant-loop decreases-loop
 unfolding start
@@ -45,7 +45,7 @@ loop-again c = let a = c.before.before.before.before.before.before.before.before
       rw add-one (omega arith),
       omega arith,
       rw add-one
-          (summed-more (asColumns a.a) a.src a.doubles.now 0 a.a.rows l.x l.sums t.last.0 l.inv.4 t.ensures),
+          (summed_more (as_columns a.a) a.src a.doubles.now 0 a.a.rows l.x l.sums t.last.0 l.inv.4 t.ensures),
     )
 
 returns : tie.Need-returns invariant-loop decreases-loop

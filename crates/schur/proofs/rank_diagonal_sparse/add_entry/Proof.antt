@@ -2,17 +2,17 @@
 use Prim.Native.Nat.{◌-◌}
 use native.Mathlib.Omega.{arith}
 use borrow.Author.Rules.{rules}
-use Rattle.schur.proofs.rank_diagonal.Squares.{entry-elsewhere, entry_here}
+use Rattle.schur.proofs.rank_diagonal.Squares.{entry_elsewhere, entry_here}
 use Rattle.schur.proofs.rank_diagonal_sparse.add_entry.Statement.{statement}
 use Rattle.schur.proofs.rank_diagonal_sparse.add_entry.Tie as tie
 
 returns : tie.Need-returns
 returns c = let a = c.before.before.args in
-    entry-elsewhere a.from a.m a.row a.cell a.v a.sums.now (λ i h e. absurd (omega arith))
+    entry_elsewhere a.from a.m a.row a.cell a.v a.sums.now (λ i h e. absurd (omega arith))
 
 returns-2 : tie.Need-returns-2
 returns-2 c = let a = c.before.before.before.args in
-    entry-elsewhere a.from a.m a.row a.cell a.v a.sums.now (λ i h e. absurd (omega arith))
+    entry_elsewhere a.from a.m a.row a.cell a.v a.sums.now (λ i h e. absurd (omega arith))
 
 returns-3 : tie.Need-returns-3
 returns-3 c = let a = c.before.before.before.before.before.args in

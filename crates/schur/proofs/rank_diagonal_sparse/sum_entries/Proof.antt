@@ -5,16 +5,16 @@ use mathlib.Core.Path.{◌≡◌, refl}
 use lib.ListN.{length}
 use native.Mathlib.Omega.{arith}
 use native.Mathlib.Numerals.{add-one}
-use Rattle.storage.specs.Placed.{asEntries}
-use Rattle.block_runs.specs.blocks.Blocks.{rowFrom}
+use Rattle.storage.specs.Placed.{as_entries}
+use Rattle.block_runs.specs.blocks.Blocks.{row_from}
 use Rattle.schur.specs.rank_diagonal.Rows.{Summed}
-use Rattle.schur.proofs.rank_diagonal.Squares.{summed-none, summed-more, entry-added}
+use Rattle.schur.proofs.rank_diagonal.Squares.{summed_none, summed_more, entry_added}
 use Rattle.schur.proofs.rank_diagonal_sparse.sum_entries.Statement.{statement}
 use Rattle.schur.proofs.rank_diagonal_sparse.sum_entries.Tie as tie
 
 abbrev invariant-loop : tie.invariant-loop
 invariant-loop sums₀ from m w a src h first x₀ sums x =
-    (x ≤ a.cols) × (length sums ≡ length sums₀) × Summed (asEntries (rowFrom h first) a) src w from m x sums
+    (x ≤ a.cols) × (length sums ≡ length sums₀) × Summed (as_entries (row_from h first) a) src w from m x sums
 
 abbrev decreases-loop : tie.decreases-loop
 decreases-loop sums₀ from m w a src h first x₀ sums x = a.cols - x
@@ -23,7 +23,7 @@ loop-holds : tie.Need-loop-init invariant-loop decreases-loop
 loop-holds c = let p = c.before.before.before in let a = p.args in (
   search rules,
   refl,
-  summed-none (asEntries (rowFrom a.heading.now a.first) a.a) a.src a.doubles.now a.from a.m a.sums.now p.pre.1,
+  summed_none (as_entries (row_from a.heading.now a.first) a.a) a.src a.doubles.now a.from a.m a.sums.now p.pre.1,
 )
 
 loop-again : tie.Need-loop-preserved invariant-loop decreases-loop
@@ -31,12 +31,12 @@ loop-again c =
     let a = c.before.before.before.before.before.before.before.before.before.before.before.before.before.before.before.args in
     let l = c.before.before.before.before.before.before.before.before.before.before.before.loop in
     let k = c.before.before.before.before.before.before.before.wide in let t = c.before.before.add-entry in
-    let row : ℕ → ℕ = rowFrom a.heading.now a.first in (
+    let row : ℕ → ℕ = row_from a.heading.now a.first in (
       omega arith,
       omega arith,
       rw add-one
-          (summed-more (asEntries row a.a) a.src a.doubles.now a.from a.m l.x l.sums t.last.0 l.inv.2
-          (entry-added a.a a.src row a.doubles.now a.from a.m l.x (omega arith) (omega arith) (omega arith)
+          (summed_more (as_entries row a.a) a.src a.doubles.now a.from a.m l.x l.sums t.last.0 l.inv.2
+          (entry_added a.a a.src row a.doubles.now a.from a.m l.x (omega arith) (omega arith) (omega arith)
           l.sums t.last.0 k.result k.ensures t.ensures)),
     )
 

@@ -2,7 +2,7 @@
 use Prim.Native.Nat.{◌-◌}
 use borrow.Author.Rules.{rules}
 use native.Mathlib.Omega.{arith}
-use Rattle.sheet_checks.proofs.levels.Sums.{Summed, summed-start, summed-more, summed-fits, summed-done}
+use Rattle.sheet_checks.proofs.levels.Sums.{Summed, summed_start, summed_more, summed_fits, summed_done}
 use Rattle.sheet_checks.proofs.levels.start.Statement.{statement}
 use Rattle.sheet_checks.proofs.levels.start.Tie as tie
 
@@ -13,9 +13,9 @@ abbrev decreases-loop : tie.decreases-loop
 decreases-loop n m t₀ i₀ t i = n - i
 
 returns : tie.Need-returns invariant-loop decreases-loop
-returns c = summed-done c.before.loop.invariant (omega arith)
+returns c = summed_done c.before.loop.invariant (omega arith)
 
 pub start_spec : {M : Type 1} → statement M
-start_spec = tie.close (tie.spec invariant-loop decreases-loop (λ c. summed-start _ _) (λ c. search rules) (λ c. search rules)
-    (λ c. record { fits = search summed-fits }) (λ c. search rules) (λ c. search rules) (λ c. search summed-more)
+start_spec = tie.close (tie.spec invariant-loop decreases-loop (λ c. summed_start _ _) (λ c. search rules) (λ c. search rules)
+    (λ c. record { fits = search summed_fits }) (λ c. search rules) (λ c. search rules) (λ c. search summed_more)
     returns)

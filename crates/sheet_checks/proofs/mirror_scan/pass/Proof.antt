@@ -5,7 +5,7 @@ use native.Mathlib.Omega.{arith}
 use borrow.Author.Rules.{rules}
 use lib.ListN.{length}
 use Rattle.sheet_checks.specs.mirror_cursor.Turns.{Pass}
-use Rattle.sheet_checks.proofs.mirror_scan.Passes.{pass-start, pass-end}
+use Rattle.sheet_checks.proofs.mirror_scan.Passes.{pass_start, pass_end}
 use Rattle.sheet_checks.proofs.mirror_scan.pass.Statement.{statement}
 use Rattle.sheet_checks.proofs.mirror_scan.pass.Tie as tie
 
@@ -16,7 +16,7 @@ abbrev decreases-loop : tie.decreases-loop
 decreases-loop s z m n base cur₀ k₀ i₀ cur k i = n - i
 
 loop-holds : tie.Need-loop-init invariant-loop decreases-loop
-loop-holds c = let p = c.before.before.requires in (refl, pass-start p.0 _ _ p.2 p.4)
+loop-holds c = let p = c.before.before.requires in (refl, pass_start p.0 _ _ p.2 p.4)
 
 check-entry-requires : tie.Need-check-entry-requires invariant-loop decreases-loop
 check-entry-requires c κs = let p = c.before.before.before.before.before.requires in let v = c.before.before.loop.invariant in
@@ -27,7 +27,7 @@ loop-again c = let t = c.before.before.check-entry.ensures in (t.0 ∙ c.before.
 
 first-fault-requires : tie.Need-first-fault-requires invariant-loop decreases-loop
 first-fault-requires c κs = let p = c.before.before.before.before.before.requires in let v = c.before.before.loop.invariant in
-    (p.0, pass-end p.0 v.1 c.before.loop-test.false, omega (arith, p.3, v.0))
+    (p.0, pass_end p.0 v.1 c.before.loop-test.false, omega (arith, p.3, v.0))
 
 returns : tie.Need-returns invariant-loop decreases-loop
 returns c = rw (c.before.before.before.loop.invariant.0) at c.first-fault.ensures

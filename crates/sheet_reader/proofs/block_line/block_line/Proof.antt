@@ -2,11 +2,11 @@
 use Rattle.std.proofs.Common.{◌≡◌, ℕ, List, rules}
 use Rattle.sheet.specs.declared.Field.{Field}
 use Rattle.sheet.specs.declared.Line.{Line}
-use Rattle.sheet.specs.Line.{block_line, tab, lf, blockTag, tagTo, numberTo}
+use Rattle.sheet.specs.Line.{block_line, tab, lf, block_tag, tag_to, number_to}
 use Rattle.sheet_reader.proofs.block_line.block_line.Statement.{statement}
 use Rattle.sheet_reader.proofs.block_line.block_line.Tie as tie
 
-counts : (s : List ℕ) (at : ℕ) (t m e : Field) → t ≡ tagTo blockTag s at → m ≡ numberTo tab s t.next → e ≡ numberTo lf s m.next → ◌≡◌ {A = Line} (record { first = m.value; second = e.value; word = 0; next = e.next }) (block_line s at)
+counts : (s : List ℕ) (at : ℕ) (t m e : Field) → t ≡ tag_to block_tag s at → m ≡ number_to tab s t.next → e ≡ number_to lf s m.next → ◌≡◌ {A = Line} (record { first = m.value; second = e.value; word = 0; next = e.next }) (block_line s at)
 unfolding block_line
 counts s at t m e f g h = cc
 

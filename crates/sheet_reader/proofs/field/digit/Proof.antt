@@ -1,27 +1,27 @@
 -- `sheet_reader::field::digit`: a case for each range of bytes.
 use Rattle.std.proofs.Common.{rules, le-ltb, lt-ltb}
-use Rattle.sheet.specs.Field.{digitOf}
+use Rattle.sheet.specs.Field.{digit_of}
 use Rattle.sheet_reader.proofs.field.digit.Statement.{statement}
 use Rattle.sheet_reader.proofs.field.digit.Tie as tie
 
 returns : tie.Need-returns
-unfolding digitOf
+unfolding digit_of
 returns c = simp (lt-ltb _ _ c.if1.true)
 
 returns-2 : tie.Need-returns-2
-unfolding digitOf
+unfolding digit_of
 returns-2 c = simp (le-ltb _ _ c.before.if1.false, lt-ltb _ _ c.if2.true)
 
 returns-3 : tie.Need-returns-3
-unfolding digitOf
+unfolding digit_of
 returns-3 c = simp (le-ltb _ _ c.before.before.if1.false, le-ltb _ _ c.before.if2.false, lt-ltb _ _ c.if3.true)
 
 returns-4 : tie.Need-returns-4
-unfolding digitOf
+unfolding digit_of
 returns-4 c = simp (le-ltb _ _ c.before.before.before.if1.false, le-ltb _ _ c.before.before.if2.false, le-ltb _ _ c.before.if3.false, lt-ltb _ _ c.if4.true)
 
 returns-5 : tie.Need-returns-5
-unfolding digitOf
+unfolding digit_of
 returns-5 c = simp (le-ltb _ _ c.before.before.before.if1.false, le-ltb _ _ c.before.before.if2.false, le-ltb _ _ c.before.if3.false, le-ltb _ _ c.if4.false)
 
 pub digit-spec : {M : Type 1} → statement M

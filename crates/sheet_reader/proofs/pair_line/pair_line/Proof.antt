@@ -2,12 +2,12 @@
 use Rattle.std.proofs.Common.{◌≡◌, ℕ, List, rules}
 use Rattle.sheet.specs.declared.Field.{Field}
 use Rattle.sheet.specs.declared.Line.{Line}
-use Rattle.sheet.specs.Line.{pairLine, tab, tagTo, numberTo, wordTo}
+use Rattle.sheet.specs.Line.{pair_line, tab, tag_to, number_to, word_to}
 use Rattle.sheet_reader.proofs.pair_line.pair_line.Statement.{statement}
 use Rattle.sheet_reader.proofs.pair_line.pair_line.Tie as tie
 
-pair : (t s : List ℕ) (at : ℕ) (o a b w : Field) → o ≡ tagTo t s at → a ≡ numberTo tab s o.next → b ≡ numberTo tab s a.next → w ≡ wordTo s b.next → ◌≡◌ {A = Line} (record { first = a.value; second = b.value; word = w.value; next = w.next }) (pairLine t s at)
-unfolding pairLine
+pair : (t s : List ℕ) (at : ℕ) (o a b w : Field) → o ≡ tag_to t s at → a ≡ number_to tab s o.next → b ≡ number_to tab s a.next → w ≡ word_to s b.next → ◌≡◌ {A = Line} (record { first = a.value; second = b.value; word = w.value; next = w.next }) (pair_line t s at)
+unfolding pair_line
 pair t s at o a b w e f g h = cc
 
 returns : tie.Need-returns

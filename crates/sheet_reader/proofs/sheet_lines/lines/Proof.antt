@@ -1,14 +1,14 @@
 -- `sheet_reader::sheet_lines::lines`: run by run, as defined.
 use Rattle.std.proofs.Common.{arith, rules}
-use Rattle.sheet_reader.proofs.sheet_lines.Sequence.{zx-few, xx-few, all_read}
+use Rattle.sheet_reader.proofs.sheet_lines.Sequence.{zx_few, xx_few, all_read}
 use Rattle.sheet_reader.proofs.sheet_lines.lines.Statement.{statement}
 use Rattle.sheet_reader.proofs.sheet_lines.lines.Tie as tie
 
 words-requires : tie.Need-words-requires
-words-requires c κs = (search zx-few, search rules)
+words-requires c κs = (search zx_few, search rules)
 
 words-requires-3 : tie.Need-words-requires-3
-words-requires-3 c κs = (search xx-few, search rules)
+words-requires-3 c κs = (search xx_few, search rules)
 
 words-requires-4 : tie.Need-words-requires-4
 words-requires-4 c κs = let v = c.before.before.before in let w = v.before.before in let e = w.before.before in
@@ -26,11 +26,11 @@ returns c = let t = c.before in let u = t.before.before in let v = u.before.befo
     (record {
       blocks = e.before.blocks2.ensures.0;
       entries = e.entries.ensures.0;
-      zx-words = x.words.ensures.0;
-      zy-words = w.words2.ensures.0;
-      xx-words = v.words3.ensures.0;
-      xy-words = u.words4.ensures.0;
-      yy-words = t.words5.ensures.0;
+      zx_words = x.words.ensures.0;
+      zy_words = w.words2.ensures.0;
+      xx_words = v.words3.ensures.0;
+      xy_words = u.words4.ensures.0;
+      yy_words = t.words5.ensures.0;
     })
     c.reading-at.ensures
 

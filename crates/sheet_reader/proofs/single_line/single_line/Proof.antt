@@ -2,12 +2,12 @@
 use Rattle.std.proofs.Common.{◌≡◌, ℕ, List, rules}
 use Rattle.sheet.specs.declared.Field.{Field}
 use Rattle.sheet.specs.declared.Line.{Line}
-use Rattle.sheet.specs.Line.{singleLine, tab, tagTo, numberTo, wordTo}
+use Rattle.sheet.specs.Line.{single_line, tab, tag_to, number_to, word_to}
 use Rattle.sheet_reader.proofs.single_line.single_line.Statement.{statement}
 use Rattle.sheet_reader.proofs.single_line.single_line.Tie as tie
 
-single : (t s : List ℕ) (at : ℕ) (o i w : Field) → o ≡ tagTo t s at → i ≡ numberTo tab s o.next → w ≡ wordTo s i.next → ◌≡◌ {A = Line} (record { first = i.value; second = 0; word = w.value; next = w.next }) (singleLine t s at)
-unfolding singleLine
+single : (t s : List ℕ) (at : ℕ) (o i w : Field) → o ≡ tag_to t s at → i ≡ number_to tab s o.next → w ≡ word_to s i.next → ◌≡◌ {A = Line} (record { first = i.value; second = 0; word = w.value; next = w.next }) (single_line t s at)
+unfolding single_line
 single t s at o i w e f g = cc
 
 returns : tie.Need-returns

@@ -2,13 +2,13 @@
 use Rattle.std.proofs.Common.{◌≡◌, ℕ, List, rules}
 use Rattle.sheet.specs.declared.Field.{Field}
 use Rattle.sheet.specs.declared.Size.{Size}
-use Rattle.sheet.specs.Line.{sizeLine, tab, lf, sizeTag, tagTo, numberTo}
+use Rattle.sheet.specs.Line.{size_line, tab, lf, size_tag, tag_to, number_to}
 use Rattle.sheet_reader.proofs.size_line.size_line.Statement.{statement}
 use Rattle.sheet_reader.proofs.size_line.size_line.Tie as tie
-use Rattle.sheet.proofs.Made.{countsWith}
+use Rattle.sheet.proofs.Made.{counts_with}
 
-counts : (s : List ℕ) (at : ℕ) (t n p q k f : Field) → t ≡ tagTo sizeTag s at → n ≡ numberTo tab s t.next → p ≡ numberTo tab s n.next → q ≡ numberTo tab s p.next → k ≡ numberTo tab s q.next → f ≡ numberTo lf s k.next → ◌≡◌ {A = Size} (record { counts = countsWith n.value p.value q.value k.value f.value; next = f.next }) (sizeLine s at)
-unfolding sizeLine
+counts : (s : List ℕ) (at : ℕ) (t n p q k f : Field) → t ≡ tag_to size_tag s at → n ≡ number_to tab s t.next → p ≡ number_to tab s n.next → q ≡ number_to tab s p.next → k ≡ number_to tab s q.next → f ≡ number_to lf s k.next → ◌≡◌ {A = Size} (record { counts = counts_with n.value p.value q.value k.value f.value; next = f.next }) (size_line s at)
+unfolding size_line
 counts s at t n p q k f e₀ e₁ e₂ e₃ e₄ e₅ = cc
 
 returns : tie.Need-returns

@@ -2,12 +2,12 @@
 use Rattle.std.proofs.Common.{◌≡◌, ℕ, List, rules}
 use Rattle.sheet.specs.declared.Field.{Field}
 use Rattle.sheet.specs.declared.Line.{Line}
-use Rattle.sheet.specs.Line.{bareLine, tagTo, wordTo}
+use Rattle.sheet.specs.Line.{bare_line, tag_to, word_to}
 use Rattle.sheet_reader.proofs.yy_line.bare_line.Statement.{statement}
 use Rattle.sheet_reader.proofs.yy_line.bare_line.Tie as tie
 
-bare : (t s : List ℕ) (at : ℕ) (o w : Field) → o ≡ tagTo t s at → w ≡ wordTo s o.next → ◌≡◌ {A = Line} (record { first = 0; second = 0; word = w.value; next = w.next }) (bareLine t s at)
-unfolding bareLine
+bare : (t s : List ℕ) (at : ℕ) (o w : Field) → o ≡ tag_to t s at → w ≡ word_to s o.next → ◌≡◌ {A = Line} (record { first = 0; second = 0; word = w.value; next = w.next }) (bare_line t s at)
+unfolding bare_line
 bare t s at o w e f = cc
 
 returns : tie.Need-returns

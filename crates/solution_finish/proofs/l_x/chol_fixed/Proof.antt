@@ -1,13 +1,13 @@
 -- `solution_finish::l_x::chol_fixed`: C, then the scan.
 use native.Mathlib.Omega.{arith}
-use Rattle.solution_finish.proofs.l_x.Finish.{accepted, refused, refused-room}
+use Rattle.solution_finish.proofs.l_x.Finish.{accepted, refused, refused_room}
 use borrow.Author.Rules.{rules}
 use Rattle.solution_finish.proofs.l_x.chol_fixed.Statement.{statement}
 use Rattle.solution_finish.proofs.l_x.chol_fixed.Tie as tie
 
 first-not-above-requires-2 : tie.Need-first-not-above-requires-2
 first-not-above-requires-2 c κs = let s = c.before.before.before.before.before.before.before.before.before in
-    refused-room s.args.off s.args.n s.args.v.now _ s.pre.1 s.pre.2 _ _ c.before.before.before.before.before.before.chol.ensures c.before.before.r.given.1 (omega arith)
+    refused_room s.args.off s.args.n s.args.v.now _ s.pre.1 s.pre.2 _ _ c.before.before.before.before.before.before.chol.ensures c.before.before.r.given.1 (omega arith)
 
 returns : tie.Need-returns
 returns c = let s = c.before.before.before.before.before.before.before.before.before in

@@ -1,6 +1,6 @@
 -- `solution_finish::result_parts::make_parts`: beta, u and b.
 use native.Mathlib.Omega.{arith}
-use Rattle.solution_finish.proofs.result_parts.Made.{beta-ready, u-ready, finished}
+use Rattle.solution_finish.proofs.result_parts.Made.{beta_ready, u_ready, finished}
 use borrow.Author.Rules.{rules}
 use Rattle.solution_finish.proofs.result_parts.make_parts.Statement.{statement}
 use Rattle.solution_finish.proofs.result_parts.make_parts.Tie as tie
@@ -15,15 +15,15 @@ w-at-requires c κs =
 
 solve-beta-requires : tie.Need-solve-beta-requires
 solve-beta-requires c κs = let s = c.before.before.before.before.before.before in
-    beta-ready s.args.layout s.pre.0.valid s.args.v.now s.pre.1.long _ c.before.before.l-x-at.ensures
+    beta_ready s.args.layout s.pre.0.valid s.args.v.now s.pre.1.long _ c.before.before.l-x-at.ensures
 
 add-write-u-2 : tie.Need-overflow-add-write-u-2
 add-write-u-2 c = let s = c.before.before.before.before.before.before.before.before.before.before in
-    let k = u-ready s.args.heading.now s.args.doubles.now s.args.layout s.args.v.now _ _ _ c.before.before.before.before.before.before.l-x-at.ensures c.before.before.before.before.before.w_at.ensures s.pre.0.same s.pre.1 _ c.before.before.before.solve-beta.ensures in omega (arith, k.3)
+    let k = u_ready s.args.heading.now s.args.doubles.now s.args.layout s.args.v.now _ _ _ c.before.before.before.before.before.before.l-x-at.ensures c.before.before.before.before.before.w_at.ensures s.pre.0.same s.pre.1 _ c.before.before.before.solve-beta.ensures in omega (arith, k.3)
 
 write-u-requires : tie.Need-write-u-requires
 write-u-requires c κs = let s = c.before.before.before.before.before.before.before.before.before.before in
-    u-ready s.args.heading.now s.args.doubles.now s.args.layout s.args.v.now _ _ _ c.before.before.before.before.before.before.l-x-at.ensures c.before.before.before.before.before.w_at.ensures s.pre.0.same s.pre.1 _ c.before.before.before.solve-beta.ensures
+    u_ready s.args.heading.now s.args.doubles.now s.args.layout s.args.v.now _ _ _ c.before.before.before.before.before.before.l-x-at.ensures c.before.before.before.before.before.w_at.ensures s.pre.0.same s.pre.1 _ c.before.before.before.solve-beta.ensures
 
 returns : tie.Need-returns
 returns c =

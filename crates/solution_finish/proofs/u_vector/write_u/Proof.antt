@@ -1,8 +1,8 @@
 -- `solution_finish::u_vector::write_u`: the first i rows of u are written.
 use Prim.Native.Nat.{◌-◌}
 use native.Mathlib.Omega.{arith}
-use Rattle.storage.proofs.Filling.{Filling, filling-none, filling-more, filling-done}
-use Rattle.solution_finish.proofs.u_vector.Sums.{offset, next-offset}
+use Rattle.storage.proofs.Filling.{Filling, filling_none, filling_more, filling_done}
+use Rattle.solution_finish.proofs.u_vector.Sums.{offset, next_offset}
 use Rattle.solution_finish.proofs.u_vector.write_u.Statement.{statement}
 use Rattle.solution_finish.proofs.u_vector.write_u.Tie as tie
 
@@ -13,7 +13,7 @@ abbrev decreases-loop : tie.decreases-loop
 decreases-loop v₀ u wy first q p i₀ v i = q - i
 
 loop-holds : tie.Need-loop-init invariant-loop decreases-loop
-loop-holds c = let s = c.before in filling-none _ s.args.u s.args.q s.args.v.now (omega (arith, s.pre.0, s.pre.1, s.pre.2, s.pre.3))
+loop-holds c = let s = c.before in filling_none _ s.args.u s.args.q s.args.v.now (omega (arith, s.pre.0, s.pre.1, s.pre.2, s.pre.3))
 
 add-v : tie.Need-overflow-add-v invariant-loop decreases-loop
 add-v c = omega (arith, c.before.before.before.requires.0, c.before.before.before.requires.1, c.before.before.before.requires.2, c.before.before.before.requires.3, c.before.loop.invariant.long, c.loop-test.true)
@@ -46,10 +46,10 @@ loop-less : tie.Need-loop-smaller invariant-loop decreases-loop
 loop-less c = omega (arith, c.before.before.before.before.before.before.requires.0, c.before.before.before.before.before.before.requires.1, c.before.before.before.before.before.before.requires.2, c.before.before.before.before.before.before.requires.3, c.before.before.before.before.loop.invariant.long, c.before.before.before.loop-test.true)
 
 loop-again : tie.Need-loop-preserved invariant-loop decreases-loop
-loop-again c = let s = c.before.before.before.before.before.before in filling-more c.before.before.before.before.loop.invariant c.before.before.before.loop-test.true (next-offset s.pre.0 s.pre.1 s.pre.2 c.before.before.before.before.loop.invariant c.before.before.before.loop-test.true _ c.row-sum.ensures)
+loop-again c = let s = c.before.before.before.before.before.before in filling_more c.before.before.before.before.loop.invariant c.before.before.before.loop-test.true (next_offset s.pre.0 s.pre.1 s.pre.2 c.before.before.before.before.loop.invariant c.before.before.before.loop-test.true _ c.row-sum.ensures)
 
 returns : tie.Need-returns invariant-loop decreases-loop
-returns c = filling-done c.before.loop.invariant (omega (arith, c.loop-test.false))
+returns c = filling_done c.before.loop.invariant (omega (arith, c.loop-test.false))
 
 pub write-u-spec : {M : Type 1} → statement M
 write-u-spec = tie.close (tie.spec invariant-loop decreases-loop loop-holds add-v mul-v slice-read-v add-row-sum row-sum-requires

@@ -2,7 +2,7 @@
 use mathlib.Core.Path.{sym, ◌∙◌, refl}
 use Prim.Native.Nat.{◌-◌}
 use native.Mathlib.Omega.{arith}
-use Rattle.square_root.proofs.bisection.Words.{Between, whole-range, raised, lowered, narrowed}
+use Rattle.square_root.proofs.bisection.Words.{Between, whole_range, raised, lowered, narrowed}
 use Rattle.square_root.proofs.bisection.bisected.Statement.{statement}
 use Rattle.square_root.proofs.bisection.bisected.Tie as tie
 
@@ -22,5 +22,5 @@ returns : tie.Need-returns invariant-loop decreases-loop
 returns c = narrowed _ _ _ c.before.before.requires.0 c.before.before.requires.1 c.before.loop.invariant c.loop-test.false
 
 pub bisected-spec : {M : Type 1} → statement M
-bisected-spec = tie.close (tie.spec invariant-loop decreases-loop (λ c. whole-range _ c.requires.0 c.requires.1) (λ c. omega arith)
+bisected-spec = tie.close (tie.spec invariant-loop decreases-loop (λ c. whole_range _ c.requires.0 c.requires.1) (λ c. omega arith)
     (λ c. omega arith) (λ c κs. omega arith) (λ c. omega arith) loop-again (λ c. omega arith) loop-again-2 returns)

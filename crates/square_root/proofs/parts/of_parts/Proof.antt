@@ -1,20 +1,20 @@
 -- `square_root::parts::of_parts` meets its contract.
 use borrow.Author.Rules.{rules}
 use native.Mathlib.Omega.{arith}
-use Rattle.float_bits.proofs.double.Bits.{number-below}
-use Rattle.square_root.proofs.parts.Value.{m-range, x-high, bits_are}
+use Rattle.float_bits.proofs.double.Bits.{number_below}
+use Rattle.square_root.proofs.parts.Value.{m_range, x_high, bits_are}
 use Rattle.square_root.proofs.parts.of_parts.Statement.{statement}
 use Rattle.square_root.proofs.parts.of_parts.Tie as tie
 
 root-from-inverse-requires : tie.Need-root-from-inverse-requires
-root-from-inverse-requires c κs = omega (arith, c.before.doubled.ensures, m-range _ c.before.before.requires, c.inverse.ensures)
+root-from-inverse-requires c κs = omega (arith, c.before.doubled.ensures, m_range _ c.before.before.requires, c.inverse.ensures)
 
 add-result-2 : tie.Need-overflow-add-result-2
-add-result-2 c = omega (arith, x-high _ c.before.before.before.requires _ _ c.before.before.doubled.ensures c.root-from-inverse.ensures)
+add-result-2 c = omega (arith, x_high _ c.before.before.before.requires _ _ c.before.before.doubled.ensures c.root-from-inverse.ensures)
 
 float-from-bits-result : tie.Need-float-from-bits-result
 float-from-bits-result c =
-    number-below _ (omega (arith, x-high _ c.before.before.before.requires _ _ c.before.before.doubled.ensures c.root-from-inverse.ensures))
+    number_below _ (omega (arith, x_high _ c.before.before.before.requires _ _ c.before.before.doubled.ensures c.root-from-inverse.ensures))
 
 returns : tie.Need-returns
 returns c = bits_are _ c.before.before.before.requires _ _ c.before.before.doubled.ensures c.root-from-inverse.ensures

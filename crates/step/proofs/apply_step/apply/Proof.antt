@@ -2,7 +2,7 @@
 use mathlib.Core.Path.{subst}
 use Rattle.step_order.specs.Steps.{IsStep}
 use Rattle.update.specs.declared.StepName.{StepName}
-use Rattle.update.specs.Names.{stepOfName}
+use Rattle.update.specs.Names.{step_of_name}
 use Rattle.step.proofs.step_result.Laws.{by_name}
 use borrow.Author.Rules.{rules}
 use Rattle.step.proofs.apply_step.apply.Statement.{statement}
@@ -10,15 +10,15 @@ use Rattle.step.proofs.apply_step.apply.Tie as tie
 
 apply-subtract-requires : tie.Need-apply-subtract-requires
 apply-subtract-requires c κs = let s = c.before.before.before.before.before.before in let a = s.args in
-    (s.pre.0, subst (λ (x : StepName). IsStep a.layout.k (stepOfName x)) c.before.before.name.given.1 s.pre.2, s.pre.3)
+    (s.pre.0, subst (λ (x : StepName). IsStep a.layout.k (step_of_name x)) c.before.before.name.given.1 s.pre.2, s.pre.3)
 
 apply-factor-requires : tie.Need-apply-factor-requires
 apply-factor-requires c κs = let s = c.before.before.before.before.before.before in let a = s.args in
-    (s.pre.0, subst (λ (x : StepName). IsStep a.layout.k (stepOfName x)) c.before.before.name2.given.1 s.pre.2, s.pre.3)
+    (s.pre.0, subst (λ (x : StepName). IsStep a.layout.k (step_of_name x)) c.before.before.name2.given.1 s.pre.2, s.pre.3)
 
 apply-solve-requires : tie.Need-apply-solve-requires
 apply-solve-requires c κs = let s = c.before.before.before.before.before.before in let a = s.args in
-    (s.pre.0, subst (λ (x : StepName). IsStep a.layout.k (stepOfName x)) c.before.before.name3.given.1 s.pre.2, s.pre.3)
+    (s.pre.0, subst (λ (x : StepName). IsStep a.layout.k (step_of_name x)) c.before.before.name3.given.1 s.pre.2, s.pre.3)
 
 returns : tie.Need-returns
 returns c = let s = c.before.before.before.before.before.before.before.before.before in let a = s.args in

@@ -1,7 +1,7 @@
 -- `step::apply_step::apply_solve`: the block, then the progress.
 use mathlib.Core.Path.{refl}
 use native.Mathlib.Omega.{arith}
-use Rattle.step.proofs.step_result.Laws.{few, solve-applied}
+use Rattle.step.proofs.step_result.Laws.{few, solve_applied}
 use borrow.Author.Rules.{rules}
 use Rattle.step.proofs.apply_step.apply_solve.Statement.{statement}
 use Rattle.step.proofs.apply_step.apply_solve.Tie as tie
@@ -13,7 +13,7 @@ target-place-requires c κs = let s = c.before.before.before.before.before.befor
 
 returns : tie.Need-returns
 returns c = let s = c.before.before.before.before.before.before.before.before in let a = s.args in
-    solve-applied a.heading.now a.doubles.now a.layout a.progress s.pre.0 _ c.mark.ensures a.i a.j s.pre.1 c.before.target-place.ensures.0 refl c.before.before.before.before.solve.ensures
+    solve_applied a.heading.now a.doubles.now a.layout a.progress s.pre.0 _ c.mark.ensures a.i a.j s.pre.1 c.before.target-place.ensures.0 refl c.before.before.before.before.solve.ensures
 
 pub apply-solve-spec : {M : Type 1} → statement M
 apply-solve-spec = tie.close (tie.spec (λ c κs. search rules) target-place-requires (λ c. search rules)

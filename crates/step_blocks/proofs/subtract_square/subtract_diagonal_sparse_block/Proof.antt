@@ -1,14 +1,14 @@
 -- `step_blocks::subtract_square::subtract_diagonal_sparse_block`: the diagonal with its sparse pair.
-use Rattle.block_runs.specs.blocks.Blocks.{rowFrom}
+use Rattle.block_runs.specs.blocks.Blocks.{row_from}
 use borrow.Author.Rules.{rules}
-use Rattle.step_blocks.proofs.subtract_dense.Ready.{entries-ready}
+use Rattle.step_blocks.proofs.subtract_dense.Ready.{entries_ready}
 use Rattle.step_blocks.proofs.subtract_square.subtract_diagonal_sparse_block.Statement.{statement}
 use Rattle.step_blocks.proofs.subtract_square.subtract_diagonal_sparse_block.Tie as tie
-use Rattle.heading_format.specs.Parts.{headingLength}
+use Rattle.heading_format.specs.Parts.{heading_length}
 
 rank-sub-diagonal-sparse-requires : tie.Need-rank-sub-diagonal-sparse-requires
 rank-sub-diagonal-sparse-requires c κs = let s = c.before.before.before.before.before.before in let a = s.args in
-    rw (c.before.before.before.block.ensures, c.before.before.block2.ensures, c.before.loaded_at.ensures) (entries-ready a.layout s.pre.0.valid _ s.pre.0.room (rowFrom a.heading.now headingLength) s.pre.1 s.pre.2, s.pre.3)
+    rw (c.before.before.before.block.ensures, c.before.before.block2.ensures, c.before.loaded_at.ensures) (entries_ready a.layout s.pre.0.valid _ s.pre.0.room (row_from a.heading.now heading_length) s.pre.1 s.pre.2, s.pre.3)
 
 returns : tie.Need-returns
 returns c = rw (c.before.before.before.before.before.before.block.ensures, c.before.before.before.before.before.block2.ensures, c.before.before.before.before.loaded_at.ensures) at c.before.before.rank-sub-diagonal-sparse.ensures

@@ -1,14 +1,14 @@
 -- `step_blocks::subtract_square::subtract_sparse_block`: the fixed rows with the sparse pair.
-use Rattle.block_runs.specs.blocks.Blocks.{rowFrom}
+use Rattle.block_runs.specs.blocks.Blocks.{row_from}
 use borrow.Author.Rules.{rules}
-use Rattle.step_blocks.proofs.subtract_dense.Ready.{sparse-ready}
+use Rattle.step_blocks.proofs.subtract_dense.Ready.{sparse_ready}
 use Rattle.step_blocks.proofs.subtract_square.subtract_sparse_block.Statement.{statement}
 use Rattle.step_blocks.proofs.subtract_square.subtract_sparse_block.Tie as tie
-use Rattle.heading_format.specs.Parts.{headingLength}
+use Rattle.heading_format.specs.Parts.{heading_length}
 
 subtract-sparse-requires : tie.Need-subtract-sparse-requires
 subtract-sparse-requires c κs = let s = c.before.before.before.before.before.before in let a = s.args in
-    rw (c.before.before.before.block.ensures, c.before.before.block2.ensures, c.before.block3.ensures) (let r = sparse-ready a.layout s.pre.0.valid _ s.pre.0.room (rowFrom a.heading.now headingLength) s.pre.1 s.pre.2 in (r.0, r.1, s.pre.3, s.pre.4))
+    rw (c.before.before.before.block.ensures, c.before.before.block2.ensures, c.before.block3.ensures) (let r = sparse_ready a.layout s.pre.0.valid _ s.pre.0.room (row_from a.heading.now heading_length) s.pre.1 s.pre.2 in (r.0, r.1, s.pre.3, s.pre.4))
 
 returns : tie.Need-returns
 returns c = rw (c.before.before.before.before.before.before.block.ensures, c.before.before.before.before.before.block2.ensures, c.before.before.before.before.block3.ensures) at c.before.before.subtract-sparse.ensures

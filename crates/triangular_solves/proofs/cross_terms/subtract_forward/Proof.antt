@@ -1,6 +1,6 @@
 -- `triangular_solves::cross_terms::subtract_forward`: the sparse pair, or a dense one.
 use borrow.Author.Rules.{rules}
-use Rattle.triangular_solves.proofs.cross_terms.Subtracted.{sparse-ready, sparse-forward-made, dense-ready, forward-made}
+use Rattle.triangular_solves.proofs.cross_terms.Subtracted.{sparse_ready, sparse_forward_made, dense_ready, forward_made_lem}
 use Rattle.triangular_solves.proofs.cross_terms.subtract_forward.Statement.{statement}
 use Rattle.triangular_solves.proofs.cross_terms.subtract_forward.Tie as tie
 
@@ -8,20 +8,20 @@ pair-at-requires : tie.Need-pair-at-requires
 pair-at-requires c κs = let s = c.before.before.before.before in (s.pre.0.valid, s.pre.1, s.pre.2, s.pre.3)
 
 sparse-matvec-sub-requires : tie.Need-sparse-matvec-sub-requires
-sparse-matvec-sub-requires c κs = let s = c.before.before.before.before.before.before.before.before in let e = c.before.before.before.pair-at.ensures in
-    rw (e.0, e.1, e.2, c.before.entry-rows.ensures) (sparse-ready _ s.args.doubles.now _ s.pre.0 _ _ s.pre.1 s.pre.2 s.args.from c.before.before.if1.true _ s.pre.3)
+sparse-matvec-sub-requires c κs = let s = c.before.before.before.before.before.before.before.before in let e = c.before.before.before.pair_at.ensures in
+    rw (e.0, e.1, e.2, c.before.entry_rows.ensures) (sparse_ready _ s.args.doubles.now _ s.pre.0 _ _ s.pre.1 s.pre.2 s.args.from c.before.before.if1.true _ s.pre.3)
 
 returns : tie.Need-returns
-returns c = let s = c.before.before.before.before.before.before.before.before.before.before.before in let e = c.before.before.before.before.before.before.pair-at.ensures in
-    sparse-forward-made _ s.args.doubles.now _ s.pre.0 _ _ s.pre.1 s.pre.2 s.args.from c.before.before.before.before.before.if1.true s.args.v.now (rw (e.0, e.1, e.2, c.before.before.before.before.entry-rows.ensures) at c.before.before.sparse-matvec-sub.ensures)
+returns c = let s = c.before.before.before.before.before.before.before.before.before.before.before in let e = c.before.before.before.before.before.before.pair_at.ensures in
+    sparse_forward_made _ s.args.doubles.now _ s.pre.0 _ _ s.pre.1 s.pre.2 s.args.from c.before.before.before.before.before.if1.true s.args.v.now (rw (e.0, e.1, e.2, c.before.before.before.before.entry_rows.ensures) at c.before.before.sparse-matvec-sub.ensures)
 
 matvec-sub-requires : tie.Need-matvec-sub-requires
-matvec-sub-requires c κs = let s = c.before.before.before.before.before.before.before in let e = c.before.before.pair-at.ensures in
-    rw (e.0, e.1, e.2) (dense-ready _ s.args.doubles.now _ s.pre.0 _ _ s.pre.1 s.pre.2 s.args.from c.before.if1.false _ s.pre.3)
+matvec-sub-requires c κs = let s = c.before.before.before.before.before.before.before in let e = c.before.before.pair_at.ensures in
+    rw (e.0, e.1, e.2) (dense_ready _ s.args.doubles.now _ s.pre.0 _ _ s.pre.1 s.pre.2 s.args.from c.before.if1.false _ s.pre.3)
 
 returns-2 : tie.Need-returns-2
-returns-2 c = let s = c.before.before.before.before.before.before.before.before.before.before in let e = c.before.before.before.before.before.pair-at.ensures in
-    forward-made _ s.args.doubles.now _ s.pre.0 _ _ s.pre.1 s.pre.2 s.args.from c.before.before.before.before.if1.false s.args.v.now (rw (e.0, e.1, e.2) at c.before.before.matvec-sub.ensures)
+returns-2 c = let s = c.before.before.before.before.before.before.before.before.before.before in let e = c.before.before.before.before.before.pair_at.ensures in
+    forward_made_lem _ s.args.doubles.now _ s.pre.0 _ _ s.pre.1 s.pre.2 s.args.from c.before.before.before.before.if1.false s.args.v.now (rw (e.0, e.1, e.2) at c.before.before.matvec-sub.ensures)
 
 pub subtract-forward-spec : {M : Type 1} → statement M
 subtract-forward-spec = tie.close (tie.spec pair-at-requires (λ c κs. search rules) sparse-matvec-sub-requires (λ c. search rules) returns

@@ -2,7 +2,7 @@
 use borrow.Author.Rules.{rules}
 use Prim.Native.Nat.{◌-◌}
 use native.Mathlib.Omega.{arith}
-use Rattle.solution_vectors.proofs.solve_laws.Folds.{Forward, forward-start, forward-more, forward-end}
+use Rattle.solution_vectors.proofs.solve_laws.Folds.{Forward, forward_start, forward_more, forward_end}
 use Rattle.triangular_solves.proofs.forward_solve.forward_block.Statement.{statement}
 use Rattle.triangular_solves.proofs.forward_solve.forward_block.Tie as tie
 
@@ -14,15 +14,15 @@ decreases-loop y h w v₀ from i j₀ v j = i - j
 
 loop-holds : tie.Need-loop-init invariant-loop decreases-loop
 loop-holds c = let s = c.before.before.before in
-    forward-start _ _ s.pre.0.valid s.pre.1 s.pre.2
+    forward_start _ _ s.pre.0.valid s.pre.1 s.pre.2
 
 loop-again : tie.Need-loop-preserved invariant-loop decreases-loop
 loop-again c =
-    forward-more _ _ c.before.before.before.before.before.loop.invariant c.before.before.before.before.loop-test.true c.before.before.subtract-forward.ensures
+    forward_more _ _ c.before.before.before.before.before.loop.invariant c.before.before.before.before.loop-test.true c.before.before.subtract-forward.ensures
 
 returns : tie.Need-returns invariant-loop decreases-loop
 returns c = let p = c.before.before.before.before.before.before.before.before.before.requires in
-    forward-end _ _ p.0.same c.before.before.before.before.before.loop.invariant (omega arith) c.before.before.forward-in.ensures
+    forward_end _ _ p.0.same c.before.before.before.before.before.loop.invariant (omega arith) c.before.before.forward-in.ensures
 
 pub forward-block-spec : {M : Type 1} → statement M
 forward-block-spec = tie.close (tie.spec invariant-loop decreases-loop loop-holds (λ c κs. search rules) (λ c. search rules)

@@ -2,7 +2,7 @@
 use borrow.Author.Rules.{rules}
 use Prim.Native.Nat.{◌-◌}
 use native.Mathlib.Omega.{arith}
-use Rattle.solution_vectors.proofs.solve_laws.Solves.{ForwardTurns, forward-begin, forward-turn, forward-result}
+use Rattle.solution_vectors.proofs.solve_laws.Solves.{ForwardTurns, forward_begin, forward_turn, forward_result}
 use Rattle.triangular_solves.proofs.forward_solve.forward_solve_ld.Statement.{statement}
 use Rattle.triangular_solves.proofs.forward_solve.forward_solve_ld.Tie as tie
 
@@ -14,14 +14,14 @@ decreases-loop y h w v₀ from i₀ v i = y.k - i
 
 loop-holds : tie.Need-loop-init invariant-loop decreases-loop
 loop-holds c = let s = c.before.before.before in
-    forward-begin _ _ s.pre.0.valid s.pre.1
+    forward_begin _ _ s.pre.0.valid s.pre.1
 
 loop-again : tie.Need-loop-preserved invariant-loop decreases-loop
 loop-again c = let s = c.before.before.before.before.before.before.before.before.before.before in
-    forward-turn _ _ s.pre.0.same c.before.before.before.before.before.before.loop.invariant c.before.before.before.before.if1.true c.before.before.forward-block.ensures
+    forward_turn _ _ s.pre.0.same c.before.before.before.before.before.before.loop.invariant c.before.before.before.before.if1.true c.before.before.forward-block.ensures
 
 returns : tie.Need-returns invariant-loop decreases-loop
-returns c = forward-result _ _ c.before.before.loop.invariant (omega arith)
+returns c = forward_result _ _ c.before.before.loop.invariant (omega arith)
 
 pub forward-solve-ld-spec : {M : Type 1} → statement M
 forward-solve-ld-spec = tie.close (tie.spec invariant-loop decreases-loop loop-holds (λ c κs. search rules) (λ c. search rules)
