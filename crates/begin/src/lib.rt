@@ -1,5 +1,7 @@
 // The call `begin` (document 01, Record 4): keeps theta and makes every working block of its loaded block, scaled. Refused with 20, 13 or 14. What it
 // answers and leaves is `begin_of` of the crate update, specs/Calls.antt.
+#![tactic(auto)]
+
 mod init_blocks;
 mod scaled_blocks;
 mod write_begin;

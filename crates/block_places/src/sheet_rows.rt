@@ -6,7 +6,7 @@ ghost use Rattle.workspace.specs.Loaded.{row_start};
 use layout::Layout;
 
 // Of a layout: the first row of each sorted block in the sheet, and where each loaded block (i, j) starts, at 9 i + j.
-#[derive(Drop)]
+#[derive(Clone, Copy)]
 pub struct Map {
     pub first: [u64; 8],
     pub at: [u64; 81],

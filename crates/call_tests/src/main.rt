@@ -2,6 +2,8 @@
 // every number and double that is other than before; behind them, calls on a workspace that is too large for a list (module large_list), with a sum
 // over every number and double; and load of sheets that are too long for it (module long_sheets). The file stdout has what must be printed;
 // tools/call_list.py made both.
+#![tactic(auto)]
+
 mod call_list;
 mod large_list;
 mod long_sheets;

@@ -1,5 +1,7 @@
 // Every call under C's conventions, for C and Rust: any numbers and lists may be given. What each tells and leaves is defined in specs/Calls.antt;
 // include/huskcanyon.h says it in words.
+#![tactic(auto)]
+
 mod answer_list;
 mod tell_answers;
 

@@ -1,6 +1,8 @@
 // T and begin's scaling on a cross block or on fixed rows (document 01, Record 4; the Rust's `trisolve_*`), on the whole list of doubles: the
 // target's cells are the rule's, every other double stays. At the root T by a packed factor; T by a diagonal is in divide_columns. Definitions in
 // specs/Blocks.antt.
+#![tactic(auto)]
+
 pub mod divide_columns;
 pub mod scaling;
 

@@ -5,7 +5,7 @@ ghost use Rattle.rules.specs.Arithmetic.{ieee};
 ghost use Rattle.block_runs.specs.axpy.Axpy.{at, run};
 ghost use Rattle.cross_matvec.specs.Products.{column_sum, subtract_columns};
 
-#[derive(Drop)]
+#[derive(Clone, Copy)]
 pub struct Sums {
     pub s: f64,
     pub s1: f64,

@@ -1,6 +1,8 @@
 // A cross block times a vector, subtracted from another (document 01, Record 7; the Rust's `cross_matvec_sub`, `cross_matvec_t_sub`). The solve's
 // vectors lie in the list v, the block in `doubles`: the target's entries are the rule's, every other double stays. At the root a dense block, in
 // matvec_t its transpose, in the other modules a sparse block. A dense block has at most 316 rows.
+#![tactic(auto)]
+
 pub mod column_sums;
 pub mod matvec_t;
 pub mod own_products;

@@ -1,6 +1,8 @@
 // The call `deviance_from_factor` (document 01, Record 6): the deviance of a finished factor. Refused with 20 or 25. What it answers is
 // `deviance_from_factor` of the crate profile, specs/Deviance.antt; the tail by layout, doubles and log determinant is in
 // specs/deviance_tail/Tail.antt.
+#![tactic(auto)]
+
 pub mod deviance_tail;
 pub mod deviance_value;
 

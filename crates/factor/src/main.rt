@@ -1,5 +1,7 @@
 // The program `factor` (document 01, "Worked sheets"): reads a sheet and its theta part from standard input and prints the pivots, or a refusal. All
 // that it does with the bytes is in the crate factor_text.
+#![tactic(auto)]
+
 use libc::{STDIN_FILENO, STDOUT_FILENO};
 
 // It reads one byte more than it holds, so that an input beyond that is seen.

@@ -1,5 +1,7 @@
 // Test program: gives each input of a list to `factor` and prints what that printed, byte for byte. The file stdout has what must be printed;
 // tools/factor_list.py made both.
+#![tactic(auto)]
+
 ghost use Rattle.std.specs.Prelude.{◌≤◌, length};
 
 use libc::STDOUT_FILENO;

@@ -1,5 +1,7 @@
 // The work of the program `factor` (document 01, "Worked sheets"): from the bytes of a sheet and its theta part to the bytes of its pivots, or of a
 // refusal, which is then the only line. What it prints is defined in the crate factor_output, specs/Program.antt.
+#![tactic(auto)]
+
 mod pivot_lines;
 mod refusal_text;
 mod steps_text;

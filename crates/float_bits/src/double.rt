@@ -5,13 +5,13 @@ ghost use Rattle.float_bits.specs.double.Parts.{digits, parts_of, leading};
 ghost use Rattle.float_bits.specs.double.Kind.{kind_of};
 
 // The double above 0 that is significand * 2^exponent / 2^1126: the significand has all its 53 digits.
-#[derive(Drop)]
+#[derive(Clone, Copy)]
 pub struct Parts {
     pub significand: u64,
     pub exponent: u64,
 }
 
-#[derive(Drop)]
+#[derive(Clone, Copy)]
 pub enum Kind {
     // Finite and above 0.
     Positive(Parts),

@@ -1,5 +1,7 @@
 // The heading of a workspace (document 01, Records 2 and 5), read as a layout and a progress, and written. What each of its numbers is, is defined in
 // the crate heading_format, specs/Heading.antt. Only `writer::write_progress` changes the progress of a heading.
+#![tactic(auto)]
+
 pub mod idle_progress;
 pub mod writer;
 

@@ -1,5 +1,7 @@
 // Refusal 20 (document 01): whether a heading and a list of doubles are a workspace, for any numbers whatever. What is asked is `valid_heading` of the
 // crate heading_format, specs/Heading.antt.
+#![tactic(auto)]
+
 mod counts_check;
 mod forerunner_check;
 mod layout_check;

@@ -9,7 +9,7 @@ ghost use Rattle.heading_format.specs.Parts.{heading_length};
 use heading_format::parts;
 
 // What a walk over steps has found: how many are left, and whether each that is done comes after its forerunners.
-#[derive(Drop)]
+#[derive(Clone, Copy)]
 pub struct Walk {
     pub left: u64,
     pub valid: bool,

@@ -1,5 +1,7 @@
 // What the heading's numbers mean (document 01, Records 2 and 5), and when they are refused with 20, as definitions in specs/; the progress of an
 // update as a struct that calls hand on by value.
+#![tactic(auto)]
+
 ghost use Rattle.std.specs.Prelude.{◌≡◌, ◌<◌, ◌≤◌};
 ghost use Rattle.heading_format.specs.Heading.{undone};
 ghost use Rattle.heading_format.specs.Marked.{marked};
@@ -8,7 +10,7 @@ ghost use Rattle.heading_format.specs.Parts.{most_targets};
 pub mod parts;
 
 // Record 5: none, under way or finished.
-#[derive(Drop)]
+#[derive(Clone, Copy)]
 pub enum State {
     Idle,
     UnderWay,
@@ -16,7 +18,7 @@ pub enum State {
 }
 
 // Record 5: the state, the steps left, and the stage of each of the target blocks, by rows: how many of its steps are done.
-#[derive(Drop)]
+#[derive(Clone, Copy)]
 pub struct Progress {
     pub state: State,
     pub left: u64,

@@ -1,6 +1,6 @@
 // A case of the list.
 // A kernel's number, and what it is given beside lists: whole numbers, each at most 65535, and two doubles.
-#[derive(Drop)]
+#[derive(Clone, Copy)]
 pub struct Case {
     pub kernel: u64,
     pub p0: usize,

@@ -1,5 +1,7 @@
 // Test program: runs the kernels on a list of cases and prints what each answers and leaves. The file stdout has what they must; tools/kernel_list.py
 // makes both, and says what the words of a case are.
+#![tactic(auto)]
+
 mod answer;
 mod case;
 mod cross;

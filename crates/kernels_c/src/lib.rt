@@ -1,4 +1,6 @@
 // The kernels under C's conventions, for bench/kernels.rs: each is its kernel, with the kernel's contract.
+#![tactic(auto)]
+
 ghost use Rattle.std.specs.Prelude.{◌≡◌, ◌⊎◌, ◌+◌, ◌≤◌, length};
 ghost use Rattle.storage.specs.Runs.{start, triangle};
 ghost use Rattle.block_runs.specs.blocks.Blocks.{EachShape, row_from, RowsBelow};

@@ -1,8 +1,9 @@
 // The layout of a workspace (document 01, Record 2), as definitions in specs/: sorted blocks, the gate, shapes and places of the blocks; and the
 // structs that calls hand on by value.
+#![tactic(auto)]
 
 // What Record 2 makes of a sheet: the counts; levels and sheet index of each sorted block, 0 past the last; and how the blocks are stored.
-#[derive(Drop)]
+#[derive(Clone, Copy)]
 pub struct Layout {
     pub n: u64,
     pub p: u64,
@@ -20,14 +21,14 @@ pub struct Layout {
 pub const MOST_THETA: usize = 8;
 
 // How a factor is stored: as its pivots alone, or as a lower triangle by rows.
-#[derive(Drop)]
+#[derive(Clone, Copy)]
 pub enum FactorKind {
     Diagonal,
     Packed,
 }
 
 // What the gate says of a pair of blocks.
-#[derive(Drop)]
+#[derive(Clone, Copy)]
 pub enum Pair {
     Dense,
     Sparse,

@@ -1,6 +1,8 @@
 // The layout that a sheet gives, and refusals 10 and 11 (document 01, Record 2; the Rust's `blocked_gate_failure`): blocks sorted, entries of a
 // column counted, pairs judged in turn. Defined in the crates layout (specs/Gate.antt, a pair's verdict) and workspace (specs/Loaded.antt, the whole
 // sheet's).
+#![tactic(auto)]
+
 pub mod block_order;
 mod column_entries;
 pub mod gate_search;

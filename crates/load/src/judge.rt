@@ -12,7 +12,7 @@ use sheet::{Counts, Reading, Starts};
 
 // What 1 to 11 say of a sheet. With number 0 it passes: its lines start at `starts`, and its workspace is laid out by `layout`. With any other number
 // these two say nothing. (A struct, since an enum that holds an array is not covered.)
-#[derive(Drop)]
+#[derive(Clone, Copy)]
 pub struct Judgement {
     pub refusal: Refusal,
     pub starts: Starts,

@@ -1,6 +1,8 @@
 // The call `load` (document 01, Record 3): a sheet's numbers into a workspace, or the first of the refusals 1 to 12 with all memory as it was. What
 // it answers and leaves is defined in the crate workspace, specs/Load.antt. And the call `needs`: how long the workspace has to be. What it answers is
 // defined in specs/room/Needs.antt.
+#![tactic(auto)]
+
 pub mod judge;
 pub mod room;
 mod write_loaded;

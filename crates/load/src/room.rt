@@ -10,14 +10,14 @@ use layout::Layout;
 use refusal::Refusal;
 
 // The lengths of the two lists that a workspace is made of.
-#[derive(Drop)]
+#[derive(Clone, Copy)]
 pub struct Room {
     pub doubles: u64,
     pub numbers: u64,
 }
 
 // What load wants of a sheet, or its refusal, 1 to 11.
-#[derive(Drop)]
+#[derive(Clone, Copy)]
 pub enum Needs {
     Room(Room),
     Refused(Refusal),

@@ -1,5 +1,7 @@
 // Puts the words of an accepted sheet into their places in heading and doubles (document 01, Record 3). At the root the rows of a sparse pair, which
 // go into the heading; the doubles are in sheet_words.
+#![tactic(auto)]
+
 mod clear_doubles;
 mod line_address;
 pub mod sheet_words;

@@ -13,7 +13,7 @@ use sheet::Line;
 use sheet_reader::field::NOWHERE;
 
 // The runs of lines that have words.
-#[derive(Drop)]
+#[derive(Clone, Copy)]
 pub enum Run {
     Zz,
     Zx,

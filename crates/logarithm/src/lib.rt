@@ -1,4 +1,6 @@
 // The natural logarithm of a double (document 01, Record 4), fixed by a whole-number definition and within 2^-50 + 2^-52·|r| of the exact one.
+#![tactic(auto)]
+
 mod division;
 mod exact_log;
 mod fixed_point;

@@ -1,5 +1,7 @@
 // Test program: holds the square root and the logarithm to a list of test vectors (tools/number_list.py): a group, a word x, and the words between
 // which the result must lie. A vector whose result does not is printed with it; at the end how many of each group agree.
+#![tactic(auto)]
+
 mod agreement;
 
 use float_bits::words;

@@ -13,7 +13,7 @@ use deviance::deviance_tail;
 use refusal::{Answer, Refusal};
 
 // What an update comes to: the log determinant, or the refused pivot's block and row, or a refusal of begin.
-#[derive(Drop)]
+#[derive(Clone, Copy)]
 pub enum Updated {
     Value(f64),
     Pivot(u64, u64),

@@ -1,6 +1,8 @@
 // The call `profile_deviance` (document 01, Record 6): begin, the steps in the Rust's order, and the deviance of the factor. Refused with 20, 13 or
 // 14; a refused pivot is its second answer. What it answers and leaves is `profile_of` of the crate profile, specs/Deviance.antt; what the update in
 // it comes to, in specs/full_update/Updating.antt.
+#![tactic(auto)]
+
 pub mod full_update;
 pub mod ready_step;
 pub mod rust_order;

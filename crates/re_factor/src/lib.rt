@@ -1,5 +1,7 @@
 // A diagonal block in the list of doubles (document 01, Records 4 and 7; the Rust's `ReFactor`): begin's scaling, C, logarithms of the pivots,
 // solves. The block is a packed triangle or a diagonal; its cells are the rule's, every other double stays. Definitions in specs/Factor.antt.
+#![tactic(auto)]
+
 pub mod block_divide;
 pub mod block_logs;
 pub mod block_solve;

@@ -1,5 +1,7 @@
 // A packed lower triangle (document 01, Record 4; the Rust's `ReLower`) and a diagonal: Cholesky, forward and backward substitution, logarithms of
 // the pivots. At the root whether a pivot is refused, and a cell less products. Definitions in specs/Lower.antt.
+#![tactic(auto)]
+
 pub mod back_substitution;
 mod band_row;
 pub mod cholesky;
@@ -14,7 +16,7 @@ ghost use Rattle.rules.specs.Arithmetic.{ieee};
 ghost use Rattle.re_lower.specs.Lower.{chained};
 
 // Whether a block has a factor: yes, or no because of the pivot of this row.
-#[derive(Drop)]
+#[derive(Clone, Copy)]
 pub enum Pivots {
     Accepted,
     Refused(usize),

@@ -1,5 +1,7 @@
 // The call `replace_response` (document 01, Record 3): a new response for the old in a workspace. Refused with 20, 13 or 14. What it answers and
 // leaves is `replace_of` of the crate workspace, specs/Response.antt.
+#![tactic(auto)]
+
 pub mod finite;
 mod list_faults;
 pub mod write_rows;

@@ -1,6 +1,8 @@
 // S, the subtraction of one block times another transposed (document 01, Record 4; the Rust's `rank_sub_*`, `schur_sub_*`), on the whole list of
 // doubles: the target's cells are the rule's, every other double stays. At the root one run that sums from 0.0 and subtracts once; a module for each
 // kind of target. A dense block has at most 316 rows.
+#![tactic(auto)]
+
 pub mod dense_triangle;
 mod few_rows;
 pub mod last_triangle;

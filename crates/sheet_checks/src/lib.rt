@@ -1,5 +1,7 @@
 // Refusals 1 to 9 of a sheet (document 01): 1 to 4 by the reader, then 5 to 9, each over the whole sheet, in that order. Mirrors of `zz` lines are
 // found by one cursor a column (modules mirror*). What is answered is defined in the crate sheet (specs/Fault.antt, specs/Answer.antt).
+#![tactic(auto)]
+
 pub mod levels;
 mod mirror;
 pub mod mirror_cursor;

@@ -15,7 +15,7 @@ use sheet_reader::word_class;
 
 // What a pass knows before a line: where it starts, the first column that has had no entry below the diagonal, and where the first line starts that is
 // known to be faulty, the end of the zz lines while none is.
-#[derive(Drop)]
+#[derive(Clone, Copy)]
 pub struct Known {
     pub at: usize,
     pub due: u64,
@@ -23,14 +23,14 @@ pub struct Known {
 }
 
 // Where a column's cursor stands, and where the first line starts that is known to be faulty.
-#[derive(Drop)]
+#[derive(Clone, Copy)]
 pub struct Moved {
     pub cursor: usize,
     pub first: usize,
 }
 
 // The same, with the line at the cursor.
-#[derive(Drop)]
+#[derive(Clone, Copy)]
 pub struct Reached {
     pub cursor: usize,
     pub first: usize,

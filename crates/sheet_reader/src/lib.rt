@@ -1,5 +1,7 @@
 // Reads a sheet (document 01, Record 1) and finds its refusals 1 to 4: 1 first; then the lines downwards, on a line 2, 3, 4. What it answers is
 // defined in the crate sheet, specs/Sheet.antt and specs/Answer.antt.
+#![tactic(auto)]
+
 pub mod block_line;
 pub mod field;
 mod line_groups;

@@ -1,5 +1,7 @@
 // The finish of a solution (document 01, Record 7; the Rust's `solve_profile_finish`): from w of every row to the result list and the two scalars, or
 // refusal 27.
+#![tactic(auto)]
+
 mod b_vector;
 mod beta;
 mod fixed_rows;

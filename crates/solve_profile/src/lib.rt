@@ -1,5 +1,7 @@
 // The call `solve_profile_blocked` (document 01, Record 7): the solution of a finished factor into a lent list. Refused with 20, 25, 13 or 27. What
 // it answers and leaves is `solve_of` of the crate profile, specs/Finish.antt.
+#![tactic(auto)]
+
 ghost use Rattle.std.specs.Prelude.{◌≡◌, true, length};
 ghost use Rattle.heading_format.specs.Heading.{valid_heading};
 ghost use Rattle.heading_format.specs.Fits.{Fits};

@@ -1,4 +1,6 @@
 // The square root of a double: the nearest double, by whole-number squares (document 01, Record 4).
+#![tactic(auto)]
+
 mod bisection;
 mod inverse_table;
 mod parts;

@@ -1,5 +1,7 @@
 // The call `step` (document 01, Records 4 and 5): one step S, C or T of an update. Refused with 20, 22, 21, 23, 24 or 26. What it answers and leaves
 // is `step_of` of the crate update, specs/Calls.antt.
+#![tactic(auto)]
+
 mod apply_step;
 mod factor_step;
 mod step_check;

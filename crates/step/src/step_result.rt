@@ -9,7 +9,7 @@ use layout::Layout;
 use refusal::Answer;
 
 // What a step answers, and the progress that it hands back.
-#[derive(Drop)]
+#[derive(Clone, Copy)]
 pub struct StepResult {
     pub answer: Answer,
     pub progress: Progress,

@@ -1,12 +1,14 @@
 // Reads the list of words that a test program is given on standard input: lines of sixteen lower-case hexadecimal digits and a line feed, a word
 // each. What the program prints of them is held to its file stdout, which a script made. Nothing is tested here: a list out of form shows in what is
 // printed.
+#![tactic(auto)]
+
 ghost use Rattle.std.specs.Prelude.{◌≤◌};
 
 use libc::{STDIN_FILENO, STDOUT_FILENO};
 
 // A line's word; more is false behind the last line.
-#[derive(Drop)]
+#[derive(Clone, Copy)]
 pub struct Word {
     pub more: bool,
     pub word: u64,

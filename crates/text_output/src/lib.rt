@@ -1,4 +1,6 @@
 // Writes bytes, numbers and words as text into lent bytes, from a place on, and answers the place behind (document 01, "Worked sheets").
+#![tactic(auto)]
+
 pub mod print_lines;
 
 ghost use Rattle.std.specs.Prelude.{◌≡◌, ◌+◌, ◌≤◌, [], ◌∷◌, length};

@@ -14,7 +14,7 @@ use layout::Layout;
 use storage::Block;
 
 // A cross block, and where the blocks of the vector start that have its rows and its columns.
-#[derive(Drop)]
+#[derive(Clone, Copy)]
 struct Pair {
     pub a: Block,
     pub rows: usize,

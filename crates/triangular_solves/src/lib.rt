@@ -1,5 +1,7 @@
 // The solves with the factor, in place (document 01, Record 7; the Rust's `forward_solve_ld`, `backward_solve_ld`, `backsolve_a_inv`). At the root w
 // of every fixed row: its v is put in the place of w and solved there.
+#![tactic(auto)]
+
 mod backsolve;
 mod backward_solve;
 mod block_solves;

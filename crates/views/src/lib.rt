@@ -1,5 +1,7 @@
 // What a caller may look at in a workspace: the steps left, the log determinant and the pivots (document 01, Record 5 and "Worked sheets"). Refused
 // with 20 or 25. What each answers is defined in specs/Views.antt.
+#![tactic(auto)]
+
 pub mod pivot_places;
 
 ghost use Rattle.std.specs.Prelude.{◌≡◌, ◌<◌, ◌≤◌, length};
@@ -15,14 +17,14 @@ use layout::Layout;
 use refusal::Refusal;
 
 // The steps left, or 20.
-#[derive(Drop)]
+#[derive(Clone, Copy)]
 pub enum StepsLeft {
     Steps(u64),
     Refused(Refusal),
 }
 
 // A double, or that there is none of that name, or 20 or 25.
-#[derive(Drop)]
+#[derive(Clone, Copy)]
 pub enum View {
     Value(f64),
     Absent,

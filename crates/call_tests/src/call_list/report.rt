@@ -5,7 +5,7 @@ use profile::{Deviance, DevianceAnswer, Solve};
 use refusal::{Answer, Refusal};
 
 // How the answer stands: 0 accepted, 1 refused, 2 a value, 3 a refused pivot, which stands as number 26, 4 no scale, 5 a solution.
-#[derive(Drop)]
+#[derive(Clone, Copy)]
 pub struct Reported {
     pub how: u64,
     pub refusal: Refusal,

@@ -1,0 +1,10 @@
+-- `float_bits::double::lifted` meets its contract. The measure is the exponent, which falls with each place.
+use native.Mathlib.Omega.{arith}
+use Rattle.float_bits.proofs.double.Leading.{Lifting, lift_start, lift_some, lift_on, lift_end}
+use Rattle.float_bits.proofs.double.lifted.Given as goal
+
+abbrev pub invariant-loop-m : goal.invariant-loop-m
+invariant-loop-m l = Lifting l.q l.m l.t
+
+abbrev pub decreases-loop-m : goal.decreases-loop-m
+decreases-loop-m l = l.t

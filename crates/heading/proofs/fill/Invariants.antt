@@ -1,0 +1,14 @@
+-- `heading::fill`: the numbers before j are read.
+use Prim.Native.Nat.{◌-◌}
+use native.Mathlib.Omega.{arith}
+use borrow.Author.Rules.{rules}
+use lib.ListN.{length}
+use Rattle.storage.proofs.Filling.{Filling, filling_none, array_more}
+use Rattle.heading.proofs.Numbers.{behind, read_all}
+use Rattle.heading.proofs.fill.Given as goal
+
+abbrev pub invariant-loop-j : goal.invariant-loop-j
+invariant-loop-j l = Filling (behind l.heading l.at) 0 (length l.initial.r) l.initial.r l.r l.j
+
+abbrev pub decreases-loop-j : goal.decreases-loop-j
+decreases-loop-j l = length l.initial.r - l.j

@@ -1,0 +1,7 @@
+-- `heading::writer::put`: a list of one number.
+use borrow.Author.Rules.{rules}
+use Rattle.heading.proofs.Numbers.{stored_one}
+use Rattle.heading.proofs.writer.put.Goals as goal
+
+pub returns : goal.returns
+returns c = rw c.narrow.ensures (stored_one _ _ _ (search rules))

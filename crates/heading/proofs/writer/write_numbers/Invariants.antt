@@ -1,0 +1,12 @@
+-- `heading::writer::write_numbers`: the numbers before j are written.
+use Prim.Native.Nat.{◌-◌}
+use borrow.Author.Rules.{rules}
+use Rattle.storage.proofs.Filling.{Filling, filling_none, filling_more}
+use Rattle.heading.proofs.Numbers.{each, stored_all}
+use Rattle.heading.proofs.writer.write_numbers.Given as goal
+
+abbrev pub invariant-loop-j : goal.invariant-loop-j
+invariant-loop-j l = Filling (each l.l) l.at l.n l.initial.heading l.heading l.j
+
+abbrev pub decreases-loop-j : goal.decreases-loop-j
+decreases-loop-j l = l.n - l.j

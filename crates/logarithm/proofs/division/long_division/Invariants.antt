@@ -1,0 +1,10 @@
+-- `logarithm::division::long_division` meets its contract. The measure is the number of turns left.
+use Rattle.std.proofs.Common.{◌-◌, ◌*◌, ◌/◌, ◌^◌, ◌<◌, arith}
+use Rattle.logarithm.proofs.division.Words.{Divided, digit, first_digit, next_digit, quotient_fits, last_digit}
+use Rattle.logarithm.proofs.division.long_division.Given as goal
+
+abbrev pub invariant-loop-i : goal.invariant-loop-i
+invariant-loop-i l = Divided l.a l.b l.q l.r l.i
+
+abbrev pub decreases-loop-i : goal.decreases-loop-i
+decreases-loop-i l = 31 - l.i

@@ -1,0 +1,18 @@
+use Rattle.std.proofs.Common.{◌-◌, arith, rules}
+use Rattle.sheet.specs.Line.{block_line}
+use Rattle.sheet.specs.Run.{block_verdict, block_in, blocks_of}
+use Rattle.sheet.proofs.Lines.{grid_length}
+use Rattle.sheet_reader.proofs.line_verdict.Runs.{Rows, rows_start, rows_refused, ones_next, rows_end, blocks_past}
+use Rattle.sheet_reader.proofs.line_groups.blocks.Goals as goal
+
+pub loop-i-init : goal.loop-i-init
+loop-i-init c = rows_start (omega (arith, grid_length 1 0 c.args.k))
+
+pub returns-then-d-ne0 : goal.returns-then-d-ne0
+returns-then-d-ne0 c = blocks_past _ _ _ _ (search rows_refused)
+
+pub loop-i-preserved : goal.loop-i-preserved
+loop-i-preserved c = search ones_next
+
+pub returns : goal.returns
+returns c = blocks_past _ _ _ _ (search rows_end)

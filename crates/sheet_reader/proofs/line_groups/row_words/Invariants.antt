@@ -1,0 +1,12 @@
+-- `sheet_reader::line_groups::row_words`: the lines that are left still end as the whole row does.
+use Rattle.std.proofs.Common.{◌-◌, rules}
+use Rattle.sheet.specs.Line.{word_line}
+use Rattle.sheet.specs.Run.{lines_of, row_from, prescribed_verdict, word_in}
+use Rattle.sheet_reader.proofs.line_verdict.Runs.{Row, row_starts, row_refused, row_next, row_ends}
+use Rattle.sheet_reader.proofs.line_groups.row_words.Given as goal
+
+abbrev pub invariant-loop-col : goal.invariant-loop-col
+invariant-loop-col l = Row (word_line l.numbers l.t l.bytes) prescribed_verdict word_in (lines_of (word_line l.numbers l.t l.bytes) prescribed_verdict word_in (row_from l.row 0 l.width) l.initial.d).past l.row l.col l.width l.d
+
+abbrev pub decreases-loop-col : goal.decreases-loop-col
+decreases-loop-col l = l.width - l.col

@@ -1,0 +1,12 @@
+-- `sheet_reader::line_groups::words`: the rows that are left still end as the whole run does.
+use Rattle.std.proofs.Common.{◌+◌, ◌-◌, ◌*◌, arith, rules}
+use Rattle.sheet.specs.Line.{word_line}
+use Rattle.sheet.specs.Run.{rows_from, prescribed_verdict, word_in, word_kind, words_of}
+use Rattle.sheet_reader.proofs.line_verdict.Runs.{Rows, rows_most, rows_start, words_past, rows_refused, rows_next, rows_room, rows_end}
+use Rattle.sheet_reader.proofs.line_groups.words.Given as goal
+
+abbrev pub invariant-loop-r : goal.invariant-loop-r
+invariant-loop-r l = Rows (word_line l.numbers l.t l.bytes) prescribed_verdict word_in (λ i. l.first + l.step * i) (words_of l.bytes (word_kind l.t l.numbers (rows_from (λ i. l.first + l.step * i) 0 l.rows)) l.initial.d).past l.r l.rows l.d
+
+abbrev pub decreases-loop-r : goal.decreases-loop-r
+decreases-loop-r l = l.rows - l.r

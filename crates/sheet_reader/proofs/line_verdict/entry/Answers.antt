@@ -1,0 +1,8 @@
+-- `sheet_reader::line_verdict::entry`: by the parts of its verdict.
+use Rattle.std.proofs.Common.{rules}
+use Rattle.sheet_reader.proofs.line_verdict.Runs.{entry_passed}
+use Rattle.sheet_reader.proofs.line_verdict.entry.Goals as goal
+
+pub returns : goal.returns
+returns c = let f = c.before.before.before.before in let a = f.args in
+    entry_passed a.l a.c _ _ c.pass.ensures a.q a.col a.row _ _ f.not_before.ensures f.is_finite.ensures c.verdict-v.ensures

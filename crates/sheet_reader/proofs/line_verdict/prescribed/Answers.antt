@@ -1,0 +1,8 @@
+-- `sheet_reader::line_verdict::prescribed`: by the parts of its verdict.
+use Rattle.std.proofs.Common.{rules}
+use Rattle.sheet_reader.proofs.line_verdict.Runs.{prescribed_passed}
+use Rattle.sheet_reader.proofs.line_verdict.prescribed.Goals as goal
+
+pub returns : goal.returns
+returns c = let f = c.before.before in let a = f.args in
+    prescribed_passed a.l a.c _ _ c.pass.ensures a.row a.col _ f.is_finite.ensures c.verdict-v.ensures

@@ -1,0 +1,13 @@
+-- `sheet_reader::word_field::word`: the digits to come still end as the whole word does, unless an entry before was that of no digit.
+use Rattle.std.proofs.Common.{ℕ, ◌+◌, ◌-◌, ◌<◌, get_or, arith, rules}
+use Rattle.sheet.specs.Field.{digit_of}
+use Rattle.sheet.specs.Line.{lf, word_to}
+use Rattle.sheet_reader.proofs.field.Fields.{Word, word_begun, word_short, word_more, word_count, word_done}
+use Rattle.sheet_reader.proofs.field.Table.{mark, right, Marks, marks, mark_fits}
+use Rattle.sheet_reader.proofs.word_field.word.Given as goal
+
+abbrev pub invariant-loop-k : goal.invariant-loop-k
+invariant-loop-k l = Marks l.digits × Word (word_to l.bytes l.at) l.bytes lf l.at l.k l.v l.sum
+
+abbrev pub decreases-loop-k : goal.decreases-loop-k
+decreases-loop-k l = 16 - l.k
