@@ -95,7 +95,7 @@ pub fn words(
     c: Cursor,
 ) -> Cursor
     requires { (rows * (first + step * rows) ≤ 16777216) × (c.line ≤ 4294967296) }
-    ensures* { λ r. ⌜ (r ≡ (words_of bytes.now (word_kind t.now numbers (rows_from (λ r. first + step * r) 0 rows)) c).past) × (r.line ≤ c.line + 16777216) ⌝ }
+    ensures { (result ≡ (words_of bytes.now (word_kind t.now numbers (rows_from (λ r. first + step * r) 0 rows)) c).past) × (result.line ≤ c.line + 16777216) }
 {
     let mut d = c;
     let mut r: u64 = 0;

@@ -10,24 +10,24 @@ use Rattle.square_root.proofs.Value.{at_kind}
 use Rattle.square_root.proofs.sqrt.Goals as goal
 
 pub of_parts-requires : goal.of_parts-requires
-of_parts-requires c = in_place _ _ (subst T (sym c.well_formed.0.1) tt) (sym c.classify.ensures ∙ c.p-1.given.1)
+of_parts-requires c = in_place _ _ (subst T (sym c.well_formed.0.1) tt) (sym c.classify.ensures ∙ c.in-Positive.is)
 
 pub returns-in-Positive : goal.returns-in-Positive
 unfolding sqrt_at
-returns-in-Positive c = c.of_parts.ensures ∙ at_kind _ (Positive _) c.classify.ensures c.p-1.given.1
+returns-in-Positive c = c.of_parts.ensures ∙ at_kind _ (Positive _) c.classify.ensures c.in-Positive.is
 
 pub returns-in-Zero : goal.returns-in-Zero
 unfolding sqrt_at
-returns-in-Zero c = at_kind _ Zero c.classify.ensures c.enum_told-1.given.1
+returns-in-Zero c = at_kind _ Zero c.classify.ensures c.in-Zero.is
 
 pub returns-in-Negative : goal.returns-in-Negative
 unfolding sqrt_at div of_bits
-returns-in-Negative c = at_kind _ Negative c.classify.ensures c.enum_told-in-Negative-1.given.1
+returns-in-Negative c = at_kind _ Negative c.classify.ensures c.in-Negative.is
 
 pub returns-in-PlusInfinity : goal.returns-in-PlusInfinity
 unfolding sqrt_at
-returns-in-PlusInfinity c = at_kind _ PlusInfinity c.classify.ensures c.enum_told-in-PlusInfinity-1.given.1
+returns-in-PlusInfinity c = at_kind _ PlusInfinity c.classify.ensures c.in-PlusInfinity.is
 
 pub returns-in-NotANumber : goal.returns-in-NotANumber
 unfolding sqrt_at
-returns-in-NotANumber c = at_kind _ NotANumber c.classify.ensures c.enum_told-in-NotANumber-1.given.1
+returns-in-NotANumber c = at_kind _ NotANumber c.classify.ensures c.in-NotANumber.is

@@ -10,6 +10,5 @@ pub put-requires-2 : goal.put-requires-2
 put-requires-2 c = (search rules, c.flag-2.ensures.1)
 
 pub returns : goal.returns
-returns c = let start = c.before.before.before.before.before.before.before.before.before.before.before in
-    let w = start.args.heading.now in
-    flags_stored w _ _ c.put-2.ensures c.put.ensures c.flag.ensures.0 c.flag-2.ensures.0 start.requires
+returns c = let w = c.args.heading.now in
+    flags_stored w _ _ c.put-2.ensures c.put.ensures c.flag.ensures.0 c.flag-2.ensures.0 c.requires

@@ -13,7 +13,7 @@ pub nonzero_div-result : goal.nonzero_div-result
 nonzero_div-result c = below_pos _ _ c.requires.0
 
 pub overflow_add-result : goal.overflow_add-result
-overflow_add-result c = record { fits = sum_fits _ _ _ (quotient_is c.args.a c.args.b c.args.g _ _ _ _ _ c.high.ensures c.low-low.ensures refl c.wrapping_sub_u64-r.ensures c.above.ensures.0 c.if-r-ge72057594037927936.false (below_pos _ _ c.requires.0) c.if-high-above.false) c.requires.0 }
+overflow_add-result c = record { fits = sum_fits _ _ _ (quotient_is c.args.a c.args.b c.args.g _ _ _ _ _ c.high.ensures c.low-low.ensures refl c.wrapping_sub_u64-r.ensures.value c.above.ensures.0 c.if-r-ge72057594037927936.false (below_pos _ _ c.requires.0) c.if-high-above.false) c.requires.0 }
 
 pub returns : goal.returns
-returns c = quotient_is c.args.a c.args.b c.args.g _ _ _ _ _ c.high.ensures c.low-low.ensures refl c.wrapping_sub_u64-r.ensures c.above.ensures.0 c.if-r-ge72057594037927936.false (below_pos _ _ c.requires.0) c.if-high-above.false
+returns c = quotient_is c.args.a c.args.b c.args.g _ _ _ _ _ c.high.ensures c.low-low.ensures refl c.wrapping_sub_u64-r.ensures.value c.above.ensures.0 c.if-r-ge72057594037927936.false (below_pos _ _ c.requires.0) c.if-high-above.false

@@ -5,7 +5,7 @@ use Rattle.sheet_reader.proofs.line_verdict.Runs.{Entries, entries_refused, entr
 use Rattle.sheet_reader.proofs.line_groups.entries.Given as goal
 
 abbrev pub invariant-loop-left : goal.invariant-loop-left
-invariant-loop-left l = Entries (entries_from (length l.bytes) l.bytes l.q 0 0 l.initial.d).past l.bytes l.q left l.left row l.row
+invariant-loop-left l = Entries (entries_from (length l.bytes) l.bytes l.q 0 0 l.initial.d).past l.bytes l.q l.left l.col l.row l.d
 
 abbrev pub decreases-loop-left : goal.decreases-loop-left
-decreases-loop-left l = left
+decreases-loop-left l = l.left

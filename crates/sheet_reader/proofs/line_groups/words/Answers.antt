@@ -5,7 +5,7 @@ use Rattle.sheet_reader.proofs.line_verdict.Runs.{Rows, rows_most, rows_start, w
 use Rattle.sheet_reader.proofs.line_groups.words.Goals as goal
 
 pub loop-r-init : goal.loop-r-init
-loop-r-init c = let b = c.before.before in rows_start (omega (arith, rows_most b.args.first b.args.step 0 b.args.rows, b.requires.0, b.requires.1))
+loop-r-init c = rows_start (omega (arith, rows_most c.args.first c.args.step 0 c.args.rows, c.requires.0, c.requires.1))
 
 pub returns-then-d-ne0 : goal.returns-then-d-ne0
 returns-then-d-ne0 c = words_past _ _ _ _ _ _ c.requires.0 (search rows_refused)

@@ -5,17 +5,6 @@ use Rattle.sheet_reader.proofs.field.Fields.{Word, word_begun, word_short, word_
 use Rattle.sheet_reader.proofs.field.Table.{mark, right, Marks, marks, mark_fits}
 use Rattle.sheet_reader.proofs.word_field.word.Goals as goal
 
--- what is known in a turn of the loop once its byte is read
-abbrev Turn : Type 0
-Turn = goal.After-shared_slice_known-in-loop-k-1
-
--- the byte that a turn reads
-abbrev byte : Turn → ℕ
-byte c = let a = c.args in get_or a.bytes.now (a.at + c.loop.k) 0
-
-is_byte : (c : Turn) → byte c < 256
-is_byte c = let a = c.args in omega (arith, c.shared-slice-known2.given (a.at + c.loop.k))
-
 pub returns-then-bytes-lt17 : goal.returns-then-bytes-lt17
 returns-then-bytes-lt17 c = word_short _ _ 16 0 _ (omega arith)
 
@@ -27,19 +16,19 @@ unfolding right mark digit_of
 loop-k-init c = (marks _ tt, word_begun _ _ _)
 
 pub overflow_cast-d : goal.overflow_cast-d
-overflow_cast-d c = omega (arith, is_byte c)
+overflow_cast-d c = omega (arith, c.type_inv.bytes (c.args.at + c.loop-k.k))
 
 pub bounds-digits-bytes : goal.bounds-digits-bytes
-bounds-digits-bytes c = is_byte c
+bounds-digits-bytes c = (c.type_inv.bytes (c.args.at + c.loop-k.k)).fits
 
 pub overflow_cast-d-in-loop-k : goal.overflow_cast-d-in-loop-k
-overflow_cast-d-in-loop-k c = record { fits = mark_fits (byte c) (c.loop-k.invariant.0.at_byte (byte c) (is_byte c)) }
+overflow_cast-d-in-loop-k c = record { fits = mark_fits (get_or c.args.bytes.now (c.args.at + c.loop-k.k) 0) (c.loop-k.invariant.0.at_byte (get_or c.args.bytes.now (c.args.at + c.loop-k.k) 0) ((c.type_inv.bytes (c.args.at + c.loop-k.k)).fits)) }
 
 pub overflow_add-sum : goal.overflow_add-sum
-overflow_add-sum c = record { fits = word_count c.loop-k.invariant.1 _ (omega arith) (c.loop-k.invariant.0.at_byte (byte c.before) (is_byte c.before)) }
+overflow_add-sum c = record { fits = word_count c.loop-k.invariant.1 _ (omega arith) (c.loop-k.invariant.0.at_byte (get_or c.args.bytes.now (c.args.at + c.loop-k.k) 0) ((c.type_inv.bytes (c.args.at + c.loop-k.k)).fits)) }
 
 pub loop-k-preserved : goal.loop-k-preserved
-loop-k-preserved c = (c.loop-k.invariant.0, word_more c.loop-k.invariant.1 (omega arith) (omega arith) (c.loop-k.invariant.0.at_byte (byte c.before) (is_byte c.before)) c.wrapping_add_u64-v.ensures)
+loop-k-preserved c = (c.loop-k.invariant.0, word_more c.loop-k.invariant.1 (omega arith) (omega arith) (c.loop-k.invariant.0.at_byte (get_or c.args.bytes.now (c.args.at + c.loop-k.k) 0) ((c.type_inv.bytes (c.args.at + c.loop-k.k)).fits)) c.wrapping_add_u64-v.ensures.value)
 
 pub returns-then-sum-ge255 : goal.returns-then-sum-ge255
 returns-then-sum-ge255 c = c.loop-k.invariant.1.none (omega arith)

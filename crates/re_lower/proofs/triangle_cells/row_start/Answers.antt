@@ -10,8 +10,7 @@ use borrow.Author.Rules.{rules}
 use Rattle.storage.specs.Runs.{start, triangle}
 use Rattle.storage.proofs.Starts.{start_triangle}
 use Rattle.storage.proofs.Table.{entry}
-use Rattle.re_lower.proofs.triangle_cells.row_start.Statement.{statement}
-use Rattle.re_lower.proofs.triangle_cells.row_start.Tie as tie
+use Rattle.re_lower.proofs.triangle_cells.row_start.Goals as goal
 
 starts : List ℕ
 starts =
@@ -40,10 +39,7 @@ right k x = eqb (2 * x) (k * (k + 1))
 half : (v r : ℕ) → 2 * v ≡ r * (r + 1) → v ≡ start triangle r
 half v r e = omega (arith, start_triangle r)
 
-returns : tie.Need-returns
+pub returns : goal.returns
 unfolding starts right
 returns c = let r = c.args.r in
     half (get_or starts r 0) r (eqb→eq (2 * get_or starts r 0) (r * (r + 1)) (entry right starts tt r (search rules)))
-
-pub row-start-spec : {M : Type 1} → statement M
-row-start-spec = tie.close (tie.spec (λ c. omega arith) (λ c. search rules) returns)

@@ -1,0 +1,55 @@
+use mathlib.Core.Path.{◌≡◌, refl, ap, ◌∙◌}
+use Prim.Native.Nat.{ℕ, ◌≤◌, ◌-◌, ◌+◌, suc}
+use native.Mathlib.Omega.{arith}
+use lib.ListN.{length, length-set}
+use Rattle.storage.specs.Runs.{start, triangle}
+use Rattle.storage.specs.Part.{store}
+use Rattle.storage.proofs.Starts.{start_triangle, start_le}
+use Rattle.re_lower.proofs.Back.{start_half, start_before, back_to, back_none, back_all, back_turn}
+use Rattle.re_lower.proofs.back_substitution.backward.Goals.{In-loop-i}
+use Rattle.re_lower.proofs.back_substitution.backward.Goals as goal
+
+-- row i - 1 ends where row i starts, which is inside the list
+near : (c : In-loop-i) → (c.loop-i.from ≡ start triangle (c.loop-i.i - 1) + c.loop-i.i) × (c.loop-i.from ≤ length c.args.l.now)
+near c = let l = c.loop-i in
+    let a = c.args in
+    (l.invariant.1 ∙ start_before l.i c.loop-i-test.true, omega (arith, start_le triangle l.i a.n l.invariant.0))
+
+pub overflow_mul-from : goal.overflow_mul-from
+overflow_mul-from c = omega (arith, start_triangle c.args.n)
+
+pub loop-i-init : goal.loop-i-init
+loop-i-init c = let a = c.args in (omega arith, start_half a.n, refl, back_none a.t.now a.l.now a.n)
+
+pub overflow_sub-from : goal.overflow_sub-from
+overflow_sub-from c = omega (arith, near c)
+
+pub chain_column-requires : goal.chain_column-requires
+chain_column-requires c = let l = c.loop-i in let e : l.i ≡ l.i - 1 + 1 = omega arith in
+    (omega arith, omega arith, omega arith, l.invariant.1 ∙ ap (start triangle) e)
+
+pub overflow_add-t : goal.overflow_add-t
+overflow_add-t c = omega (arith, near c.before.before.before)
+
+pub offset_bounds-l-from : goal.offset_bounds-l-from
+offset_bounds-l-from c = omega (arith, near c.before.before.before)
+
+pub bounds-l-from : goal.bounds-l-from
+bounds-l-from c = omega (arith, near c.before.before.before.before)
+
+pub loop-i-preserved : goal.loop-i-preserved
+loop-i-preserved c = let a = c.args in
+    let l = c.loop-i in let k = near c.before.before.before.before in
+    let e : l.i ≡ suc (l.i - 1) = omega arith in
+    let f : suc (a.n - suc (l.i - 1)) ≡ a.n - (l.i - 1) = omega arith in (
+      omega arith,
+      omega (arith, k),
+      simp length-set l.invariant.2,
+      back_turn a.t.now a.l.now a.n (l.i - 1) (a.n - suc (l.i - 1)) refl (omega arith) (omega arith) l.t l.invariant.2
+          (l.invariant.3 ∙ ap (λ (x : ℕ). store x (back_to a.t.now a.l.now a.n (a.n - x)) a.t.now) e) (l.from - l.i) (omega (arith, k)) (omega (arith, k)) _ c.chain_column.ensures
+          ∙ ap (λ (d : ℕ). store (l.i - 1) (back_to a.t.now a.l.now a.n d) a.t.now) f,
+    )
+
+pub returns : goal.returns
+returns c = let a = c.args in let l = c.loop-i in
+    l.invariant.3 ∙ back_all a.t.now a.l.now a.n l.i (omega arith)

@@ -1,0 +1,47 @@
+use mathlib.Core.Path.{◌≡◌, refl}
+use Prim.Native.Nat.{◌≤◌, ◌-◌, ◌+◌, suc}
+use native.Mathlib.Omega.{arith}
+use native.Mathlib.Numerals.{add-one}
+use lib.ListN.{length, length-set}
+use Rattle.storage.specs.Runs.{start, triangle}
+use Rattle.storage.proofs.Starts.{start_below}
+use Rattle.re_lower.specs.Band.{LeftOfPivotFrom}
+use Rattle.re_lower.proofs.Turns.{row_turn}
+use Rattle.re_lower.proofs.band_row.row_left_of_pivot.Goals.{In-loop-c}
+use Rattle.re_lower.proofs.band_row.row_left_of_pivot.Goals as goal
+
+-- row c ends before row r begins
+room : (c : In-loop-c) → start triangle c.loop-c.c + suc c.loop-c.c ≤ start triangle c.args.r
+room c = start_below triangle c.loop-c.c c.args.r c.loop-c-test.true
+
+pub loop-c-init : goal.loop-c-init
+loop-c-init c = (omega arith, omega arith, refl, λ w k q. q)
+
+pub chain-requires : goal.chain-requires
+chain-requires c = omega (arith, room c.before.before)
+
+pub overflow_add-t : goal.overflow_add-t
+overflow_add-t c = omega (arith, room c.before.before.before)
+
+pub offset_bounds-t-at : goal.offset_bounds-t-at
+offset_bounds-t-at c = omega (arith, room c.before.before.before)
+
+pub bounds-t-at : goal.bounds-t-at
+bounds-t-at c = omega (arith, room c.before.before.before.before)
+
+pub overflow_add-at : goal.overflow_add-at
+overflow_add-at c = omega (arith, room c.before.before.before.before)
+
+pub loop-c-preserved : goal.loop-c-preserved
+unfolding start
+loop-c-preserved c = let a = c.args in
+    let l = c.loop-c in (
+      omega arith,
+      rw add-one (omega arith),
+      simp length-set l.invariant.2,
+      λ w k q. rw add-one (row_turn w a.from a.r (omega arith) (omega arith) l.c (omega arith) l.t (omega arith) (l.invariant.3 w k q) l.at l.invariant.1 _ c.chain.ensures),
+    )
+
+pub returns : goal.returns
+returns c = let a = c.args in let e : c.loop-c.c ≡ a.r = omega arith in
+    λ w k q. rw (← e) (c.loop-c.invariant.3 w k q)

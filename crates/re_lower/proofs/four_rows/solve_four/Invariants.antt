@@ -1,0 +1,19 @@
+-- `re_lower::four_rows::solve_four`: the invariant is that the first c cells of each row are solved and nothing behind them has changed.
+use mathlib.Core.Path.{◌≡◌, refl}
+use Prim.Native.Nat.{ℕ, ◌≤◌, ◌-◌, ◌*◌, ◌+◌}
+use native.Mathlib.Omega.{arith}
+use native.Mathlib.Numerals.{add-one}
+use lib.ListN.{length}
+use Rattle.storage.specs.Runs.{start, triangle}
+use Rattle.storage.proofs.Starts.{start_below}
+use Rattle.rules.specs.Arithmetic.{ieee}
+use Rattle.rules.specs.Cholesky.{at}
+use Rattle.re_lower.specs.Band.{FourSolved, four_done}
+use Rattle.re_lower.proofs.Band.{four_rest, four_solved}
+use Rattle.re_lower.proofs.four_rows.solve_four.Given as goal
+
+abbrev pub invariant-loop-c : goal.invariant-loop-c
+invariant-loop-c l = (l.c ≤ l.n) × (l.from ≡ start triangle l.c) × (length l.x ≡ length l.initial.x) × FourSolved l.initial.x l.l l.x l.c × ((z : ℕ) → 4 * l.c ≤ z → at ieee l.x z ≡ at ieee l.initial.x z)
+
+abbrev pub decreases-loop-c : goal.decreases-loop-c
+decreases-loop-c l = l.n - l.c
