@@ -5,36 +5,36 @@ use native.Mathlib.Numerals.{add-one}
 use Rattle.storage.specs.Runs.{start, triangle}
 use Rattle.storage.proofs.Starts.{start_below}
 use Rattle.re_lower.proofs.Back.{column_to, column_none, column_turn}
-use Rattle.re_lower.proofs.back_substitution.chain_column.Goals.{In-loop-q}
 use Rattle.re_lower.proofs.back_substitution.chain_column.Goals as goal
-
--- row q ends inside the list
-room : (c : In-loop-q) → start triangle c.loop-q.q + suc c.loop-q.q ≤ start triangle c.args.n
-room c = start_below triangle c.loop-q.q c.args.n c.loop-q-test.true
 
 pub loop-q-init : goal.loop-q-init
 loop-q-init c = (omega arith, omega arith, omega arith, column_none c.args.s c.args.l.now c.args.t.now c.args.i)
 
 pub overflow_add-v : goal.overflow_add-v
-overflow_add-v c = omega (arith, room c)
+overflow_add-v c = let room : start triangle c.loop-q.q + suc c.loop-q.q ≤ start triangle c.args.n = start_below triangle c.loop-q.q c.args.n c.loop-q-test.true in
+    omega (arith, room)
 
 pub offset_bounds-l-row : goal.offset_bounds-l-row
-offset_bounds-l-row c = omega (arith, room c)
+offset_bounds-l-row c = let room : start triangle c.loop-q.q + suc c.loop-q.q ≤ start triangle c.args.n = start_below triangle c.loop-q.q c.args.n c.loop-q-test.true in
+    omega (arith, room)
 
 pub bounds-l-row : goal.bounds-l-row
-bounds-l-row c = omega (arith, room c.before)
+bounds-l-row c = let room : start triangle c.loop-q.q + suc c.loop-q.q ≤ start triangle c.args.n = start_below triangle c.loop-q.q c.args.n c.loop-q-test.true in
+    omega (arith, room)
 
 pub overflow_add-row : goal.overflow_add-row
-overflow_add-row c = omega (arith, room c.before.before)
+overflow_add-row c = let room : start triangle c.loop-q.q + suc c.loop-q.q ≤ start triangle c.args.n = start_below triangle c.loop-q.q c.args.n c.loop-q-test.true in
+    omega (arith, room)
 
 pub loop-q-preserved : goal.loop-q-preserved
 unfolding start
-loop-q-preserved c = let a = c.args in let l = c.loop-q in
+loop-q-preserved c = let room : start triangle c.loop-q.q + suc c.loop-q.q ≤ start triangle c.args.n = start_below triangle c.loop-q.q c.args.n c.loop-q-test.true in
+    let a = c.args in let l = c.loop-q in
     let e : suc (l.q - suc a.i) ≡ l.q + 1 - suc a.i = omega arith in (
       omega arith,
       omega arith,
       rw add-one (omega arith),
-      column_turn a.s l.v a.l.now a.t.now a.i l.q l.row (l.q - suc a.i) (omega arith) l.invariant.2 (omega (arith, room c.before.before)) (omega arith) l.invariant.3
+      column_turn a.s l.v a.l.now a.t.now a.i l.q l.row (l.q - suc a.i) (omega arith) l.invariant.2 (omega (arith, room)) (omega arith) l.invariant.3
           ∙ ap (column_to a.s a.l.now a.t.now a.i) e,
     )
 

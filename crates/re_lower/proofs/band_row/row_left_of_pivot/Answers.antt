@@ -7,30 +7,30 @@ use Rattle.storage.specs.Runs.{start, triangle}
 use Rattle.storage.proofs.Starts.{start_below}
 use Rattle.re_lower.specs.Band.{LeftOfPivotFrom}
 use Rattle.re_lower.proofs.Turns.{row_turn}
-use Rattle.re_lower.proofs.band_row.row_left_of_pivot.Goals.{In-loop-c}
 use Rattle.re_lower.proofs.band_row.row_left_of_pivot.Goals as goal
-
--- row c ends before row r begins
-room : (c : In-loop-c) → start triangle c.loop-c.c + suc c.loop-c.c ≤ start triangle c.args.r
-room c = start_below triangle c.loop-c.c c.args.r c.loop-c-test.true
 
 pub loop-c-init : goal.loop-c-init
 loop-c-init c = (omega arith, omega arith, refl, λ w k q. q)
 
 pub chain-requires : goal.chain-requires
-chain-requires c = omega (arith, room c.before.before)
+chain-requires c = let room : start triangle c.loop-c.c + suc c.loop-c.c ≤ start triangle c.args.r = start_below triangle c.loop-c.c c.args.r c.loop-c-test.true in
+    omega (arith, room)
 
 pub overflow_add-t : goal.overflow_add-t
-overflow_add-t c = omega (arith, room c.before.before.before)
+overflow_add-t c = let room : start triangle c.loop-c.c + suc c.loop-c.c ≤ start triangle c.args.r = start_below triangle c.loop-c.c c.args.r c.loop-c-test.true in
+    omega (arith, room)
 
 pub offset_bounds-t-at : goal.offset_bounds-t-at
-offset_bounds-t-at c = omega (arith, room c.before.before.before)
+offset_bounds-t-at c = let room : start triangle c.loop-c.c + suc c.loop-c.c ≤ start triangle c.args.r = start_below triangle c.loop-c.c c.args.r c.loop-c-test.true in
+    omega (arith, room)
 
 pub bounds-t-at : goal.bounds-t-at
-bounds-t-at c = omega (arith, room c.before.before.before.before)
+bounds-t-at c = let room : start triangle c.loop-c.c + suc c.loop-c.c ≤ start triangle c.args.r = start_below triangle c.loop-c.c c.args.r c.loop-c-test.true in
+    omega (arith, room)
 
 pub overflow_add-at : goal.overflow_add-at
-overflow_add-at c = omega (arith, room c.before.before.before.before)
+overflow_add-at c = let room : start triangle c.loop-c.c + suc c.loop-c.c ≤ start triangle c.args.r = start_below triangle c.loop-c.c c.args.r c.loop-c-test.true in
+    omega (arith, room)
 
 pub loop-c-preserved : goal.loop-c-preserved
 unfolding start

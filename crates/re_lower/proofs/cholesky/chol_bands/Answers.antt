@@ -17,18 +17,7 @@ use Rattle.re_lower.specs.Band.{BandReady}
 use Rattle.re_lower.proofs.Laws.{goes_on, refused_at_lem}
 use Rattle.re_lower.proofs.Band.{row_ready}
 use Rattle.re_lower.proofs.Turns.{rows_to, row_done, is_radicand, chol_turn}
-use Rattle.re_lower.proofs.cholesky.chol_bands.Goals.{After-refused, In-loop-r}
 use Rattle.re_lower.proofs.cholesky.chol_bands.Goals as goal
-
--- row r ends inside the list
-room : (c : In-loop-r) → start triangle c.loop-r.r + suc c.loop-r.r ≤ start triangle c.args.n
-room c = start_below triangle c.loop-r.r c.args.n c.loop-r-test.true
-
--- the radicand of row r is what the test is of
-tested : (c : After-refused) → c.refused.result ≡ ieee.refused (radicand ieee (lower c.args.t.now) c.loop-r.r)
-tested c = let a = c.args in
-    let l = c.loop-r in
-    c.refused.ensures ∙ ap ieee.refused (is_radicand a.t.now a.n c.requires.0 l.r c.loop-r-test.true l.t _ (omega arith) l.invariant.3 l.from l.invariant.1 c.band_row.ensures _ c.chain-d.ensures)
 
 pub loop-r-init : goal.loop-r-init
 unfolding start cells first_bad
@@ -39,61 +28,76 @@ next_band-base-requires c = let l = c.loop-r in
     (omega arith, omega arith, omega arith, l.invariant.1, omega arith)
 
 pub band_row-requires : goal.band_row-requires
-band_row-requires c = let a = c.args in
+band_row-requires c = let room : start triangle c.loop-r.r + suc c.loop-r.r ≤ start triangle c.args.n = start_below triangle c.loop-r.r c.args.n c.loop-r-test.true in
+    let a = c.args in
     let l = c.loop-r in
     let k = c.next_band-base in (
       l.invariant.1,
-      omega (arith, room c.before.before.before.before.before.before.before),
+      omega (arith, room),
       k.ensures.within,
       k.ensures.short,
       k.ensures.room,
-      row_ready a.t.now a.n c.requires.0 l.t l.r c.loop-r-test.true l.invariant.3 k.last.0 k.result l.from k.ensures.within k.ensures.short l.invariant.1
+      row_ready a.t.now a.n c.requires.0 l.t l.r c.loop-r-test.true l.invariant.3 k.new.x k.result l.from k.ensures.within k.ensures.short l.invariant.1
           (k.ensures.ready a.t.now c.requires.0 l.invariant.3 l.invariant.7),
     )
 
 pub overflow_add-v : goal.overflow_add-v
-overflow_add-v c = omega (arith, room c.before.before.before.before.before.before.before.before.before.before)
+overflow_add-v c = let room : start triangle c.loop-r.r + suc c.loop-r.r ≤ start triangle c.args.n = start_below triangle c.loop-r.r c.args.n c.loop-r-test.true in
+    omega (arith, room)
 
 pub offset_bounds-t-from : goal.offset_bounds-t-from
-offset_bounds-t-from c = omega (arith, room c.before.before.before.before.before.before.before.before.before.before)
+offset_bounds-t-from c = let room : start triangle c.loop-r.r + suc c.loop-r.r ≤ start triangle c.args.n = start_below triangle c.loop-r.r c.args.n c.loop-r-test.true in
+    omega (arith, room)
 
 pub bounds-t-from : goal.bounds-t-from
-bounds-t-from c = omega (arith, room c.before.before.before.before.before.before.before.before.before.before.before)
+bounds-t-from c = let room : start triangle c.loop-r.r + suc c.loop-r.r ≤ start triangle c.args.n = start_below triangle c.loop-r.r c.args.n c.loop-r-test.true in
+    omega (arith, room)
 
 pub chain-d-requires : goal.chain-d-requires
-chain-d-requires c = omega (arith, room c.before.before.before.before.before.before.before.before.before.before.before.before)
+chain-d-requires c = let room : start triangle c.loop-r.r + suc c.loop-r.r ≤ start triangle c.args.n = start_below triangle c.loop-r.r c.args.n c.loop-r-test.true in
+    omega (arith, room)
 
 pub returns-then-refused : goal.returns-then-refused
 unfolding fill
-returns-then-refused c = let a = c.args in
+returns-then-refused c = let tested : c.refused.result ≡ ieee.refused (radicand ieee (lower c.args.t.now) c.loop-r.r) = let a = c.args in
+    let l = c.loop-r in
+    c.refused.ensures ∙ ap ieee.refused (is_radicand a.t.now a.n c.requires.0 l.r c.loop-r-test.true l.t _ (omega arith) l.invariant.3 l.from l.invariant.1 c.band_row.ensures _ c.chain-d.ensures) in
+    let a = c.args in
     let l = c.loop-r in
     record {
-      answer = ap answer_of (sym (refused_at_lem ieee (radicand ieee (lower a.t.now)) l.r a.n c.loop-r-test.true l.invariant.4 (sym (tested c.before) ∙ c.if-refused.true)));
+      answer = ap answer_of (sym (refused_at_lem ieee (radicand ieee (lower a.t.now)) l.r a.n c.loop-r-test.true l.invariant.4 (sym (tested) ∙ c.if-refused.true)));
       left = row_done a.t.now a.n c.requires.0 l.r c.loop-r-test.true l.t _ (omega arith) l.invariant.3 l.from l.invariant.1 c.band_row.ensures;
     }
 
 pub overflow_add-t : goal.overflow_add-t
-overflow_add-t c = omega (arith, room c.before.before.before.before.before.before.before.before.before.before.before.before.before.before.before.before)
+overflow_add-t c = let room : start triangle c.loop-r.r + suc c.loop-r.r ≤ start triangle c.args.n = start_below triangle c.loop-r.r c.args.n c.loop-r-test.true in
+    omega (arith, room)
 
 pub offset_bounds-t-from-in-loop-r : goal.offset_bounds-t-from-in-loop-r
-offset_bounds-t-from-in-loop-r c = omega (arith, room c.before.before.before.before.before.before.before.before.before.before.before.before.before.before.before.before)
+offset_bounds-t-from-in-loop-r c = let room : start triangle c.loop-r.r + suc c.loop-r.r ≤ start triangle c.args.n = start_below triangle c.loop-r.r c.args.n c.loop-r-test.true in
+    omega (arith, room)
 
 pub bounds-t-from-in-loop-r : goal.bounds-t-from-in-loop-r
-bounds-t-from-in-loop-r c = omega (arith, room c.before.before.before.before.before.before.before.before.before.before.before.before.before.before.before.before)
+bounds-t-from-in-loop-r c = let room : start triangle c.loop-r.r + suc c.loop-r.r ≤ start triangle c.args.n = start_below triangle c.loop-r.r c.args.n c.loop-r-test.true in
+    omega (arith, room)
 
 pub overflow_add-from : goal.overflow_add-from
-overflow_add-from c = omega (arith, room c.before.before.before.before.before.before.before.before.before.before.before.before.before.before.before.before)
+overflow_add-from c = let room : start triangle c.loop-r.r + suc c.loop-r.r ≤ start triangle c.args.n = start_below triangle c.loop-r.r c.args.n c.loop-r-test.true in
+    omega (arith, room)
 
 pub loop-r-preserved : goal.loop-r-preserved
 unfolding start
-loop-r-preserved c = let a = c.args in
+loop-r-preserved c = let tested : c.refused.result ≡ ieee.refused (radicand ieee (lower c.args.t.now) c.loop-r.r) = let a = c.args in
+    let l = c.loop-r in
+    c.refused.ensures ∙ ap ieee.refused (is_radicand a.t.now a.n c.requires.0 l.r c.loop-r-test.true l.t _ (omega arith) l.invariant.3 l.from l.invariant.1 c.band_row.ensures _ c.chain-d.ensures) in
+    let a = c.args in
     let l = c.loop-r in
     let k = c.next_band-base in (
       omega arith,
       rw add-one (omega arith),
       simp length-set (omega arith),
       rw add-one (chol_turn a.t.now a.n c.requires.0 l.r c.loop-r-test.true l.t _ (omega arith) l.invariant.3 l.from l.invariant.1 c.band_row.ensures _ c.chain-d.ensures _ c.sqrt.ensures),
-      rw add-one (goes_on ieee (radicand ieee (lower a.t.now)) l.r l.invariant.4 (sym (tested c.before.before) ∙ c.if-refused.false)),
+      rw add-one (goes_on ieee (radicand ieee (lower a.t.now)) l.r l.invariant.4 (sym (tested) ∙ c.if-refused.false)),
       omega (arith, k.ensures.within),
       omega arith,
       k.ensures.ready a.t.now c.requires.0 l.invariant.3 l.invariant.7,

@@ -24,5 +24,5 @@ returns c = let a = c.args in
       within = omega arith;
       short = λ h. omega arith;
       room = omega arith;
-      ready = λ w h q g. band_ready w a.n h a.t.now a.r (omega arith) q c.gather.new.0 c.solve_four.new.0 c.band_rows-rows.result c.band_rows-rows.ensures.2 c.gather.ensures c.solve_four.ensures;
+      ready = λ w h q g. band_ready w a.n h a.t.now a.r (omega arith) q c.gather.new.x c.solve_four.new.x c.band_rows-rows.result c.band_rows-rows.ensures.2 c.gather.ensures c.solve_four.ensures;
     }

@@ -8,25 +8,23 @@ use Rattle.storage.specs.Runs.{start, triangle}
 use Rattle.storage.proofs.Starts.{start_below}
 use Rattle.re_lower.specs.Band.{BandGathered}
 use Rattle.re_lower.proofs.Band.{band_turn}
-use Rattle.re_lower.proofs.four_rows.gather.Goals.{In-loop-i}
 use Rattle.re_lower.proofs.four_rows.gather.Goals as goal
-
--- row base + i ends inside the list
-room : (c : In-loop-i) → start triangle (c.args.base + c.loop-i.i) + suc (c.args.base + c.loop-i.i) ≤ start triangle (c.args.base + c.args.rows)
-room c = start_below triangle (c.args.base + c.loop-i.i) (c.args.base + c.args.rows) (omega arith)
 
 pub loop-i-init : goal.loop-i-init
 loop-i-init c = let a = c.args in
     (omega arith, c.requires.1 ∙ ap (start triangle) (sym (add-zero a.base)), refl, (λ i y h k. absurd (omega arith)))
 
 pub gather_row-requires : goal.gather_row-requires
-gather_row-requires c = omega (arith, room c.before)
+gather_row-requires c = let room : start triangle (c.args.base + c.loop-i.i) + suc (c.args.base + c.loop-i.i) ≤ start triangle (c.args.base + c.args.rows) = start_below triangle (c.args.base + c.loop-i.i) (c.args.base + c.args.rows) (omega arith) in
+    omega (arith, room)
 
 pub overflow_add-at : goal.overflow_add-at
-overflow_add-at c = omega (arith, room c.before.before.before.before)
+overflow_add-at c = let room : start triangle (c.args.base + c.loop-i.i) + suc (c.args.base + c.loop-i.i) ≤ start triangle (c.args.base + c.args.rows) = start_below triangle (c.args.base + c.loop-i.i) (c.args.base + c.args.rows) (omega arith) in
+    omega (arith, room)
 
 pub overflow_add-at-in-loop-i : goal.overflow_add-at-in-loop-i
-overflow_add-at-in-loop-i c = omega (arith, room c.before.before.before.before)
+overflow_add-at-in-loop-i c = let room : start triangle (c.args.base + c.loop-i.i) + suc (c.args.base + c.loop-i.i) ≤ start triangle (c.args.base + c.args.rows) = start_below triangle (c.args.base + c.loop-i.i) (c.args.base + c.args.rows) (omega arith) in
+    omega (arith, room)
 
 pub loop-i-preserved : goal.loop-i-preserved
 unfolding start

@@ -7,29 +7,28 @@ use Rattle.storage.specs.Runs.{tab}
 use Rattle.storage.proofs.Parts.{store_nil}
 use Rattle.re_lower.specs.Band.{lane_stored}
 use Rattle.re_lower.proofs.Band.{put_turn}
-use Rattle.re_lower.proofs.four_rows.put_row.Goals.{In-loop-c}
 use Rattle.re_lower.proofs.four_rows.put_row.Goals as goal
-
--- where a cell is left, i is a row of the band
-inside : (c : In-loop-c) → c.args.i < 4
-inside c = c.requires.0 (omega arith)
 
 pub loop-c-init : goal.loop-c-init
 unfolding tab
 loop-c-init c = (omega arith, refl, sym (store_nil c.args.from c.args.t.now))
 
 pub overflow_add-t : goal.overflow_add-t
-overflow_add-t c = omega (arith, inside c)
+overflow_add-t c = let inside : c.args.i < 4 = c.requires.0 (omega arith) in
+    omega (arith, inside)
 
 pub offset_bounds-x-c : goal.offset_bounds-x-c
-offset_bounds-x-c c = omega (arith, inside c)
+offset_bounds-x-c c = let inside : c.args.i < 4 = c.requires.0 (omega arith) in
+    omega (arith, inside)
 
 pub bounds-x-c : goal.bounds-x-c
-bounds-x-c c = omega (arith, inside c.before)
+bounds-x-c c = let inside : c.args.i < 4 = c.requires.0 (omega arith) in
+    omega (arith, inside)
 
 pub loop-c-preserved : goal.loop-c-preserved
-loop-c-preserved c = let a = c.args in let l = c.loop-c in
-    (omega arith, simp length-set l.invariant.1, rw add-one (put_turn a.t.now a.x.now l.t a.from a.i l.c _ (omega arith) refl (omega (arith, inside c.before)) l.invariant.2))
+loop-c-preserved c = let inside : c.args.i < 4 = c.requires.0 (omega arith) in
+    let a = c.args in let l = c.loop-c in
+    (omega arith, simp length-set l.invariant.1, rw add-one (put_turn a.t.now a.x.now l.t a.from a.i l.c _ (omega arith) refl (omega (arith, inside)) l.invariant.2))
 
 pub returns : goal.returns
 returns c = let a = c.args in let e : c.loop-c.c ≡ a.n = omega arith in

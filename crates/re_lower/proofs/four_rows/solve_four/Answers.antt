@@ -25,7 +25,7 @@ pub loop-c-preserved : goal.loop-c-preserved
 unfolding start
 loop-c-preserved c = let a = c.args in
     let l = c.loop-c in
-    let e : c.four_cells.new.0 ≡ four_done l.x a.l.now l.from l.c = c.four_cells.ensures in
+    let e : c.four_cells.new.x ≡ four_done l.x a.l.now l.from l.c = c.four_cells.ensures in
     let f : 4 * l.c + 4 ≤ length l.x = omega arith in (
       omega arith,
       rw add-one (omega arith),

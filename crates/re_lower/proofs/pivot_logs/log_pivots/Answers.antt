@@ -10,38 +10,38 @@ use Rattle.rules.specs.Cholesky.{at}
 use Rattle.rules.specs.Arithmetic.{ieee}
 use Rattle.re_lower.specs.Lower.{lower, logs_of_triangle}
 use Rattle.re_lower.proofs.Turns.{log_turn}
-use Rattle.re_lower.proofs.pivot_logs.log_pivots.Goals.{In-loop-r}
 use Rattle.re_lower.proofs.pivot_logs.log_pivots.Goals as goal
-
--- row r ends inside the list
-room : (c : In-loop-r) → start triangle c.loop-r.r + suc c.loop-r.r ≤ start triangle c.args.n
-room c = start_below triangle c.loop-r.r c.args.n c.loop-r-test.true
 
 pub loop-r-init : goal.loop-r-init
 unfolding start logs_from
 loop-r-init c = (omega arith, refl, refl)
 
 pub overflow_add-from : goal.overflow_add-from
-overflow_add-from c = omega (arith, room c)
+overflow_add-from c = let room : start triangle c.loop-r.r + suc c.loop-r.r ≤ start triangle c.args.n = start_below triangle c.loop-r.r c.args.n c.loop-r-test.true in
+    omega (arith, room)
 
 pub offset_bounds-t-from : goal.offset_bounds-t-from
-offset_bounds-t-from c = omega (arith, room c)
+offset_bounds-t-from c = let room : start triangle c.loop-r.r + suc c.loop-r.r ≤ start triangle c.args.n = start_below triangle c.loop-r.r c.args.n c.loop-r-test.true in
+    omega (arith, room)
 
 pub bounds-t-from : goal.bounds-t-from
-bounds-t-from c = omega (arith, room c.before)
+bounds-t-from c = let room : start triangle c.loop-r.r + suc c.loop-r.r ≤ start triangle c.args.n = start_below triangle c.loop-r.r c.args.n c.loop-r-test.true in
+    omega (arith, room)
 
 pub overflow_add-from-in-loop-r : goal.overflow_add-from-in-loop-r
-overflow_add-from-in-loop-r c = omega (arith, room c.before.before)
+overflow_add-from-in-loop-r c = let room : start triangle c.loop-r.r + suc c.loop-r.r ≤ start triangle c.args.n = start_below triangle c.loop-r.r c.args.n c.loop-r-test.true in
+    omega (arith, room)
 
 pub loop-r-preserved : goal.loop-r-preserved
 unfolding start
-loop-r-preserved c = let a = c.args in let l = c.loop-r in (
-  omega arith,
-  rw add-one (omega arith),
-  rw add-one
-      (log_turn a.s l.v _ a.t.now _ l.r (λ r. lower a.t.now r r) (omega (arith, room c.before.before))
-      (ap (λ (i : ℕ). at ieee a.t.now (i + l.r)) l.invariant.1) l.invariant.2 c.ln-v.ensures),
-)
+loop-r-preserved c = let room : start triangle c.loop-r.r + suc c.loop-r.r ≤ start triangle c.args.n = start_below triangle c.loop-r.r c.args.n c.loop-r-test.true in
+    let a = c.args in let l = c.loop-r in (
+      omega arith,
+      rw add-one (omega arith),
+      rw add-one
+          (log_turn a.s l.v _ a.t.now _ l.r (λ r. lower a.t.now r r) (omega (arith, room))
+          (ap (λ (i : ℕ). at ieee a.t.now (i + l.r)) l.invariant.1) l.invariant.2 c.ln-v.ensures),
+    )
 
 pub returns : goal.returns
 returns c = let e : c.loop-r.r ≡ c.args.n = omega arith in cc

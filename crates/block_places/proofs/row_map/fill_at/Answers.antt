@@ -1,0 +1,25 @@
+use Prim.Native.Nat.{ℕ, ◌≤◌, ◌<◌, ◌+◌, ◌*◌, ◌-◌}
+use mathlib.Core.Path.{◌≡◌, refl}
+use native.Mathlib.Omega.{arith}
+use borrow.Author.Rules.{rules}
+use lib.ListN.{length, get_or, length-set}
+use Rattle.layout.specs.Shapes.{loaded_at}
+use Rattle.heading_format.proofs.Valid.{is_valid}
+use Rattle.block_places.proofs.sheet_rows.Rows.{filled_more}
+use Rattle.block_places.proofs.row_map.fill_at.Goals as goal
+
+pub loop-t-init : goal.loop-t-init
+loop-t-init c = (omega arith, c.requires.1, λ s h. absurd (omega arith))
+
+pub start_at-requires : goal.start_at-requires
+start_at-requires c = c.requires.0
+
+pub loop-t-preserved : goal.loop-t-preserved
+loop-t-preserved c = let a = c.args in let l = c.loop-t in (
+  omega arith,
+  simp length-set l.invariant.1,
+  filled_more (λ s v. (i j : ℕ) → s ≡ i * 9 + j → j ≤ i → i ≤ a.layout.k → v ≡ loaded_at a.layout i j) l.at l.t c.start_at.result (omega arith) l.invariant.2 c.start_at.ensures,
+)
+
+pub returns : goal.returns
+returns c = λ i j h g. c.loop-t.invariant.2 (i * 9 + j) (omega (arith, (is_valid c.args.layout c.requires.0).blocks.1)) i j refl h g

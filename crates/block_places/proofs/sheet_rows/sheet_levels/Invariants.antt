@@ -1,0 +1,15 @@
+-- `block_places::sheet_rows::sheet_levels`: among the first s sorted blocks.
+use Prim.Native.Nat.{ℕ, ◌≤◌, ◌-◌}
+use mathlib.Core.Path.{◌≡◌, refl, ap, ◌∙◌}
+use native.Mathlib.Omega.{arith}
+use borrow.Author.Rules.{rules}
+use Rattle.heading_format.specs.Heading.{sheet_levels}
+use Rattle.heading_format.proofs.Valid.{is_valid}
+use Rattle.block_places.proofs.sheet_rows.Rows.{sheet_none, sheet_more}
+use Rattle.block_places.proofs.sheet_rows.sheet_levels.Given as goal
+
+abbrev pub invariant-loop-s : goal.invariant-loop-s
+invariant-loop-s l = (l.k ≡ l.layout.k) × (l.k ≤ 8) × (l.s ≤ l.k) × (l.m ≡ sheet_levels l.layout l.s l.i)
+
+abbrev pub decreases-loop-s : goal.decreases-loop-s
+decreases-loop-s l = l.k - l.s

@@ -1,0 +1,14 @@
+-- `block_runs::run_copies::put_part`: the first i doubles are put.
+use borrow.Author.Rules.{rules}
+use mathlib.Core.Path.{refl}
+use Prim.Native.Nat.{◌-◌}
+use native.Mathlib.Omega.{arith}
+use Rattle.storage.proofs.Filling.{Filling, filling_none, filling_more, filling_done}
+use Rattle.block_runs.specs.axpy.Axpy.{at}
+use Rattle.block_runs.proofs.run_copies.put_part.Given as goal
+
+abbrev pub invariant-loop-i : goal.invariant-loop-i
+invariant-loop-i l = Filling (at l.acc) l.to l.n l.initial.t l.t l.i
+
+abbrev pub decreases-loop-i : goal.decreases-loop-i
+decreases-loop-i l = l.n - l.i

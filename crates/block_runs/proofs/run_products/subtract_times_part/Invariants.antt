@@ -1,0 +1,16 @@
+-- `block_runs::run_products::subtract_times_part`: the first i doubles are done.
+use borrow.Author.Rules.{rules}
+use mathlib.Core.Path.{refl}
+use Prim.Native.Nat.{◌-◌, ◌+◌}
+use native.Mathlib.Omega.{arith}
+use lib.Ieee.{Float, nan}
+use Rattle.storage.proofs.Filling.{Filling, filling_none, filling_next, filling_done}
+use Rattle.rules.specs.Arithmetic.{ieee}
+use Rattle.block_runs.specs.axpy.Axpy.{at}
+use Rattle.block_runs.proofs.run_products.subtract_times_part.Given as goal
+
+abbrev pub invariant-loop-i : goal.invariant-loop-i
+invariant-loop-i l = Filling (λ x. ieee.minus (at l.initial.t (l.to + x)) (ieee.times (at l.acc x) l.f)) l.to l.n l.initial.t l.t l.i
+
+abbrev pub decreases-loop-i : goal.decreases-loop-i
+decreases-loop-i l = l.n - l.i
