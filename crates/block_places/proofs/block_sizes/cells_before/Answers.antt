@@ -9,6 +9,7 @@ use Rattle.block_places.proofs.block_sizes.Sizes.{before_small}
 use Rattle.block_places.proofs.block_sizes.Before.{before_factor, before_row}
 use borrow.Author.Rules.{rules}
 use Rattle.block_places.proofs.block_sizes.cells_before.Goals as goal
+use Rattle.block_places.proofs.block_sizes.cells_before.Goals.{then-i-j+else-i-layout, else-i-j}
 
 pub returns-then-i-layout : goal.returns-then-i-layout
 returns-then-i-layout c = let a = c.args in let e : a.i ≡ a.j = c.if-i-j.true in
@@ -33,7 +34,8 @@ overflow_add-result-2 c = let a = c.args in omega (
 pub returns : goal.returns
 returns c = let a = c.args in omega (
   arith,
-  before_row (sizes_of a.layout a.loaded) a.layout.k a.i a.j c.requires.1 c.requires.2 (⊎_elim (λ t e l. omega arith) (λ t e l. absurd (t.left e)) c.if-i-j.branch),
+  before_row (sizes_of a.layout a.loaded) a.layout.k a.i a.j c.requires.1 c.requires.2
+      (elim c.if-i-j.branch [ then-i-j+else-i-layout w ↦ (λ e l. omega arith) | else-i-j w ↦ (λ e l. absurd (w.if-i-j.false e)) ]),
   c.factor_cells-2.ensures,
   c.pair_cells.ensures,
   c.row_cells.ensures,

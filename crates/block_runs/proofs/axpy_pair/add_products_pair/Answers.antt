@@ -41,7 +41,7 @@ pub returns : goal.returns
 returns c = let a = c.args in
     let s = c.add_fours_pair-x in
     let e =
-    reached a.doubles.now a.a a.rows a.v.now a.b a.step a.inner s.result (a.a + s.result * a.rows) (a.b + s.result * a.step) s.ensures.upper_bound c.requires.4 c.requires.5 refl refl in (
-      rest_added e a.acc.now _ _ a.n a.r c.requires.1 c.requires.0 (omega (arith, c.requires.3)) s.ensures.acc_after c.add_products.ensures,
-      rest_added e a.acc2.now _ _ a.n (a.r + 1) c.requires.2 c.requires.0 c.requires.3 s.ensures.acc2_after c.add_products-2.ensures,
-    )
+    reached a.doubles.now a.a a.rows a.v.now a.b a.step a.inner s.result (a.a + s.result * a.rows) (a.b + s.result * a.step) s.ensures.upper_bound c.requires.4 c.requires.5 refl refl in record {
+      acc_after = rest_added e a.acc.now _ _ a.n a.r c.requires.1 c.requires.0 (omega (arith, c.requires.3)) s.ensures.acc_after c.add_products.ensures;
+      acc2_after = rest_added e a.acc2.now _ _ a.n (a.r + 1) c.requires.2 c.requires.0 c.requires.3 s.ensures.acc2_after c.add_products-2.ensures;
+    }

@@ -1,0 +1,17 @@
+-- `cross_matvec::matvec_t::matvec_t_sub`: the first c entries are written, p is where column c starts.
+use borrow.Author.Rules.{rules}
+use mathlib.Core.Path.{◌≡◌, refl, ◌∙◌}
+use Prim.Native.Nat.{◌-◌, ◌+◌}
+use native.Mathlib.Omega.{arith}
+use Rattle.storage.proofs.Filling.{Filling, filling_none, filling_done}
+use Rattle.storage.specs.Runs.{start, dense}
+use Rattle.block_runs.proofs.axpy.Sums.{left_fits, next_start}
+use Rattle.cross_matvec.specs.Products.{minus_column}
+use Rattle.cross_matvec.proofs.Dense.{columns_more, columns_done}
+use Rattle.cross_matvec.proofs.matvec_t.matvec_t_sub.Given as goal
+
+abbrev pub invariant-loop-c : goal.invariant-loop-c
+invariant-loop-c l = (l.p ≡ l.a.at + start (dense l.a.rows) l.c) × Filling (minus_column l.to l.a.at l.a.rows l.z l.doubles l.initial.v) l.to l.a.cols l.initial.v l.v l.c
+
+abbrev pub decreases-loop-c : goal.decreases-loop-c
+decreases-loop-c l = l.a.cols - l.c

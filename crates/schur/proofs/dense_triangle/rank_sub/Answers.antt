@@ -1,0 +1,26 @@
+use mathlib.Core.Path.{◌≡◌, refl}
+use Prim.Native.Nat.{◌-◌}
+use native.Mathlib.Omega.{arith}
+use lib.ListN.{length}
+use Rattle.storage.specs.Placed.{as_triangle, as_columns}
+use Rattle.schur.specs.Schur.{subtract_squares}
+use Rattle.block_runs.proofs.blocks.Going.{Going, going_none, going_room, going_all, turn}
+use Rattle.schur.proofs.Turns.{subtract_sum, sums_swapped}
+use borrow.Author.Rules.{rules}
+use Rattle.schur.proofs.dense_triangle.rank_sub.Goals as goal
+
+pub loop-r-init : goal.loop-r-init
+loop-r-init c = (refl, going_none (as_triangle c.args.t) _ c.args.doubles.now c.requires.1.target)
+
+pub subtract_run-requires : goal.subtract_run-requires
+subtract_run-requires c = omega (arith, going_room c.loop-r.invariant.1 (omega arith))
+
+pub overflow_add-to : goal.overflow_add-to
+overflow_add-to c = omega (arith, going_room c.loop-r.invariant.1 (omega arith))
+
+pub loop-r-preserved : goal.loop-r-preserved
+loop-r-preserved c = let a = c.args.a in let P = c.requires.1 in
+    (omega arith, turn c.loop-r.invariant.1 (omega arith) (subtract_sum a.cols) (as_columns a) (as_columns a) _ P.off_left P.off_right (λ i. sums_swapped a.cols _ _ _) (omega arith) refl c.subtract_run.ensures)
+
+pub returns : goal.returns
+returns c = going_all c.loop-r.invariant.1 (omega arith)

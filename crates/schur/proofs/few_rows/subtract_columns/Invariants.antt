@@ -1,0 +1,17 @@
+-- `schur::few_rows::subtract_columns`: the first c columns are written.
+use mathlib.Core.Path.{refl}
+use Prim.Native.Nat.{◌-◌}
+use native.Mathlib.Omega.{arith}
+use borrow.Author.Rules.{rules}
+use Rattle.storage.specs.Runs.{dense}
+use Rattle.storage.specs.Shape.{columns, size_of}
+use Rattle.block_runs.proofs.blocks.Runs.{Writing, writing_none, writing_room, writing_all}
+use Rattle.schur.specs.few_rows.Few.{subtract_sums}
+use Rattle.schur.proofs.few_rows.Laws.{column_subtracted}
+use Rattle.schur.proofs.few_rows.subtract_columns.Given as goal
+
+abbrev pub invariant-loop-c : goal.invariant-loop-c
+invariant-loop-c l = Writing 0 (size_of (columns l.rows l.cols)) (dense l.rows) l.cols (subtract_sums l.rows l.cols l.sums l.initial.t) l.initial.t l.c l.to l.t
+
+abbrev pub decreases-loop-c : goal.decreases-loop-c
+decreases-loop-c l = l.cols - l.c

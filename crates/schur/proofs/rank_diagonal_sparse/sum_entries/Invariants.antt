@@ -1,0 +1,18 @@
+-- `schur::rank_diagonal_sparse::sum_entries`: the sums over the first x columns.
+use borrow.Author.Rules.{rules}
+use Prim.Native.Nat.{ℕ, ◌≤◌, ◌-◌}
+use mathlib.Core.Path.{◌≡◌, refl}
+use lib.ListN.{length}
+use native.Mathlib.Omega.{arith}
+use native.Mathlib.Numerals.{add-one}
+use Rattle.storage.specs.Placed.{as_entries}
+use Rattle.block_runs.specs.blocks.Blocks.{row_from}
+use Rattle.schur.specs.rank_diagonal.Rows.{Summed}
+use Rattle.schur.proofs.rank_diagonal.Squares.{summed_none, summed_more, entry_added}
+use Rattle.schur.proofs.rank_diagonal_sparse.sum_entries.Given as goal
+
+abbrev pub invariant-loop-x : goal.invariant-loop-x
+invariant-loop-x l = (l.x ≤ l.a.cols) × (length l.sums ≡ length l.initial.sums) × Summed (as_entries (row_from l.heading l.first) l.a) l.src l.doubles l.from l.m l.x l.sums
+
+abbrev pub decreases-loop-x : goal.decreases-loop-x
+decreases-loop-x l = l.a.cols - l.x

@@ -1,0 +1,15 @@
+-- `schur::sparse_schur::subtract_sparse`: the first x entries are subtracted.
+use mathlib.Core.Path.{◌≡◌, refl}
+use Prim.Native.Nat.{◌-◌}
+use native.Mathlib.Omega.{arith}
+use lib.ListN.{length}
+use Rattle.block_runs.specs.blocks.Blocks.{row_from}
+use Rattle.schur.proofs.sparse_schur.Laws.{Subtracting, sparse_none, sparse_all, source_room, target_room, sparse_more}
+use borrow.Author.Rules.{rules}
+use Rattle.schur.proofs.sparse_schur.subtract_sparse.Given as goal
+
+abbrev pub invariant-loop-x : goal.invariant-loop-x
+invariant-loop-x l = (length l.acc ≡ 316) × Subtracting (row_from l.heading l.first) l.t l.a l.v l.initial.doubles l.x l.ax l.doubles
+
+abbrev pub decreases-loop-x : goal.decreases-loop-x
+decreases-loop-x l = l.a.cols - l.x
