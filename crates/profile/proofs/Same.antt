@@ -155,9 +155,12 @@ module _ {h : List ℕ} {w : List Float} {h' : List ℕ} {w' : List Float} (s : 
   inside_same true e i zero l f z v = refl
   inside_same true e i (suc x) l f z v =
       let first : i ≡ 0 = omega (arith, s.two e) in
-      rw (first, first_factor (omega arith))
+      subst
+      (λ (k : ℕ). backward_in (factor_shape_of h' w' k) f (subtract_later h w k z v (suc x)) ≡ backward_in (factor_shape_of h' w' k) f (subtract_later h' w' k z v (suc x)))
+      (sym first)
+      (rw (first_factor (omega arith))
       (tab_ext (levels y 0) _ _
-      (λ c m. ap (λ (t : Float). ieee.over t (cell_of (diagonal (levels y 0)) f c c)) (later_same 0 (suc x) (omega arith) z v c (λ q. m))))
+      (λ c m. ap (λ (t : Float). ieee.over t (cell_of (diagonal (levels y 0)) f c c)) (later_same 0 (suc x) (omega arith) z v c (λ q. m)))))
 
   -- and the last n blocks of the solution
   backwards_same : (z : List (List Float)) (n : ℕ) → n ≤ (layout_of h').k → backward_solved h w z n ≡ backward_solved h' w' z n

@@ -26,7 +26,7 @@ pub bounds-v-to-8 : goal.bounds-v-to-8
 bounds-v-to-8 c = simp length-set (omega arith)
 
 pub returns : goal.returns
-returns c = let a = c.args in
+returns c f e e1 e2 e3 = let a = c.args in
     let t = entry_subtracted f (filling_none _ a.to 4 a.v.now (omega arith)) (omega arith) a.to (omega arith) a.t.s e in
     let t1 = entry_subtracted f t (omega arith) (a.to + 1) (omega arith) a.t.s1 e1 in
     let t2 = entry_subtracted f t1 (omega arith) (a.to + 2) (omega arith) a.t.s2 e2 in

@@ -20,6 +20,6 @@ subtract_sums-requires c = omega (arith, start_single c.args.t.rows)
 
 pub returns : goal.returns
 returns c = let a = c.args in let P = c.requires.1 in let sums = c.sum_columns in
-    rows_once a.t (as_columns a.a) a.src a.doubles.now P.target P.off_left P.off_source sums.last.0
-    (subst (λ (n : ℕ). Summed (as_columns a.a) a.src a.doubles.now 0 n a.a.cols sums.last.0) P.rows sums.ensures)
-    c.subtract_sums.new.0 c.subtract_sums.ensures
+    rows_once a.t (as_columns a.a) a.src a.doubles.now P.target P.off_left P.off_source sums.new.sums
+    (subst (λ (n : ℕ). Summed (as_columns a.a) a.src a.doubles.now 0 n a.a.cols sums.new.sums) P.rows sums.ensures)
+    c.subtract_sums.new.doubles c.subtract_sums.ensures

@@ -36,7 +36,7 @@ loop-x-preserved c = let a = c.args in
       rw add-one (omega arith),
       omega arith,
       rw add-one
-          (summed_more (as_columns a.a) a.src a.doubles.now 0 a.a.rows l.x l.sums t.last.0 l.invariant.4 t.ensures),
+          (summed_more (as_columns a.a) a.src a.doubles.now 0 a.a.rows l.x l.sums t.new.sums l.invariant.4 t.ensures),
     )
 
 pub returns : goal.returns

@@ -16,4 +16,4 @@ sum_entries-requires c = record { m_in_bounds = search rules; zeros = λ i h. ge
 pub returns : goal.returns
 returns c = let a = c.args in
     let sums = c.sum_entries in c.subtract.ensures
-    ∙ each_row a.t (as_entries (row_from a.heading.now a.first) a.a) a.src a.from a.m a.doubles.now sums.last.0 sums.ensures
+    ∙ each_row a.t (as_entries (row_from a.heading.now a.first) a.a) a.src a.from a.m a.doubles.now sums.new.sums sums.ensures

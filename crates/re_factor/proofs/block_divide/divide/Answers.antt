@@ -1,0 +1,18 @@
+use borrow.Author.Rules.{rules}
+use Prim.Native.Nat.{◌+◌, ◌-◌, ◌≤◌}
+use native.Mathlib.Omega.{arith}
+use lib.ListN.{length}
+use Rattle.storage.proofs.Starts.{start_single}
+use Rattle.storage.proofs.Filling.{Filling, filling_none, filling_done}
+use Rattle.re_factor.proofs.Turns.{quotient, divide_turn}
+use Rattle.re_factor.proofs.block_divide.divide.Goals as goal
+
+pub loop-i-init : goal.loop-i-init
+loop-i-init c = let a = c.args in (filling_none _ a.z a.b.rows a.v.now (omega arith), omega (arith, start_single a.b.rows))
+
+pub loop-i-preserved : goal.loop-i-preserved
+loop-i-preserved c = let i = c.loop-i.invariant in
+    (divide_turn c.args.b c.args.doubles.now c.requires.1 i.0 (omega arith), i.1)
+
+pub returns : goal.returns
+returns c = filling_done c.loop-i.invariant.0 (omega arith)

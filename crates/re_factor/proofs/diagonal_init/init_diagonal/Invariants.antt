@@ -1,0 +1,19 @@
+-- `re_factor::diagonal_init::init_diagonal`: the first r pivots are written.
+use borrow.Author.Rules.{rules}
+use mathlib.Core.Path.{◌≡◌, refl}
+use Prim.Native.Nat.{◌≤◌, ◌-◌, ◌+◌}
+use native.Mathlib.Omega.{arith}
+use native.Mathlib.Numerals.{add-one}
+use lib.ListN.{length, length-set}
+use Rattle.storage.specs.Placed.{block_of, as_diagonal}
+use Rattle.storage.proofs.Starts.{start_single}
+use Rattle.block_runs.proofs.blocks.Laws.{has_diagonal}
+use Rattle.re_factor.specs.Factor.{loaded_of}
+use Rattle.re_factor.proofs.Turns.{Begun, begun_none, begun_pivot, begun_all}
+use Rattle.re_factor.proofs.diagonal_init.init_diagonal.Given as goal
+
+abbrev pub invariant-loop-r : goal.invariant-loop-r
+invariant-loop-r l = (l.r ≤ l.b.rows) × (length l.doubles ≡ length l.initial.doubles) × (l.b.at + l.b.rows ≤ length l.initial.doubles) × (l.src + l.b.rows ≤ length l.initial.doubles) × Begun (as_diagonal l.b) (loaded_of l.b l.src) l.t l.initial.doubles l.r 0 l.doubles
+
+abbrev pub decreases-loop-r : goal.decreases-loop-r
+decreases-loop-r l = l.b.rows - l.r

@@ -1,0 +1,16 @@
+use borrow.Author.Rules.{rules}
+use mathlib.Core.Path.{refl}
+use Prim.Native.Nat.{◌-◌}
+use native.Mathlib.Omega.{arith}
+use Rattle.storage.proofs.Filling.{Filling, filling_none, filling_more, filling_done}
+use Rattle.rules.specs.Arithmetic.{ieee}
+use Rattle.re_factor.proofs.triangle_init.clear.Goals as goal
+
+pub loop-i-init : goal.loop-i-init
+loop-i-init c = let a = c.args in filling_none _ a.at a.n a.doubles.now (omega arith)
+
+pub loop-i-preserved : goal.loop-i-preserved
+loop-i-preserved c = filling_more c.loop-i.invariant (omega arith) refl
+
+pub returns : goal.returns
+returns c = filling_done c.loop-i.invariant (omega arith)

@@ -1,0 +1,52 @@
+use borrow.Author.Rules.{rules}
+use mathlib.Core.Path.{◌≡◌, refl}
+use Prim.Native.Nat.{suc, ◌≤◌, ◌-◌, ◌+◌}
+use native.Mathlib.Omega.{arith}
+use native.Mathlib.Numerals.{add-one}
+use lib.ListN.{length, length-set}
+use Rattle.storage.specs.Runs.{start, triangle}
+use Rattle.storage.specs.Placed.{block_of, as_triangle}
+use Rattle.storage.proofs.Starts.{start_below, start_single}
+use Rattle.block_runs.proofs.blocks.Laws.{has_packed}
+use Rattle.re_factor.specs.Factor.{loaded_of}
+use Rattle.re_factor.proofs.Turns.{Begun, begun_none, begun_cells, begun_pivot, begun_all, off_diagonal_zero}
+use Rattle.re_factor.proofs.triangle_init.init.Goals as goal
+
+pub loop-r-init : goal.loop-r-init
+unfolding start
+loop-r-init c = let a = c.args in
+    (omega arith, omega arith, refl, omega (arith, start_single a.b.rows), begun_none (as_triangle a.b) (loaded_of a.b a.src) a.t a.doubles.now c.requires.0)
+
+pub clear-requires : goal.clear-requires
+clear-requires c = let room : start triangle c.loop-r.r + suc c.loop-r.r ≤ start triangle c.args.b.rows = start_below triangle c.loop-r.r c.args.b.rows c.loop-r-test.true in
+    omega (arith, room)
+
+pub overflow_add-doubles-in-loop-r : goal.overflow_add-doubles-in-loop-r
+overflow_add-doubles-in-loop-r c = let room : start triangle c.loop-r.r + suc c.loop-r.r ≤ start triangle c.args.b.rows = start_below triangle c.loop-r.r c.args.b.rows c.loop-r-test.true in
+    omega (arith, room)
+
+pub offset_bounds-doubles-at : goal.offset_bounds-doubles-at
+offset_bounds-doubles-at c = let room : start triangle c.loop-r.r + suc c.loop-r.r ≤ start triangle c.args.b.rows = start_below triangle c.loop-r.r c.args.b.rows c.loop-r-test.true in
+    omega (arith, room)
+
+pub bounds-doubles-at : goal.bounds-doubles-at
+bounds-doubles-at c = let room : start triangle c.loop-r.r + suc c.loop-r.r ≤ start triangle c.args.b.rows = start_below triangle c.loop-r.r c.args.b.rows c.loop-r-test.true in
+    omega (arith, room)
+
+pub overflow_add-at : goal.overflow_add-at
+overflow_add-at c = let room : start triangle c.loop-r.r + suc c.loop-r.r ≤ start triangle c.args.b.rows = start_below triangle c.loop-r.r c.args.b.rows c.loop-r-test.true in
+    omega (arith, room)
+
+pub loop-r-preserved : goal.loop-r-preserved
+unfolding start
+loop-r-preserved c = let a = c.args in
+    let l = c.loop-r in let b = c.clear in
+    let z = begun_cells (as_triangle a.b) (loaded_of a.b a.src) a.t a.doubles.now c.requires.0 l.r l.r (omega arith) (omega arith) l.doubles l.invariant.4
+    l.at (omega arith) _ (off_diagonal_zero (loaded_of a.b a.src) a.t a.doubles.now l.r) b.new.doubles b.ensures in
+    let t = begun_pivot (as_triangle a.b) (block_of a.src a.b.rows a.b.cols) a.t a.doubles.now c.requires.0 c.requires.1 c.requires.2 l.r (omega arith)
+    (has_packed a.b.rows l.r l.r (omega arith) (omega arith)) refl b.new.doubles z (l.at + l.r) (omega arith) in
+    (omega arith, rw add-one (omega arith), simp length-set (omega arith), l.invariant.3, rw add-one t)
+
+pub returns : goal.returns
+returns c = let a = c.args in let l = c.loop-r in
+    begun_all (as_triangle a.b) (loaded_of a.b a.src) a.t a.doubles.now c.requires.0 l.r (omega arith) l.doubles l.invariant.4

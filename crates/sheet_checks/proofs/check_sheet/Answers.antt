@@ -1,0 +1,34 @@
+-- `sheet_checks::check_sheet`: each answer, from the tests before it.
+use native.Mathlib.Omega.{arith}
+use Rattle.sheet_checks.proofs.Order.{holds, five, six, small, covers, seven, eight, nine, none}
+use Rattle.sheet_checks.proofs.check_sheet.Goals as goal
+
+pub returns-then-starts-eq0 : goal.returns-then-starts-eq0
+returns-then-starts-eq0 c = five c.args.bytes.now c.requires (omega arith)
+
+pub returns-then-starts-eq0-2 : goal.returns-then-starts-eq0-2
+returns-then-starts-eq0-2 c = six c.args.bytes.now c.requires (λ q. omega arith) (omega arith)
+
+pub has_slope-slope-requires : goal.has_slope-slope-requires
+has_slope-slope-requires c = holds c.args.bytes.now c.requires
+
+pub levels-m-requires : goal.levels-m-requires
+levels-m-requires c = holds c.args.bytes.now c.requires
+
+pub total-requires : goal.total-requires
+total-requires c = small c.args.bytes.now c.requires c.levels-m.ensures
+
+pub returns-then-slope : goal.returns-then-slope
+returns-then-slope c = seven c.args.bytes.now c.requires (λ q. omega arith) (λ q. omega arith) c.has_slope-slope.ensures c.if-slope.true
+
+pub returns-then-uncovered : goal.returns-then-uncovered
+returns-then-uncovered c = eight c.args.bytes.now c.requires (λ q. omega arith) (λ q. omega arith) c.has_slope-slope.ensures c.if-slope.false c.levels-m.ensures c.total.ensures c.if-uncovered.true
+
+pub faulty_line-faulty-requires : goal.faulty_line-faulty-requires
+faulty_line-faulty-requires c = covers c.args.bytes.now c.requires c.levels-m.ensures c.total.ensures c.if-uncovered.false
+
+pub returns-then-faulty-gt0 : goal.returns-then-faulty-gt0
+returns-then-faulty-gt0 c = nine c.args.bytes.now c.requires (λ q. omega arith) (λ q. omega arith) c.has_slope-slope.ensures c.if-slope.false c.levels-m.ensures c.total.ensures c.if-uncovered.false c.faulty_line-faulty.ensures (omega arith)
+
+pub returns : goal.returns
+returns c = none c.args.bytes.now c.requires (λ q. omega arith) (λ q. omega arith) c.has_slope-slope.ensures c.if-slope.false c.levels-m.ensures c.total.ensures c.if-uncovered.false c.faulty_line-faulty.ensures (omega arith)

@@ -1,0 +1,15 @@
+use Prim.Native.Nat.{◌-◌}
+use borrow.Author.Rules.{rules}
+use Rattle.layout.specs.Blocks.{padded}
+use Rattle.sheet_checks.specs.levels.Held.{level_list, blocks_at}
+use Rattle.sheet_checks.proofs.levels.Reading.{Levels, levels_start, levels_more, levels_done}
+use Rattle.sheet_checks.proofs.levels.levels_at.Goals as goal
+
+pub loop-i-init : goal.loop-i-init
+loop-i-init c = search levels_start
+
+pub loop-i-preserved : goal.loop-i-preserved
+loop-i-preserved c = search levels_more
+
+pub returns : goal.returns
+returns c = search levels_done

@@ -1,0 +1,18 @@
+use mathlib.Core.Path.{refl}
+use borrow.Author.Rules.{rules}
+use Rattle.sheet.specs.Fault.{any_of}
+use Rattle.sheet_checks.specs.levels.Held.{blocks_at}
+use Rattle.sheet_checks.proofs.levels.Reading.{Slopes, slope, slope_found, slope_more, slope_none}
+use Rattle.sheet_checks.proofs.levels.slope_at.Goals as goal
+
+pub loop-left-init : goal.loop-left-init
+loop-left-init c = record { same = refl }
+
+pub returns-then-l-ne1 : goal.returns-then-l-ne1
+returns-then-l-ne1 c = search slope_found
+
+pub loop-left-preserved : goal.loop-left-preserved
+loop-left-preserved c = search slope_more
+
+pub returns : goal.returns
+returns c = search slope_none
