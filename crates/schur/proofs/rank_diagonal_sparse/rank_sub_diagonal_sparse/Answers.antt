@@ -28,7 +28,7 @@ loop-from-preserved c = let a = c.args in let P = c.requires.0 in
       omega arith,
       omega arith,
       rows_more a.t (as_entries (row_from a.heading.now a.first) a.a) a.src a.doubles.now P.target P.off_left P.off_source
-          l.from c.chunk-m.result (omega arith) l.doubles l.invariant.2 t.last.0 t.ensures,
+          l.from c.chunk-m.result (omega arith) l.doubles l.invariant.2 t.new.doubles t.ensures,
     )
 
 pub returns : goal.returns

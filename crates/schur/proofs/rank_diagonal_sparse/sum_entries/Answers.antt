@@ -27,7 +27,7 @@ loop-x-preserved c = let a = c.args in
       rw add-one
           (summed_more (as_entries row a.a) a.src a.doubles.now a.from a.m l.x l.sums t.new.sums l.invariant.2
           (entry_added a.a a.src row a.doubles.now a.from a.m l.x (omega arith) (omega arith) (omega arith)
-          l.sums t.new.0 k.result k.ensures t.ensures)),
+          l.sums t.new.sums k.result k.ensures t.ensures)),
     )
 
 pub returns : goal.returns
