@@ -1,5 +1,5 @@
 /*
- * The calls of the blocked Cholesky solver, for C and Rust on x86-64 Linux. Link with libcapi.a, which `rt staticlib capi` makes.
+ * The calls of the blocked Cholesky solver, for C and Rust on x86-64 Linux. Link with libcapi.a, which `rt lib` makes in crates/capi/out.
  *
  * No function requires anything of numbers and lists: any may be given. Of pointers, what C demands:
  * - a list is a pointer and its length in elements; NULL only with length 0;

@@ -1,5 +1,5 @@
 //! Links the proved archive libcapi.a: the one that the environment variable HUSKCANYON_ARCHIVE names (a path from the root, or from this package's folder),
-//! or the one that `rt staticlib capi` made at the repository's root.
+//! or the one that `rt lib` made in the repository's folder crates/capi.
 
 use std::path::{Path, PathBuf};
 use std::{env, fs, process};
@@ -16,13 +16,13 @@ fn main() {
     let package = PathBuf::from(env::var_os("CARGO_MANIFEST_DIR").expect("cargo sets CARGO_MANIFEST_DIR"));
     let archive = match env::var_os(VARIABLE) {
         Some(path) if !path.is_empty() => package.join(path),
-        _ => package.join("../target/staticlib/libcapi.a"),
+        _ => package.join("../crates/capi/out/libcapi.a"),
     };
     // A path that is not there yet counts as changed, so the build is tried again once the archive has been made.
     println!("cargo:rerun-if-changed={}", archive.display());
     if !archive.is_file() {
         refuse(&format!(
-            "there is no archive {}\nhuskcanyon: make it at the repository's root with `rt check capi`, then `rt staticlib capi`, or name another by {VARIABLE}",
+            "there is no archive {}\nhuskcanyon: make it in the repository's folder crates/capi with `rt lib`, or name another by {VARIABLE}",
             archive.display()
         ));
     }

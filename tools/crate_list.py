@@ -30,7 +30,8 @@ def first_sentence(crate):
 
 def main(arguments):
     lines = (ROOT / "crates.txt").read_text(encoding="utf-8").splitlines()
-    listed = {line.partition(":")[0].strip() for line in lines if line.strip() and not line.startswith("#")}
+    # The name is the first word before the colon; a static library has another behind it.
+    listed = {line.partition(":")[0].split()[0] for line in lines if line.strip() and not line.startswith("#")}
     page = ROOT / "docs" / "CRATES.md"
     text = page.read_text(encoding="utf-8")
     picture = text.partition("## The layers\n```\n")[2].partition("```")[0]
