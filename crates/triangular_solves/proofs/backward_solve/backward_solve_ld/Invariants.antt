@@ -1,0 +1,11 @@
+-- `triangular_solves::backward_solve::backward_solve_ld`: the blocks from i on are solved.
+use borrow.Author.Rules.{rules}
+use native.Mathlib.Omega.{arith}
+use Rattle.solution_vectors.proofs.solve_laws.Solves.{BackwardTurns, backward_begin, backward_turn, backward_result}
+use Rattle.triangular_solves.proofs.backward_solve.backward_solve_ld.Given as goal
+
+abbrev pub invariant-loop-i : goal.invariant-loop-i
+invariant-loop-i l = BackwardTurns l.heading l.doubles l.layout l.from l.initial.v l.v l.i
+
+abbrev pub decreases-loop-i : goal.decreases-loop-i
+decreases-loop-i l = l.i

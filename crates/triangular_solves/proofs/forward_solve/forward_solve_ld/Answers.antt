@@ -1,0 +1,14 @@
+use borrow.Author.Rules.{rules}
+use Prim.Native.Nat.{◌-◌}
+use native.Mathlib.Omega.{arith}
+use Rattle.solution_vectors.proofs.solve_laws.Solves.{ForwardTurns, forward_begin, forward_turn, forward_result}
+use Rattle.triangular_solves.proofs.forward_solve.forward_solve_ld.Goals as goal
+
+pub loop-i-init : goal.loop-i-init
+loop-i-init c = forward_begin _ _ c.requires.0.valid c.requires.1
+
+pub loop-i-preserved : goal.loop-i-preserved
+loop-i-preserved c = forward_turn _ _ c.requires.0.same c.loop-i.invariant c.loop-i-test.true c.forward_block.ensures
+
+pub returns : goal.returns
+returns c = forward_result _ _ c.loop-i.invariant (omega arith)
