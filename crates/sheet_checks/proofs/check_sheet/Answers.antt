@@ -1,5 +1,8 @@
 -- `sheet_checks::check_sheet`: each answer, from the tests before it.
+use mathlib.Core.Path.{ap}
+use mathlib.Core.Bool.{not}
 use native.Mathlib.Omega.{arith}
+use borrow.Author.Tests.{eq-eqb, ne_eqb}
 use Rattle.sheet_checks.proofs.Order.{holds, five, six, small, covers, seven, eight, nine, none}
 use Rattle.sheet_checks.proofs.check_sheet.Goals as goal
 
@@ -22,13 +25,13 @@ pub returns-then-slope : goal.returns-then-slope
 returns-then-slope c = seven c.args.bytes.now c.requires (λ q. omega arith) (λ q. omega arith) c.has_slope-slope.ensures c.if-slope.true
 
 pub returns-then-uncovered : goal.returns-then-uncovered
-returns-then-uncovered c = eight c.args.bytes.now c.requires (λ q. omega arith) (λ q. omega arith) c.has_slope-slope.ensures c.if-slope.false c.levels-m.ensures c.total.ensures c.if-uncovered.true
+returns-then-uncovered c = eight c.args.bytes.now c.requires (λ q. omega arith) (λ q. omega arith) c.has_slope-slope.ensures c.if-slope.false c.levels-m.ensures c.total.ensures (ap not (ne_eqb _ _ c.if-uncovered.true))
 
 pub faulty_line-faulty-requires : goal.faulty_line-faulty-requires
-faulty_line-faulty-requires c = covers c.args.bytes.now c.requires c.levels-m.ensures c.total.ensures c.if-uncovered.false
+faulty_line-faulty-requires c = covers c.args.bytes.now c.requires c.levels-m.ensures c.total.ensures (ap not (eq-eqb _ _ c.if-uncovered.false))
 
 pub returns-then-faulty-gt0 : goal.returns-then-faulty-gt0
-returns-then-faulty-gt0 c = nine c.args.bytes.now c.requires (λ q. omega arith) (λ q. omega arith) c.has_slope-slope.ensures c.if-slope.false c.levels-m.ensures c.total.ensures c.if-uncovered.false c.faulty_line-faulty.ensures (omega arith)
+returns-then-faulty-gt0 c = nine c.args.bytes.now c.requires (λ q. omega arith) (λ q. omega arith) c.has_slope-slope.ensures c.if-slope.false c.levels-m.ensures c.total.ensures (ap not (eq-eqb _ _ c.if-uncovered.false)) c.faulty_line-faulty.ensures (omega arith)
 
 pub returns : goal.returns
-returns c = none c.args.bytes.now c.requires (λ q. omega arith) (λ q. omega arith) c.has_slope-slope.ensures c.if-slope.false c.levels-m.ensures c.total.ensures c.if-uncovered.false c.faulty_line-faulty.ensures (omega arith)
+returns c = none c.args.bytes.now c.requires (λ q. omega arith) (λ q. omega arith) c.has_slope-slope.ensures c.if-slope.false c.levels-m.ensures c.total.ensures (ap not (eq-eqb _ _ c.if-uncovered.false)) c.faulty_line-faulty.ensures (omega arith)

@@ -2,7 +2,6 @@
 use mathlib.Core.Path.{sym, ◌∙◌}
 use Rattle.sheet.specs.Sheet.{sheet_of}
 use Rattle.sheet_checks.proofs.Order.{reading_sheet, reading_refused, whole_read, whole_answer}
-use borrow.Author.Rules.{rules}
 use Rattle.sheet_checks.proofs.read_and_check.Goals as goal
 
 pub check_sheet-requires : goal.check_sheet-requires

@@ -2,7 +2,6 @@
 use mathlib.Core.Path.{sym, ◌∙◌}
 use Rattle.sheet.specs.Sheet.{read_sheet}
 use Rattle.sheet_checks.proofs.Order.{reading_sheet, reading_refused}
-use borrow.Author.Rules.{rules}
 use Rattle.sheet_checks.proofs.read_and_check_prefix.Goals as goal
 
 pub check_sheet-requires : goal.check_sheet-requires

@@ -1,6 +1,5 @@
 -- `text_output::hex_digit`: 0 to 9, then a to f.
 use Rattle.text_output.proofs.Numbers.{hex_low, hex_high}
-use borrow.Author.Rules.{rules}
 use Rattle.text_output.proofs.hex_digit.Goals as goal
 
 pub returns-then-d-lt10 : goal.returns-then-d-lt10

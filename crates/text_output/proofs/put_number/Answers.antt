@@ -1,7 +1,6 @@
 -- `text_output::put_number`: 20 bytes are room for any number.
 use native.Mathlib.Omega.{arith}
 use Rattle.text_output.proofs.Numbers.{number_length}
-use borrow.Author.Rules.{rules}
 use Rattle.text_output.proofs.put_number.Goals as goal
 
 pub put_digits-requires : goal.put_digits-requires

@@ -1,9 +1,6 @@
-use borrow.Author.Rules.{rules}
-use Prim.Native.Nat.{◌-◌, ◌≤◌}
-use mathlib.Core.Path.{◌≡◌, refl}
+use mathlib.Core.Path.{refl}
 use native.Mathlib.Omega.{arith}
-use lib.ListN.{length, take, length-set}
-use Rattle.storage.specs.Part.{store}
+use lib.ListN.{length-set}
 use Rattle.text_output.proofs.Written.{text_none, text_more, text_all}
 use Rattle.text_output.proofs.put_text.Goals as goal
 

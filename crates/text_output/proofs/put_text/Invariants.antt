@@ -1,11 +1,8 @@
 -- `text_output::put_text`: the first i bytes are written.
-use borrow.Author.Rules.{rules}
 use Prim.Native.Nat.{◌-◌, ◌≤◌}
-use mathlib.Core.Path.{◌≡◌, refl}
-use native.Mathlib.Omega.{arith}
-use lib.ListN.{length, take, length-set}
+use mathlib.Core.Path.{◌≡◌}
+use lib.ListN.{length, take}
 use Rattle.storage.specs.Part.{store}
-use Rattle.text_output.proofs.Written.{text_none, text_more, text_all}
 use Rattle.text_output.proofs.put_text.Given as goal
 
 abbrev pub invariant-loop-i : goal.invariant-loop-i

@@ -1,6 +1,5 @@
 -- `text_output::put_word`: the 16 digits of the word.
 use Rattle.text_output.proofs.Digits.{word_put}
-use borrow.Author.Rules.{rules}
 use Rattle.text_output.proofs.put_word.Goals as goal
 
 pub returns : goal.returns

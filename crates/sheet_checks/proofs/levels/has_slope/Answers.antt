@@ -1,6 +1,5 @@
 -- `sheet_checks::levels::has_slope`: the blocks of the held sheet are those of its lines.
 use mathlib.Core.Path.{sym, ap, ◌∙◌}
-use borrow.Author.Rules.{rules}
 use Rattle.sheet.specs.Fault.{any_of}
 use Rattle.sheet_checks.proofs.levels.Reading.{slope, held_blocks}
 use Rattle.sheet_checks.proofs.levels.has_slope.Goals as goal

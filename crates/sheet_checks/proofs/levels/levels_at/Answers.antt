@@ -1,8 +1,4 @@
-use Prim.Native.Nat.{◌-◌}
-use borrow.Author.Rules.{rules}
-use Rattle.layout.specs.Blocks.{padded}
-use Rattle.sheet_checks.specs.levels.Held.{level_list, blocks_at}
-use Rattle.sheet_checks.proofs.levels.Reading.{Levels, levels_start, levels_more, levels_done}
+use Rattle.sheet_checks.proofs.levels.Reading.{levels_start, levels_more, levels_done}
 use Rattle.sheet_checks.proofs.levels.levels_at.Goals as goal
 
 pub loop-i-init : goal.loop-i-init

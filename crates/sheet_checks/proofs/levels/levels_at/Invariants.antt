@@ -1,9 +1,8 @@
 -- `sheet_checks::levels::levels_at`: the levels of the lines read so far are stored, and the rest follow.
 use Prim.Native.Nat.{◌-◌}
-use borrow.Author.Rules.{rules}
 use Rattle.layout.specs.Blocks.{padded}
 use Rattle.sheet_checks.specs.levels.Held.{level_list, blocks_at}
-use Rattle.sheet_checks.proofs.levels.Reading.{Levels, levels_start, levels_more, levels_done}
+use Rattle.sheet_checks.proofs.levels.Reading.{Levels}
 use Rattle.sheet_checks.proofs.levels.levels_at.Given as goal
 
 abbrev pub invariant-loop-i : goal.invariant-loop-i

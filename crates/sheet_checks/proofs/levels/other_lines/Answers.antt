@@ -1,5 +1,4 @@
 -- `sheet_checks::levels::other_lines`: the two products are small.
-use borrow.Author.Rules.{rules}
 use native.Mathlib.Omega.{arith}
 use Rattle.sheet_checks.proofs.levels.Counting.{products}
 use Rattle.sheet_checks.proofs.levels.other_lines.Goals as goal

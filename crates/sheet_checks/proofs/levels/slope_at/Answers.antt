@@ -1,8 +1,5 @@
 use mathlib.Core.Path.{refl}
-use borrow.Author.Rules.{rules}
-use Rattle.sheet.specs.Fault.{any_of}
-use Rattle.sheet_checks.specs.levels.Held.{blocks_at}
-use Rattle.sheet_checks.proofs.levels.Reading.{Slopes, slope, slope_found, slope_more, slope_none}
+use Rattle.sheet_checks.proofs.levels.Reading.{slope_found, slope_more, slope_none}
 use Rattle.sheet_checks.proofs.levels.slope_at.Goals as goal
 
 pub loop-left-init : goal.loop-left-init

@@ -1,9 +1,7 @@
 -- `sheet_checks::levels::slope_at`: the blocks that are left have a slope where all have one.
-use mathlib.Core.Path.{refl}
-use borrow.Author.Rules.{rules}
 use Rattle.sheet.specs.Fault.{any_of}
 use Rattle.sheet_checks.specs.levels.Held.{blocks_at}
-use Rattle.sheet_checks.proofs.levels.Reading.{Slopes, slope, slope_found, slope_more, slope_none}
+use Rattle.sheet_checks.proofs.levels.Reading.{Slopes, slope}
 use Rattle.sheet_checks.proofs.levels.slope_at.Given as goal
 
 abbrev pub invariant-loop-left : goal.invariant-loop-left

@@ -1,7 +1,5 @@
-use Prim.Native.Nat.{◌-◌}
-use borrow.Author.Rules.{rules}
 use native.Mathlib.Omega.{arith}
-use Rattle.sheet_checks.proofs.levels.Sums.{Summed, summed_start, summed_more, summed_fits, summed_done}
+use Rattle.sheet_checks.proofs.levels.Sums.{summed_start, summed_more, summed_fits, summed_done}
 use Rattle.sheet_checks.proofs.levels.start.Goals as goal
 
 pub loop-i-init : goal.loop-i-init

@@ -1,8 +1,6 @@
 -- `sheet_checks::levels::start`: the sum so far.
 use Prim.Native.Nat.{◌-◌}
-use borrow.Author.Rules.{rules}
-use native.Mathlib.Omega.{arith}
-use Rattle.sheet_checks.proofs.levels.Sums.{Summed, summed_start, summed_more, summed_fits, summed_done}
+use Rattle.sheet_checks.proofs.levels.Sums.{Summed}
 use Rattle.sheet_checks.proofs.levels.start.Given as goal
 
 abbrev pub invariant-loop-i : goal.invariant-loop-i

@@ -1,7 +1,4 @@
-use Prim.Native.Nat.{◌-◌}
 use native.Mathlib.Omega.{arith}
-use borrow.Author.Rules.{rules}
-use Rattle.sheet_checks.specs.mirror_scan.Mirror.{Judged}
 use Rattle.sheet_checks.proofs.mirror_scan.Passes.{judged_none, judged_on, few_columns}
 use Rattle.sheet_checks.proofs.mirror.groups.Goals as goal
 

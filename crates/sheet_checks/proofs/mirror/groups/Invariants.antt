@@ -1,9 +1,6 @@
 -- `sheet_checks::mirror::groups`: the groups that were looked at are judged.
 use Prim.Native.Nat.{◌-◌}
-use native.Mathlib.Omega.{arith}
-use borrow.Author.Rules.{rules}
 use Rattle.sheet_checks.specs.mirror_scan.Mirror.{Judged}
-use Rattle.sheet_checks.proofs.mirror_scan.Passes.{judged_none, judged_on, few_columns}
 use Rattle.sheet_checks.proofs.mirror.groups.Given as goal
 
 abbrev pub invariant-loop-base : goal.invariant-loop-base

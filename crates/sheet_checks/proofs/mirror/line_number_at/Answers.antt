@@ -1,7 +1,4 @@
-use Prim.Native.Nat.{◌-◌}
-use native.Mathlib.Omega.{arith}
-use borrow.Author.Rules.{rules}
-use Rattle.sheet_checks.proofs.mirror_scan.Passes.{first_fits, number_fits, none_there, Sought, sought_start, sought_on, sought_hit, sought_out}
+use Rattle.sheet_checks.proofs.mirror_scan.Passes.{first_fits, number_fits, none_there, sought_start, sought_on, sought_hit, sought_out}
 use Rattle.sheet_checks.proofs.mirror.line_number_at.Goals as goal
 
 pub returns-then-at-starts : goal.returns-then-at-starts
@@ -20,7 +17,7 @@ pub returns-then-place-at : goal.returns-then-place-at
 returns-then-place-at c = sought_hit c.requires c.loop-i.invariant c.loop-i-test.true c.if-place-at.true
 
 pub loop-i-preserved : goal.loop-i-preserved
-loop-i-preserved c = sought_on c.requires c.loop-i.invariant c.loop-i-test.taken c.if-place-at.false c.pair_line-l.ensures
+loop-i-preserved c = sought_on c.requires c.loop-i.invariant c.loop-i-test.true c.if-place-at.false c.pair_line-l.ensures
 
 pub returns : goal.returns
 returns c = sought_out c.requires c.loop-i.invariant c.loop-i-test.false

@@ -1,8 +1,6 @@
 -- `sheet_checks::mirror::line_number_at`: none of the i lines looked at starts at `at`.
 use Prim.Native.Nat.{◌-◌}
-use native.Mathlib.Omega.{arith}
-use borrow.Author.Rules.{rules}
-use Rattle.sheet_checks.proofs.mirror_scan.Passes.{first_fits, number_fits, none_there, Sought, sought_start, sought_on, sought_hit, sought_out}
+use Rattle.sheet_checks.proofs.mirror_scan.Passes.{Sought}
 use Rattle.sheet_checks.proofs.mirror.line_number_at.Given as goal
 
 abbrev pub invariant-loop-i : goal.invariant-loop-i

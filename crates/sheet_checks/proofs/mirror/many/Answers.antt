@@ -1,7 +1,6 @@
 -- `sheet_checks::mirror::many`: a pass with a fresh array.
 use native.Mathlib.Omega.{arith}
 use Rattle.sheet_checks.proofs.mirror_scan.Passes.{fresh_fits, fresh_same}
-use borrow.Author.Rules.{rules}
 use Rattle.sheet_checks.proofs.mirror.many.Goals as goal
 
 pub pass-requires : goal.pass-requires

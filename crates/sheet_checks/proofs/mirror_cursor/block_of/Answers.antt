@@ -1,14 +1,5 @@
-use Prim.Native.Nat.{◌≤◌, ◌<◌, ◌-◌}
-use mathlib.Core.Path.{◌≡◌}
-use mathlib.Core.List.{List}
 use native.Mathlib.Omega.{arith}
-use borrow.Author.Rules.{rules}
-use lib.ListN.{length}
-use Rattle.sheet.specs.Run.{Block}
-use Rattle.sheet.specs.Fault.{covered_rows}
-use Rattle.layout.specs.Blocks.{padded}
-use Rattle.sheet_checks.specs.levels.Held.{level_list}
-use Rattle.sheet_checks.proofs.mirror_cursor.Blocks.{Search, search_start, search_found, search_on, search_out}
+use Rattle.sheet_checks.proofs.mirror_cursor.Blocks.{search_start, search_found, search_on, search_out}
 use Rattle.sheet_checks.proofs.mirror_cursor.block_of.Goals as goal
 
 pub loop-j-init : goal.loop-j-init

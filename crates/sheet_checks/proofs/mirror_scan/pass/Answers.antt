@@ -1,9 +1,5 @@
-use Prim.Native.Nat.{◌-◌}
-use mathlib.Core.Path.{◌≡◌, refl, ◌∙◌}
+use mathlib.Core.Path.{refl, ◌∙◌}
 use native.Mathlib.Omega.{arith}
-use borrow.Author.Rules.{rules}
-use lib.ListN.{length}
-use Rattle.sheet_checks.specs.mirror_cursor.Turns.{Pass}
 use Rattle.sheet_checks.proofs.mirror_scan.Passes.{pass_start, pass_end}
 use Rattle.sheet_checks.proofs.mirror_scan.pass.Goals as goal
 

@@ -1,11 +1,8 @@
 -- `sheet_checks::mirror_scan::pass`: entry by entry, and what is left at the end.
 use Prim.Native.Nat.{◌-◌}
-use mathlib.Core.Path.{◌≡◌, refl, ◌∙◌}
-use native.Mathlib.Omega.{arith}
-use borrow.Author.Rules.{rules}
+use mathlib.Core.Path.{◌≡◌}
 use lib.ListN.{length}
 use Rattle.sheet_checks.specs.mirror_cursor.Turns.{Pass}
-use Rattle.sheet_checks.proofs.mirror_scan.Passes.{pass_start, pass_end}
 use Rattle.sheet_checks.proofs.mirror_scan.pass.Given as goal
 
 abbrev pub invariant-loop-i : goal.invariant-loop-i

@@ -1,7 +1,5 @@
-use Prim.Native.Nat.{◌-◌}
 use borrow.Author.Rules.{rules}
-use lib.ListN.{length}
-use Rattle.sheet_checks.proofs.mirror_step.Cursors.{Skipping, skipping_start, skipping_on, skipping_less, skipping_end}
+use Rattle.sheet_checks.proofs.mirror_step.Cursors.{skipping_start, skipping_on, skipping_less, skipping_end}
 use Rattle.sheet_checks.proofs.mirror_step.skip_passed.Goals as goal
 
 pub loop-l-init : goal.loop-l-init

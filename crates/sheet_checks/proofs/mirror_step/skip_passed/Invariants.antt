@@ -1,8 +1,7 @@
 -- `sheet_checks::mirror_step::skip_passed`: the cursor has moved past faulty lines. It stays within the bytes.
 use Prim.Native.Nat.{◌-◌}
-use borrow.Author.Rules.{rules}
 use lib.ListN.{length}
-use Rattle.sheet_checks.proofs.mirror_step.Cursors.{Skipping, skipping_start, skipping_on, skipping_less, skipping_end}
+use Rattle.sheet_checks.proofs.mirror_step.Cursors.{Skipping}
 use Rattle.sheet_checks.proofs.mirror_step.skip_passed.Given as goal
 
 abbrev pub invariant-loop-l : goal.invariant-loop-l

@@ -1,6 +1,5 @@
 -- `sheet_checks::mirror_step::with_unfit`: by what `is_unfit` says.
 use mathlib.Core.Path.{sym, ◌∙◌}
-use borrow.Author.Rules.{rules}
 use Rattle.sheet_checks.proofs.mirror_step.with_unfit.Goals as goal
 
 pub returns-then-is_unfit : goal.returns-then-is_unfit

@@ -2,7 +2,6 @@
 use native.Mathlib.Omega.{arith}
 use Rattle.text_output.proofs.Numbers.{number_length}
 use Rattle.text_output.proofs.print_lines.Lines.{refused_long, refused_put}
-use borrow.Author.Rules.{rules}
 use Rattle.text_output.proofs.print_lines.put_refused.Goals as goal
 
 pub put_byte-p-requires : goal.put_byte-p-requires

@@ -1,0 +1,5 @@
+-- `text_output::put_digits`: the measure is the number.
+use Rattle.text_output.proofs.+put_digits.Given as goal
+
+abbrev pub decreases-put_digits : goal.decreases-put_digits
+decreases-put_digits l = l.x
