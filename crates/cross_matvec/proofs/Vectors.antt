@@ -11,7 +11,7 @@ use Rattle.storage.proofs.Cells.{length_tab, any_default}
 use Rattle.storage.proofs.Parts.{get_d_part, store_else}
 use Rattle.storage.proofs.Filling.{Filling, filling_apart, filling_next}
 use Rattle.rules.specs.Arithmetic.{ieee}
-use Rattle.rules.specs.Solves.{sparse_matvec_tsub}
+use Rattle.rules.specs.Solves.{sparse_matvec_t_sub}
 use Rattle.block_runs.specs.blocks.Blocks.{entry}
 use Rattle.block_runs.specs.axpy.Axpy.{at, run}
 use Rattle.storage.specs.declared.Block.{Block}
@@ -41,7 +41,7 @@ module _ (off n : ℕ) (g : ℕ → Float) (w₀ : List Float) (fits : off + n �
 -- one entry more less the transpose of a sparse block
 module _ (to z : ℕ) (a : Block) (row : ℕ → ℕ) (w v₀ : List Float) (sides : Sides (length v₀) z to a) (fits : a.at + a.cols ≤ length w) where
   abbrev rule : ℕ → Float
-  rule = sparse_matvec_tsub ieee row (entry a.at a.cols w) (entry z a.rows v₀) (entry to a.cols v₀)
+  rule = sparse_matvec_t_sub ieee row (entry a.at a.cols w) (entry z a.rows v₀) (entry to a.cols v₀)
 
   pub sparse_subtracted : {c : ℕ} {v : List Float} → Filling rule to a.cols v₀ v c → c < a.cols → (r : ℕ) → r < a.rows → r ≡ row c
       → Filling rule to a.cols v₀ (set v (to + c) (ieee.minus (at v (to + c)) (ieee.plus ieee.zero (ieee.times (at w (a.at + c)) (at v (z + r)))))) (c + 1)

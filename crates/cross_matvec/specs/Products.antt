@@ -6,7 +6,7 @@ use Rattle.storage.specs.Shape.{columns, size_of}
 use Rattle.storage.specs.declared.Block.{Block}
 use Rattle.storage.specs.Placed.{as_columns, read}
 use Rattle.rules.specs.Arithmetic.{ieee}
-use Rattle.rules.specs.Solves.{matvec_sub, sparse_matvec_sub, matvec_tsub, sparse_matvec_tsub}
+use Rattle.rules.specs.Solves.{matvec_sub, sparse_matvec_sub, matvec_t_sub, sparse_matvec_t_sub}
 use Rattle.block_runs.specs.blocks.Blocks.{entry}
 use Rattle.block_runs.specs.axpy.Axpy.{at, run, along}
 
@@ -36,7 +36,7 @@ subtracted_product to z a w v =
 -- backward: less its transpose times the vector at z
 abbrev pub subtracted_product_t : (to z : ℕ) → Block → List Float → List Float → List Float
 subtracted_product_t to z a w v =
-    run to a.cols (matvec_tsub ieee (read (as_columns a) w) (entry z a.rows v) (entry to a.cols v) a.rows) v
+    run to a.cols (matvec_t_sub ieee (read (as_columns a) w) (entry z a.rows v) (entry to a.cols v) a.rows) v
 
 -- forward: less the sparse block a, whose column c has its entry in row `row c`, times the vector at z, where a source of ±0 is skipped
 abbrev pub subtracted_sparse_product : (row : ℕ → ℕ) (to z : ℕ) → Block → List Float → List Float → List Float
@@ -46,7 +46,7 @@ subtracted_sparse_product row to z a w v =
 -- backward: less its transpose times the vector at z
 abbrev pub subtracted_sparse_product_t : (row : ℕ → ℕ) (to z : ℕ) → Block → List Float → List Float → List Float
 subtracted_sparse_product_t row to z a w v =
-    run to a.cols (sparse_matvec_tsub ieee row (entry a.at a.cols w) (entry z a.rows v) (entry to a.cols v)) v
+    run to a.cols (sparse_matvec_t_sub ieee row (entry a.at a.cols w) (entry z a.rows v) (entry to a.cols v)) v
 
 -- ---- what the loops leave, double by double
 -- the sum of the products of n doubles from p on in w with those from z on in v

@@ -3,7 +3,7 @@ use Rattle.std.specs.Prelude.{ℕ, zero, suc, ◌+◌, ◌-◌, ◌<◌, ◌≡�
 use Rattle.rules.specs.Arithmetic.{Arithmetic}
 use Rattle.rules.specs.Sums.{dot}
 use Rattle.rules.specs.Cholesky.{at, forward}
-use Rattle.rules.specs.Solves.{matvec_sub, matvec_tsub, backward}
+use Rattle.rules.specs.Solves.{matvec_sub, matvec_t_sub, backward}
 
 -- block j has m j rows; block (i, j) of L, j ≤ i, is a function of row and column; a vector is a function of block and row
 module _ (A : Arithmetic) (m : ℕ → ℕ) (L : ℕ → ℕ → ℕ → ℕ → A.Num) where
@@ -16,7 +16,7 @@ module _ (A : Arithmetic) (m : ℕ → ℕ) (L : ℕ → ℕ → ℕ → ℕ →
   -- z of block i less the transposes of the cross blocks below it times blocks i + 1 to i + n of w, in turn
   unfoldable pub subtract_later : (w : ℕ → ℕ → A.Num) (i : ℕ) (z : ℕ → A.Num) → ℕ → ℕ → A.Num
   subtract_later w i z zero = z
-  subtract_later w i z (suc x) = matvec_tsub A (L (i + suc x) i) (w (i + suc x)) (subtract_later w i z x) (m (i + suc x))
+  subtract_later w i z (suc x) = matvec_t_sub A (L (i + suc x) i) (w (i + suc x)) (subtract_later w i z x) (m (i + suc x))
 
   -- z is what going forward makes of v, and w what going backward makes of z, over k blocks
   abbrev pub Forward : (v z : ℕ → ℕ → A.Num) → ℕ → Type 0

@@ -16,7 +16,7 @@ use Rattle.rules.specs.Arithmetic.{ieee}
 use Rattle.rules.specs.Begin.{fixed_cell}
 use Rattle.rules.specs.Cholesky.{at}
 use Rattle.rules.specs.Finish.{offset_of}
-use Rattle.rules.specs.Solves.{matvec_sub, sparse_matvec_sub, matvec_tsub, sparse_matvec_tsub}
+use Rattle.rules.specs.Solves.{matvec_sub, sparse_matvec_sub, matvec_t_sub, sparse_matvec_t_sub}
 use Rattle.rules.proofs.Rows.{less_counts}
 use Rattle.layout.specs.declared.Layout.{Layout}
 use Rattle.layout.specs.Shapes.{pick, levels, block_rows, last_shape, shape, loaded_shape}
@@ -126,13 +126,13 @@ module _ {h : List ℕ} {w : List Float} {h' : List ℕ} {w' : List Float} (s : 
       → subtract_backward h w j i z v c ≡ subtract_backward h' w' j i z v' c
   backward_same j i l m z v v' c n q =
       ap
-      (λ (x : Layout). pick x.sparse (sparse_matvec_tsub ieee (entry_row h) (sparse_value h w) (at ieee z) v)
-      (matvec_tsub ieee (cross_cell_of h w j i) (at ieee z) v (block_rows x j)) c)
+      (λ (x : Layout). pick x.sparse (sparse_matvec_t_sub ieee (entry_row h) (sparse_value h w) (at ieee z) v)
+      (matvec_t_sub ieee (cross_cell_of h w j i) (at ieee z) v (block_rows x j)) c)
       s.layout
       ∙ pick_at y.sparse _ _ _ _ c
       (λ e. ap₂ ieee.minus q
       (ap₂ (λ (x : ℕ → Float) (r : ℕ). ieee.plus ieee.zero (ieee.times (x c) (at ieee z r))) (values_same (omega arith)) (s.rows e c (n e))))
-      (λ e. ap₂ (λ (x : Float) (f : ℕ → ℕ → Float). matvec_tsub ieee f (at ieee z) (λ a. x) (block_rows y j) c) q (cross_same j i (omega arith) (omega arith)))
+      (λ e. ap₂ (λ (x : Float) (f : ℕ → ℕ → Float). matvec_t_sub ieee f (at ieee z) (λ a. x) (block_rows y j) c) q (cross_same j i (omega arith) (omega arith)))
 
   -- so the blocks behind block i
   later_same : (i n : ℕ) → i + n < (layout_of h').k → (z : List (List Float)) (v : ℕ → Float) (c : ℕ) → ((layout_of h').sparse ≡ true → c < levels (layout_of h') 0)

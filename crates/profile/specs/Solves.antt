@@ -8,7 +8,7 @@ use Rattle.storage.specs.Shape.{Shape, packed, diagonal, columns, entries}
 use Rattle.rules.specs.Arithmetic.{ieee}
 use Rattle.rules.specs.Begin.{fixed_cell}
 use Rattle.rules.specs.Cholesky.{at, forward}
-use Rattle.rules.specs.Solves.{matvec_sub, sparse_matvec_sub, matvec_tsub, sparse_matvec_tsub, backward}
+use Rattle.rules.specs.Solves.{matvec_sub, sparse_matvec_sub, matvec_t_sub, sparse_matvec_t_sub, backward}
 use Rattle.layout.specs.Shapes.{pick, block_rows, shape, loaded_shape}
 use Rattle.heading_format.specs.Heading.{layout_of, entry_row}
 use Rattle.workspace.specs.Memory.{cell_of, loaded_block, working_block, theta_of}
@@ -63,8 +63,8 @@ module _ (h : List ℕ) (w : List Float) where
   -- ---- backward: v of block i less the transpose of cross block (j, i) times block j of the solution
   abbrev pub subtract_backward : ℕ → ℕ → List Float → (ℕ → Float) → ℕ → Float
   subtract_backward j i z v =
-      pick (layout_of h).sparse (sparse_matvec_tsub ieee (entry_row h) sparse_value (at ieee z) v)
-      (matvec_tsub ieee (cross_cell_of j i) (at ieee z) v (block_rows (layout_of h) j))
+      pick (layout_of h).sparse (sparse_matvec_t_sub ieee (entry_row h) sparse_value (at ieee z) v)
+      (matvec_t_sub ieee (cross_cell_of j i) (at ieee z) v (block_rows (layout_of h) j))
 
   -- blocks i + 1 to i + n, in turn; z has them from i + 1 on
   unfoldable pub subtract_later : ℕ → List (List Float) → (ℕ → Float) → ℕ → ℕ → Float

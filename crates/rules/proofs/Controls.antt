@@ -12,7 +12,7 @@ use Rattle.rules.specs.Sums.{sum_from, subtract_from, logs_from}
 use Rattle.rules.specs.Begin.{cross_cell}
 use Rattle.rules.specs.Steps.{subtract_dense, subtract_last, subtract_sparse, subtract_diagonal}
 use Rattle.rules.specs.Cholesky.{first_bad, pivots, finish_pivots, logs_of_first, logs_of_later}
-use Rattle.rules.specs.Solves.{sparse_matvec_sub, matvec_sub, sparse_matvec_tsub}
+use Rattle.rules.specs.Solves.{sparse_matvec_sub, matvec_sub, sparse_matvec_t_sub}
 use Rattle.rules.specs.Finish.{deviance_of, fixed_cross, residual, offset_of}
 use lib.Dec.{eqb}
 use mathlib.Core.Bool.{Bool, true, false}
@@ -81,7 +81,7 @@ unfolding bits
 dense_takes = refl
 
 -- going backward a sparse pair takes its source of 0, once: 1 - (0.0 + inf · 0)
-sparse_back : bits (sparse_matvec_tsub ieee (λ c. 0) (λ c. word 0x7ff0000000000000) (λ r. word 0) (λ c. word 0x3ff0000000000000) 0) ≡ 0x7ff8000000000000
+sparse_back : bits (sparse_matvec_t_sub ieee (λ c. 0) (λ c. word 0x7ff0000000000000) (λ r. word 0) (λ c. word 0x3ff0000000000000) 0) ≡ 0x7ff8000000000000
 unfolding bits
 sparse_back = refl
 

@@ -14,11 +14,11 @@ module _ (A : Arithmetic) where
   sparse_matvec_sub row x w v cols r = subtract_from A (v r) (λ c. eqb (row c) r && not (A.null (w c))) x w cols
 
   -- Going backward, less the transpose of a dense one, and of a sparse one: both summed from 0.0 and subtracted once.
-  abbrev pub matvec_tsub : (x : ℕ → ℕ → A.Num) (w v : ℕ → A.Num) → ℕ → ℕ → A.Num
-  matvec_tsub x w v rows c = A.minus (v c) (dot A (λ r. x r c) w rows)
+  abbrev pub matvec_t_sub : (x : ℕ → ℕ → A.Num) (w v : ℕ → A.Num) → ℕ → ℕ → A.Num
+  matvec_t_sub x w v rows c = A.minus (v c) (dot A (λ r. x r c) w rows)
 
-  abbrev pub sparse_matvec_tsub : (row : ℕ → ℕ) (x w v : ℕ → A.Num) → ℕ → A.Num
-  sparse_matvec_tsub row x w v c = A.minus (v c) (A.plus A.zero (A.times (x c) (w (row c))))
+  abbrev pub sparse_matvec_t_sub : (row : ℕ → ℕ) (x w v : ℕ → A.Num) → ℕ → A.Num
+  sparse_matvec_t_sub row x w v c = A.minus (v c) (A.plus A.zero (A.times (x c) (w (row c))))
 
   -- Backward substitution with a triangle of n rows: the last `done` cells, the lowest first in the list. Cell n - 1 - done comes next:
   -- less product by product, index rising, then the division.

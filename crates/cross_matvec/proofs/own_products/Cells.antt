@@ -18,7 +18,7 @@ use Rattle.storage.proofs.Blocks.{cell_part}
 use Rattle.rules.specs.Arithmetic.{ieee}
 use Rattle.rules.specs.Sums.{dot}
 use Rattle.rules.specs.Cholesky.{at}
-use Rattle.rules.specs.Solves.{matvec_tsub}
+use Rattle.rules.specs.Solves.{matvec_t_sub}
 use Rattle.block_runs.specs.blocks.Blocks.{entry}
 use Rattle.block_runs.proofs.blocks.Laws.{has_dense}
 use Rattle.block_runs.specs.axpy.Axpy.{at as double}
@@ -40,7 +40,7 @@ sum_lists v p z n x u room room' is is' =
 
 module _ (to z : ℕ) (a : Block) (v v' : List Float) (fits : to + a.cols ≤ length v) (so : v' ≡ subtracted_product_t to z a v v) where
   abbrev cells : ℕ → Float
-  cells = matvec_tsub ieee (read (as_columns a) v) (entry z a.rows v) (entry to a.cols v) a.rows
+  cells = matvec_t_sub ieee (read (as_columns a) v) (entry z a.rows v) (entry to a.cols v) a.rows
 
   long : length (tab a.cols cells) ≡ a.cols
   long = length_tab a.cols cells

@@ -15,7 +15,10 @@ pub add_logs-requires : goal.add_logs-requires
 add_logs-requires c = let a = c.args in
     let k = still_fits a.heading.now a.doubles.now a.layout c.requires.0 a.j c.requires.1 _ _ (rw (c.block-b.ensures, c.factor_kind-kind.ensures) at c.factor_block-p.ensures) in
     rw (c.block-b.ensures, c.factor_kind-kind.ensures)
-    ((c.requires.0.valid, k.0), (k.1, limited a.heading.now a.doubles.now a.layout c.requires.0 a.j c.requires.1, first_diagonal a.heading.now a.doubles.now a.layout c.requires.0 a.j c.requires.1))
+    record {
+      layout_value = (c.requires.0.valid, k.0);
+      lies = (k.1, limited a.heading.now a.doubles.now a.layout c.requires.0 a.j c.requires.1, first_diagonal a.heading.now a.doubles.now a.layout c.requires.0 a.j c.requires.1);
+    }
 
 pub returns-in-Refused : goal.returns-in-Refused
 returns-in-Refused c = let a = c.args in

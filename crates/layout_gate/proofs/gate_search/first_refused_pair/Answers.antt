@@ -1,0 +1,22 @@
+use Prim.Native.Nat.{◌-◌}
+use mathlib.Core.Path.{◌∙◌}
+use borrow.Author.Rules.{rules}
+use native.Mathlib.Omega.{arith}
+use Rattle.layout_gate.proofs.gate_search.Pairs.{by_sheet}
+use Rattle.layout_gate.proofs.gate_search.Found.{Clear, clear_start, clear_more, clear_row, none_found, one_found}
+use Rattle.layout_gate.proofs.gate_search.first_refused_pair.Goals as goal
+
+pub pairs-init : goal.pairs-init
+pairs-init c = clear_start _
+
+pub loop-jj-preserved : goal.loop-jj-preserved
+loop-jj-preserved c = search clear_more
+
+pub pairs-preserved : goal.pairs-preserved
+pairs-preserved c = search clear_row
+
+pub returns-after-pairs : goal.returns-after-pairs
+returns-after-pairs c = λ sheet e. none_found c.pairs.invariant (omega arith) ∙ by_sheet _ sheet e
+
+pub returns-then-n-ne0 : goal.returns-then-n-ne0
+returns-then-n-ne0 c = λ sheet e. one_found c.loop-jj.invariant c.verdict-n.ensures c.if-n-ne0.true (omega arith) (omega arith) ∙ by_sheet _ sheet e
