@@ -10,26 +10,7 @@ use Rattle.layout.specs.declared.Layout.{Layout}
 use Rattle.layout.specs.declared.Pair.TheVariants.{Dense, Sparse, Refused}
 use Rattle.layout.specs.Blocks.{insert, sorted}
 use Rattle.layout.specs.Gate.{thin, pair_of}
-use Rattle.layout.specs.Shapes.{
-  shape,
-  loaded_shape,
-  Target,
-  factors,
-  across,
-  pairs,
-  targets,
-  cells_of,
-  before,
-  loaded_length,
-  loaded_at,
-  working_at,
-  sum_at,
-  cross_cells,
-  factor_cells,
-  doubles_needed,
-  doubles_formula,
-  triangle_end,
-}
+use Rattle.layout.specs.Shapes.{shape, loaded_shape, Target, factors, across, pairs, targets, cells_of, before, loaded_at, working_at, sum_at, cross_cells, factor_cells, doubles_needed, doubles_formula, triangle_end}
 use Rattle.layout.proofs.Made.{layout_with}
 
 -- f of each block of a list

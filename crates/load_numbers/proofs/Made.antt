@@ -99,7 +99,7 @@ module _ (s : List ℕ) (sheet : Sheet) (z : Starts) (y : Layout) (k : Known she
   row_value c b =
       let P : ℕ = heading_length + c in
       let test : Entry → Bool = of_column y 1 0 c in
-      let one = k.one_each thin c b in
+      let one = k.one_each_lem thin c b in
       entry_put (row_place y) (λ c r v. r - row_start y 1) (pair_line zz_tag s) P 0 (of_column y 1 0 c) (get_or w P 0) (length sheet.zz) 0 (sheet.counts.k + 2) z.zz w
       (subst (Only (of_column y 1 0 c)) h.placed.zz (count_only (of_column y 1 0 c) sheet.zz (omega arith)))
       (anything (λ e. (row_place y e.col e.row ≡ P → of_column y 1 0 c e ≡ true) × (of_column y 1 0 c e ≡ true → row_place y e.col e.row ≡ P))

@@ -11,7 +11,7 @@ use Rattle.load_numbers.proofs.put_row.Goals as goal
 
 pub returns-then-block_of-ne0 : goal.returns-then-block_of-ne0
 returns-then-block_of-ne0 c = let a = c.args in
-    put_none a.layout (a.heading).now a.l.first a.l.second (a.l.second - row_start a.layout 1) (omega arith) (λ e f. c.if-block_of-ne0.true (c.Block-of.ensures ∙ e))
+    put_none a.layout (a.heading).now a.l.first a.l.second (a.l.second - row_start a.layout 1) (omega arith) (λ e f. c.if-block_of-ne0.true (c.block_of.ensures ∙ e))
 
 pub returns-then-block_of-ne1 : goal.returns-then-block_of-ne1
 returns-then-block_of-ne1 c = let a = c.args in
@@ -19,7 +19,7 @@ returns-then-block_of-ne1 c = let a = c.args in
 
 pub level_of-requires : goal.level_of-requires
 level_of-requires c = let a = c.args in
-    (c.requires.0, c.requires.2, omega arith, found a.layout a.l.first 0 (sym c.if-block_of-ne0.false ∙ c.Block-of.ensures) (omega arith))
+    (c.requires.0, c.requires.2, omega arith, found a.layout a.l.first 0 (sym c.if-block_of-ne0.false ∙ c.block_of.ensures) (omega arith))
 
 pub level_of-requires-2 : goal.level_of-requires-2
 level_of-requires-2 c = let a = c.args in
@@ -31,5 +31,5 @@ overflow_cast-heading c = omega (arith, c.level_of-2.ensures.1, ((is_valid c.arg
 pub returns : goal.returns
 returns c = let a = c.args in
     put_one a.layout (a.heading).now a.l.first a.l.second 0 c.level_of-2.result c.level_of.result
-    (sym c.Block-of.ensures ∙ c.if-block_of-ne0.false) (sym c.block_of-2.ensures ∙ c.if-block_of-ne1.false)
+    (sym c.block_of.ensures ∙ c.if-block_of-ne0.false) (sym c.block_of-2.ensures ∙ c.if-block_of-ne1.false)
     c.level_of.ensures.0 c.level_of-2.ensures.0

@@ -130,7 +130,7 @@ soles sheet y k = go y.sparse refl
         ((and-eq-true_iff (eqb e.col (sheet_row y 0 (e.col - row_start y 0))) (in_block y 1 e.row)).1 (eq-eqb e.col (sheet_row y 0 (e.col - row_start y 0)) here, b))))
         sheet.zz
         (each_swap (λ c e. of_column y 1 0 c e ≡ true → e.row ≡ row_of (of_column y 1 0 c) sheet.zz) (levels y 0) sheet.zz
-        (λ c b. row_sole (of_column y 1 0 c) sheet.zz (omega (arith, k.one_each q c b))))
+        (λ c b. row_sole (of_column y 1 0 c) sheet.zz (omega (arith, k.one_each_lem q c b))))
     go false q = each_map (λ e. Unit {0}) (λ e. Sole y (entry_row_in sheet y) e.col e.row) (λ e t g a b. absurd (true_false g q)) sheet.zz (units sheet.zz)
       where
         units : (l : List Entry) → Each (λ e. Unit {0}) l

@@ -1,5 +1,5 @@
 use native.Mathlib.Omega.{arith}
-use Rattle.float_bits.proofs.double.Leading.{Lifting, lift_start, lift_some, lift_on, lift_end}
+use Rattle.float_bits.proofs.double.Leading.{lift_start, lift_some, lift_on, lift_end}
 use Rattle.float_bits.proofs.double.lifted.Goals as goal
 
 pub loop-m-init : goal.loop-m-init

@@ -1,6 +1,5 @@
 -- `float_bits::double::lifted` meets its contract. The measure is the exponent, which falls with each place.
-use native.Mathlib.Omega.{arith}
-use Rattle.float_bits.proofs.double.Leading.{Lifting, lift_start, lift_some, lift_on, lift_end}
+use Rattle.float_bits.proofs.double.Leading.{Lifting}
 use Rattle.float_bits.proofs.double.lifted.Given as goal
 
 abbrev pub invariant-loop-m : goal.invariant-loop-m

@@ -1,7 +1,6 @@
 -- `float_bits::double::of_bits` meets its contract.
 use native.Mathlib.Omega.{arith}
 use Rattle.float_bits.proofs.double.Leading.{some_digits, subnormal, normal}
-use borrow.Author.Rules.{rules}
 use Rattle.float_bits.proofs.double.of_bits.Goals as goal
 
 pub lifted-requires : goal.lifted-requires

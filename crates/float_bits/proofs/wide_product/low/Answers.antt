@@ -1,7 +1,6 @@
 -- `float_bits::wide_product::low` meets its contract.
 use native.Mathlib.Omega.{arith}
 use Rattle.float_bits.proofs.wide_product.Laws.{halves, product, low_of}
-use borrow.Author.Rules.{rules}
 use Rattle.float_bits.proofs.wide_product.low.Goals as goal
 
 pub overflow_mul-mid : goal.overflow_mul-mid

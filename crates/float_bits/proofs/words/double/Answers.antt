@@ -1,5 +1,4 @@
 -- `float_bits::words::double` meets its contract.
-use borrow.Author.Rules.{rules}
 use Rattle.float_bits.proofs.double.Bits.{no_nan_bits}
 use Rattle.float_bits.proofs.words.Laws.{nan_of_bits}
 use Rattle.float_bits.proofs.words.double.Goals as goal

@@ -1,5 +1,4 @@
 -- `float_bits::words::word_of` meets its contract.
-use borrow.Author.Rules.{rules}
 use Rattle.float_bits.proofs.words.Laws.{bits_of_nan, no_nan}
 use Rattle.float_bits.proofs.words.word_of.Goals as goal
 

@@ -20,7 +20,7 @@ fixed_place-requires c = let h = (is_valid c.args.layout c.requires.0).effects.0
 
 pub returns-in-Zz : goal.returns-in-Zz
 returns-in-Zz c = let a = c.args in
-    c.entry_IsPlace.ensures ∙ ap (λ (run : Run). place_of run a.layout a.i a.l) (sym c.in-Zz.is)
+    c.entry_place.ensures ∙ ap (λ (run : Run). place_of run a.layout a.i a.l) (sym c.in-Zz.is)
 
 pub returns-in-Zx : goal.returns-in-Zx
 returns-in-Zx c = let a = c.args in

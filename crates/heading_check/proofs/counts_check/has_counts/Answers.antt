@@ -1,0 +1,5 @@
+use borrow.Author.Rules.{rules}
+use Rattle.heading_check.proofs.counts_check.has_counts.Goals as goal
+
+pub returns : goal.returns
+returns c = cc

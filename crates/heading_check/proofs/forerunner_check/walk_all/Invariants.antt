@@ -1,0 +1,13 @@
+-- `heading_check::forerunner_check::walk_all`: the columns from j on still end as the walk over all does.
+use borrow.Author.Rules.{rules}
+use Prim.Native.Nat.{suc, ◌-◌, ◌*◌, ◌≤◌}
+use Rattle.step_order.specs.Steps.{each, column_steps, rust_order}
+use Rattle.heading_check.specs.stage_check.Walk.{walked, stages_in}
+use Rattle.heading_check.proofs.stage_check.Walks.{Going, going_start, going_more, going_done}
+use Rattle.heading_check.proofs.forerunner_check.walk_all.Given as goal
+
+abbrev pub invariant-loop-j : goal.invariant-loop-j
+invariant-loop-j l = Going (stages_in l.heading) (walked (stages_in l.heading) l.initial.v (each (column_steps l.k) 0 (suc l.k))) (column_steps l.k) l.j (suc l.k) l.v × (l.v.left ≤ 90 * l.j)
+
+abbrev pub decreases-loop-j : goal.decreases-loop-j
+decreases-loop-j l = suc l.k - l.j

@@ -1,9 +1,0 @@
-use mathlib.Core.Path.{sym}
-use lib.Seq.{set_out}
-use borrow.Author.Rules.{rules}
-use Rattle.heading_check.proofs.order_check.put.Statement.{statement}
-use Rattle.heading_check.proofs.order_check.put.Tie as tie
-
-pub put_spec : {M : Type 1} → statement M
-put_spec = tie.close (tie.spec (λ c. search rules) (λ c. search rules) (λ c. search rules)
-    (λ c. sym (set_out _ _ _ (search rules))))
