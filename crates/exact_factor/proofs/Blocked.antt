@@ -11,7 +11,7 @@ use Rattle.step_order.specs.Elimination.{Rules, or_else, in_block, column, value
 use Rattle.step_order.proofs.Invariant.{finished}
 use Rattle.rules.specs.Arithmetic.{Arithmetic}
 use Rattle.rules.specs.Sums.{sum_from, dot}
-use Rattle.rules.specs.Cholesky.{factor, radicand, pivots}
+use Rattle.rules.specs.Cholesky.{radicand, pivots}
 use Rattle.rules.specs.Exact.{Exact}
 use Rattle.rules.proofs.Exact.{forward_solves, factor_factors, pivot_not_null}
 use Rattle.exact_factor.specs.Blocked.{block_rules, products, FactorsBlocks}

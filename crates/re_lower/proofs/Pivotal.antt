@@ -1,5 +1,5 @@
 -- Every pivot that an accepted C leaves is above 0 or NaN, and so never 0 (document 01, Record 4): the root of a radicand that was not refused.
-use Prim.Native.Nat.{ℕ, zero, ◌+◌, ◌≤◌, ◌<◌}
+use Prim.Native.Nat.{ℕ, ◌+◌, ◌≤◌, ◌<◌}
 use mathlib.Core.Path.{◌≡◌, sym, ap, ap₂, subst, ◌∙◌}
 use mathlib.Core.Bool.{false}
 use mathlib.Core.List.{List}

@@ -1,5 +1,5 @@
 -- Records 6 and 7: the deviance, and the finish of the solution (`deviance_from_factor`, `solve_profile_finish`).
-use Rattle.std.specs.Prelude.{ℕ, zero, Bool, cond}
+use Rattle.std.specs.Prelude.{ℕ, Bool, cond}
 use Rattle.rules.specs.Arithmetic.{Arithmetic}
 use Rattle.rules.specs.Sums.{dot, logs_from}
 

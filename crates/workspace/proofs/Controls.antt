@@ -6,7 +6,7 @@ use mathlib.Core.Bool.{true}
 use mathlib.Core.List.{List, [], ◌∷◌, ◌++◌}
 use mathlib.Core.Option.{some}
 use lib.ListN.{replicate, set, take, drop}
-use lib.Ieee.{Float, nan, inf}
+use lib.Ieee.{nan, inf}
 use Rattle.refusal.specs.declared.Answer.TheVariants.{Accepted}
 use Rattle.refusal.specs.Numbers.{refusal, refusal_of, refuse}
 use Rattle.storage.specs.Runs.{tab}

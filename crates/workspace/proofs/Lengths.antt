@@ -1,5 +1,5 @@
 -- Load writes exactly as many doubles and numbers as Record 2's formula says.
-use Prim.Native.Nat.{ℕ, zero, ◌+◌, ◌-◌}
+use Prim.Native.Nat.{ℕ, ◌+◌, ◌-◌}
 use mathlib.Core.Path.{◌≡◌, refl, ap₂, ◌∙◌}
 use mathlib.Core.Bool.{Bool, true, false, cond}
 use mathlib.Core.List.{List, [], ◌∷◌}

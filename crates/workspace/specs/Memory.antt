@@ -1,5 +1,5 @@
 -- A workspace in memory: the heading h and the doubles w, the blocks read out of them, and what load and a refused pivot write (document 01, Records 3 to 5).
-use Rattle.std.specs.Prelude.{ℕ, zero, ◌-◌, Bool, not, ◌&&◌, List, get_or, drop, replicate, Float}
+use Rattle.std.specs.Prelude.{ℕ, ◌-◌, Bool, not, ◌&&◌, List, get_or, drop, replicate, Float}
 use Rattle.storage.specs.Shape.{Shape, size_of, has_cell, cell}
 use Rattle.storage.specs.Part.{part, store}
 use Rattle.rules.specs.Arithmetic.{ieee}

@@ -1,9 +1,7 @@
-use Prim.Native.Nat.{◌-◌}
 use native.Mathlib.Omega.{arith}
 use borrow.Author.Rules.{rules}
-use lib.ListN.{length}
-use Rattle.storage.proofs.Filling.{Filling, filling_none, array_more}
-use Rattle.heading.proofs.Numbers.{behind, read_all}
+use Rattle.storage.proofs.Filling.{filling_none, array_more}
+use Rattle.heading.proofs.Numbers.{read_all}
 use Rattle.heading.proofs.fill.Goals as goal
 
 pub loop-j-init : goal.loop-j-init

@@ -1,10 +1,8 @@
 -- `heading::fill`: the numbers before j are read.
 use Prim.Native.Nat.{◌-◌}
-use native.Mathlib.Omega.{arith}
-use borrow.Author.Rules.{rules}
 use lib.ListN.{length}
-use Rattle.storage.proofs.Filling.{Filling, filling_none, array_more}
-use Rattle.heading.proofs.Numbers.{behind, read_all}
+use Rattle.storage.proofs.Filling.{Filling}
+use Rattle.heading.proofs.Numbers.{behind}
 use Rattle.heading.proofs.fill.Given as goal
 
 abbrev pub invariant-loop-j : goal.invariant-loop-j

@@ -1,5 +1,4 @@
 -- `heading::layout`: number by number, as defined.
-use borrow.Author.Rules.{rules}
 use Rattle.heading.proofs.Numbers.{layout_read}
 use Rattle.heading.proofs.layout.Goals as goal
 

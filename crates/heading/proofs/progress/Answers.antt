@@ -1,5 +1,4 @@
 -- `heading::progress`: number by number, as defined.
-use borrow.Author.Rules.{rules}
 use Rattle.heading.proofs.Numbers.{progress_read}
 use Rattle.heading.proofs.progress.Goals as goal
 

@@ -1,5 +1,4 @@
 -- `heading::state`: 0, 1 or any other number.
-use borrow.Author.Rules.{rules}
 use Rattle.heading.proofs.Numbers.{state_else}
 use Rattle.heading.proofs.state.Goals as goal
 

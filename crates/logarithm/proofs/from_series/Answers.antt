@@ -1,5 +1,4 @@
 -- `logarithm::from_series` meets its contract.
-use Rattle.std.proofs.Common.{rules}
 use Rattle.logarithm.proofs.Centre.{split, part_at, parts_are, sum_fits}
 use Rattle.logarithm.proofs.from_series.Goals as goal
 

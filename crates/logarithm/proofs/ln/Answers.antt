@@ -1,5 +1,5 @@
 -- `logarithm::ln` meets its contract.
-use Rattle.std.proofs.Common.{T, sym, ◌∙◌, subst, rules}
+use Rattle.std.proofs.Common.{T, sym, ◌∙◌, subst}
 use lib.Ieee.{div, neg, of_bits}
 use Rattle.float_bits.specs.declared.double.Kind.TheVariants.{Positive, Zero, Negative, PlusInfinity, NotANumber}
 use Rattle.float_bits.proofs.double.Value.{in_place}

@@ -1,5 +1,4 @@
 -- `logarithm::of_parts` meets its contract.
-use Rattle.std.proofs.Common.{rules}
 use Rattle.logarithm.proofs.Centre.{ratio_small, series_is}
 use Rattle.logarithm.proofs.of_parts.Goals as goal
 

@@ -1,5 +1,4 @@
 -- `logarithm::ratio_of` meets its contract.
-use Rattle.std.proofs.Common.{rules}
 use Rattle.logarithm.proofs.Centre.{quotient_asks, quotient_is}
 use Rattle.logarithm.proofs.ratio_of.Goals as goal
 

@@ -1,11 +1,7 @@
 -- `re_lower::chain`: the invariant is that v is s less the first y products.
-use mathlib.Core.Path.{◌≡◌, refl}
+use mathlib.Core.Path.{◌≡◌}
 use Prim.Native.Nat.{◌≤◌, ◌-◌}
-use native.Mathlib.Omega.{arith}
-use native.Mathlib.Numerals.{add-one}
-use Rattle.rules.specs.Sums.{subtract_from}
 use Rattle.re_lower.specs.Lower.{chained}
-use Rattle.re_lower.proofs.Turns.{chain_turn}
 use Rattle.re_lower.proofs.chain.Given as goal
 
 abbrev pub invariant-loop-y : goal.invariant-loop-y

@@ -1,7 +1,6 @@
 -- `schur::subtract_run`: the sums, then the run.
 use native.Mathlib.Omega.{arith}
 use Rattle.schur.proofs.Turns.{sums_subtracted, lies_as}
-use borrow.Author.Rules.{rules}
 use Rattle.schur.proofs.subtract_run.Goals as goal
 
 pub add_products-requires : goal.add_products-requires

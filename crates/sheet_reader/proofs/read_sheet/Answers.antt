@@ -1,5 +1,4 @@
 -- `sheet_reader::read_sheet`: a sheet that is read ends with its yy line, or something stands behind.
-use Rattle.std.proofs.Common.{rules}
 use Rattle.sheet_reader.proofs.sheet_lines.Sequence.{ends_there, goes_on, stays_refused}
 use Rattle.sheet_reader.proofs.read_sheet.Goals as goal
 

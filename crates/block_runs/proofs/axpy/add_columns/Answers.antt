@@ -1,6 +1,5 @@
 -- `block_runs::axpy::add_columns`: four signed factors, then one call.
 use Rattle.block_runs.proofs.axpy.Sums.{four_signed}
-use borrow.Author.Rules.{rules}
 use Rattle.block_runs.proofs.axpy.add_columns.Goals as goal
 
 pub returns : goal.returns

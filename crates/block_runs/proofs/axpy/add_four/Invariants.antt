@@ -1,10 +1,6 @@
 -- `block_runs::axpy::add_four`: the first i of the sums have their products.
-use borrow.Author.Rules.{rules}
-use mathlib.Core.Path.{refl}
 use Prim.Native.Nat.{◌-◌}
-use native.Mathlib.Omega.{arith}
-use lib.Ieee.{Float, nan}
-use Rattle.storage.proofs.Filling.{Filling, filling_none, filling_next, filling_done}
+use Rattle.storage.proofs.Filling.{Filling}
 use Rattle.rules.specs.Arithmetic.{ieee}
 use Rattle.block_runs.specs.axpy.Axpy.{at, one_more}
 use Rattle.block_runs.proofs.axpy.add_four.Given as goal

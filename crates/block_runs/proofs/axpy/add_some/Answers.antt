@@ -4,7 +4,6 @@ use native.Mathlib.Omega.{arith}
 use lib.ListN.{length}
 use Rattle.block_runs.specs.axpy.Axpy.{at, add_or_subtract}
 use Rattle.block_runs.proofs.axpy.Sums.{one_fits, four_fit, one_added, four_added, one_signed}
-use borrow.Author.Rules.{rules}
 use Rattle.block_runs.proofs.axpy.add_some.Goals as goal
 
 pub overflow_add-from : goal.overflow_add-from

@@ -1,10 +1,7 @@
-use borrow.Author.Rules.{rules}
 use mathlib.Core.Path.{refl}
-use Prim.Native.Nat.{◌-◌}
 use native.Mathlib.Omega.{arith}
 use lib.Ieee.{Float, nan}
-use Rattle.storage.proofs.Filling.{Filling, filling_none, filling_next, filling_done}
-use Rattle.block_runs.specs.axpy.Axpy.{at}
+use Rattle.storage.proofs.Filling.{filling_none, filling_next, filling_done}
 use Rattle.block_runs.specs.axpy_pair.Pair.{four}
 use Rattle.block_runs.proofs.axpy_pair.add_four_pair.Goals as goal
 

@@ -1,12 +1,9 @@
-use borrow.Author.Rules.{rules}
-use mathlib.Core.Path.{◌≡◌, refl}
-use Prim.Native.Nat.{◌-◌, ◌+◌, ◌≤◌}
+use mathlib.Core.Path.{refl}
+use Prim.Native.Nat.{◌+◌, ◌≤◌}
 use native.Mathlib.Omega.{arith}
-use lib.ListN.{length}
 use Rattle.rules.specs.Arithmetic.{ieee}
-use Rattle.block_runs.specs.axpy.Axpy.{products}
 use Rattle.block_runs.proofs.axpy.Sums.{none_added}
-use Rattle.block_runs.proofs.axpy_pair.Laws.{Reached, reached, reached_four, reached_next, four_more_lem}
+use Rattle.block_runs.proofs.axpy_pair.Laws.{reached, reached_four, reached_next, four_more_lem}
 use Rattle.block_runs.proofs.axpy_pair.add_fours_pair.Goals as goal
 
 pub loop-x-init : goal.loop-x-init

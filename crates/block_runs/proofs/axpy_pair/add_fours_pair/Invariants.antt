@@ -1,13 +1,10 @@
 -- `block_runs::axpy_pair::add_fours_pair`: each sum of either list has its first x products.
-use borrow.Author.Rules.{rules}
-use mathlib.Core.Path.{◌≡◌, refl}
-use Prim.Native.Nat.{◌-◌, ◌+◌, ◌≤◌}
-use native.Mathlib.Omega.{arith}
+use mathlib.Core.Path.{◌≡◌}
+use Prim.Native.Nat.{◌-◌, ◌+◌}
 use lib.ListN.{length}
 use Rattle.rules.specs.Arithmetic.{ieee}
 use Rattle.block_runs.specs.axpy.Axpy.{products}
-use Rattle.block_runs.proofs.axpy.Sums.{none_added}
-use Rattle.block_runs.proofs.axpy_pair.Laws.{Reached, reached, reached_four, reached_next, four_more_lem}
+use Rattle.block_runs.proofs.axpy_pair.Laws.{Reached}
 use Rattle.block_runs.proofs.axpy_pair.add_fours_pair.Given as goal
 
 abbrev pub invariant-loop-x : goal.invariant-loop-x

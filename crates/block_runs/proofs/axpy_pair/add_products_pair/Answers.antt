@@ -4,7 +4,6 @@ use Prim.Native.Nat.{◌+◌, ◌*◌}
 use native.Mathlib.Omega.{arith}
 use lib.ListN.{length}
 use Rattle.block_runs.proofs.axpy_pair.Laws.{rest_fits, reached, rest_added}
-use borrow.Author.Rules.{rules}
 use Rattle.block_runs.proofs.axpy_pair.add_products_pair.Goals as goal
 
 pub overflow_mul-p : goal.overflow_mul-p

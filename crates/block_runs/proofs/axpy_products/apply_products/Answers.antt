@@ -1,9 +1,8 @@
-use borrow.Author.Rules.{rules}
 use mathlib.Core.Path.{◌≡◌, refl, ap, ◌∙◌}
-use Prim.Native.Nat.{◌≤◌, ◌-◌, ◌+◌}
+use Prim.Native.Nat.{◌≤◌, ◌+◌}
 use native.Mathlib.Omega.{arith}
 use lib.ListN.{length}
-use Rattle.storage.specs.Runs.{start, dense}
+use Rattle.storage.specs.Runs.{dense}
 use Rattle.storage.proofs.Starts.{start_dense, start_le}
 use Rattle.block_runs.specs.axpy.Axpy.{products, add_or_subtract}
 use Rattle.block_runs.proofs.axpy.Sums.{left_fits, next_start, none_added, more_added}

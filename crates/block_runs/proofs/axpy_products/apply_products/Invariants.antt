@@ -1,13 +1,9 @@
 -- `block_runs::axpy_products::apply_products`: each sum has its first x products.
-use borrow.Author.Rules.{rules}
-use mathlib.Core.Path.{◌≡◌, refl, ap, ◌∙◌}
+use mathlib.Core.Path.{◌≡◌}
 use Prim.Native.Nat.{◌≤◌, ◌-◌, ◌+◌}
-use native.Mathlib.Omega.{arith}
 use lib.ListN.{length}
 use Rattle.storage.specs.Runs.{start, dense}
-use Rattle.storage.proofs.Starts.{start_dense, start_le}
 use Rattle.block_runs.specs.axpy.Axpy.{products, add_or_subtract}
-use Rattle.block_runs.proofs.axpy.Sums.{left_fits, next_start, none_added, more_added}
 use Rattle.block_runs.proofs.axpy_products.apply_products.Given as goal
 
 abbrev pub invariant-loop-x : goal.invariant-loop-x

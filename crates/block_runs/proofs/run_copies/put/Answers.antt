@@ -3,7 +3,6 @@ use mathlib.Core.Path.{refl}
 use native.Mathlib.Omega.{arith}
 use Rattle.block_runs.specs.axpy.Axpy.{at}
 use Rattle.block_runs.proofs.run_differences.Lent.{lent_run}
-use borrow.Author.Rules.{rules}
 use Rattle.block_runs.proofs.run_copies.put.Goals as goal
 
 pub returns : goal.returns

@@ -1,9 +1,6 @@
 -- `block_runs::run_copies::put_part`: the first i doubles are put.
-use borrow.Author.Rules.{rules}
-use mathlib.Core.Path.{refl}
 use Prim.Native.Nat.{◌-◌}
-use native.Mathlib.Omega.{arith}
-use Rattle.storage.proofs.Filling.{Filling, filling_none, filling_more, filling_done}
+use Rattle.storage.proofs.Filling.{Filling}
 use Rattle.block_runs.specs.axpy.Axpy.{at}
 use Rattle.block_runs.proofs.run_copies.put_part.Given as goal
 

@@ -7,7 +7,6 @@ use lib.Ieee.{Float}
 use Rattle.rules.specs.Arithmetic.{ieee}
 use Rattle.block_runs.specs.axpy.Axpy.{at}
 use Rattle.block_runs.proofs.run_differences.Lent.{lent_run, lent_read}
-use borrow.Author.Rules.{rules}
 use Rattle.block_runs.proofs.run_quotients.divide.Goals as goal
 
 pub returns : goal.returns

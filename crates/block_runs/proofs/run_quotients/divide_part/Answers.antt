@@ -1,11 +1,8 @@
-use borrow.Author.Rules.{rules}
 use mathlib.Core.Path.{refl}
-use Prim.Native.Nat.{◌-◌, ◌+◌}
 use native.Mathlib.Omega.{arith}
 use lib.Ieee.{Float, nan}
-use Rattle.storage.proofs.Filling.{Filling, filling_none, filling_next, filling_done}
+use Rattle.storage.proofs.Filling.{filling_none, filling_next, filling_done}
 use Rattle.rules.specs.Arithmetic.{ieee}
-use Rattle.block_runs.specs.axpy.Axpy.{at}
 use Rattle.block_runs.proofs.run_quotients.divide_part.Goals as goal
 
 pub loop-i-init : goal.loop-i-init

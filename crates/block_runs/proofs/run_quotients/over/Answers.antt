@@ -4,7 +4,6 @@ use native.Mathlib.Omega.{arith}
 use Rattle.rules.specs.Arithmetic.{ieee}
 use Rattle.block_runs.specs.axpy.Axpy.{at}
 use Rattle.block_runs.proofs.run_differences.Lent.{lent_run}
-use borrow.Author.Rules.{rules}
 use Rattle.block_runs.proofs.run_quotients.over.Goals as goal
 
 pub returns : goal.returns

@@ -1,10 +1,6 @@
-use borrow.Author.Rules.{rules}
 use mathlib.Core.Path.{refl}
-use Prim.Native.Nat.{◌-◌}
 use native.Mathlib.Omega.{arith}
-use Rattle.storage.proofs.Filling.{Filling, filling_none, filling_more, filling_done}
-use Rattle.rules.specs.Arithmetic.{ieee}
-use Rattle.block_runs.specs.axpy.Axpy.{at}
+use Rattle.storage.proofs.Filling.{filling_none, filling_more, filling_done}
 use Rattle.block_runs.proofs.run_quotients.over_part.Goals as goal
 
 pub loop-i-init : goal.loop-i-init

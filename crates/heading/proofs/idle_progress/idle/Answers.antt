@@ -1,7 +1,6 @@
 -- `heading::idle_progress::idle`: every step is left.
 use mathlib.Core.Path.{ap, ◌∙◌}
 use Rattle.heading_format.specs.declared.State.TheVariants.{Idle}
-use borrow.Author.Rules.{rules}
 use Rattle.heading_format.specs.Heading.{undone}
 use Rattle.heading.proofs.idle_progress.idle.Goals as goal
 

@@ -1,7 +1,6 @@
 -- `heading::idle_progress::step_count_lem`: the closed formula.
 use native.Mathlib.Omega.{arith}
 use Rattle.heading.proofs.idle_progress.Count.{pair_small, triple_small, step_count_lem}
-use borrow.Author.Rules.{rules}
 use Rattle.heading.proofs.idle_progress.step_count.Goals as goal
 
 pub overflow_mul-result : goal.overflow_mul-result

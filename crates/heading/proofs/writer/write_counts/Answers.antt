@@ -1,5 +1,4 @@
 -- `heading::writer::write_counts`: one after the other.
-use borrow.Author.Rules.{rules}
 use Rattle.heading.proofs.Numbers.{counts_stored}
 use Rattle.heading.proofs.writer.write_counts.Goals as goal
 

@@ -1,7 +1,6 @@
-use Prim.Native.Nat.{◌-◌}
 use borrow.Author.Rules.{rules}
-use Rattle.storage.proofs.Filling.{Filling, filling_none, filling_more}
-use Rattle.heading.proofs.Numbers.{each, stored_all}
+use Rattle.storage.proofs.Filling.{filling_none, filling_more}
+use Rattle.heading.proofs.Numbers.{stored_all}
 use Rattle.heading.proofs.writer.write_numbers.Goals as goal
 
 pub loop-j-init : goal.loop-j-init

@@ -1,8 +1,7 @@
 -- `heading::writer::write_numbers`: the numbers before j are written.
 use Prim.Native.Nat.{◌-◌}
-use borrow.Author.Rules.{rules}
-use Rattle.storage.proofs.Filling.{Filling, filling_none, filling_more}
-use Rattle.heading.proofs.Numbers.{each, stored_all}
+use Rattle.storage.proofs.Filling.{Filling}
+use Rattle.heading.proofs.Numbers.{each}
 use Rattle.heading.proofs.writer.write_numbers.Given as goal
 
 abbrev pub invariant-loop-j : goal.invariant-loop-j

@@ -1,6 +1,5 @@
 -- The state follows from whether the steps left were one.
 use native.Mathlib.Omega.{arith}
-use borrow.Author.Rules.{rules}
 use borrow.Author.Tests.{eq-eqb, ne_eqb}
 use Rattle.heading_format.proofs.Progress.mark.Goals as goal
 

@@ -1,5 +1,5 @@
 -- `logarithm::division::guess` meets its contract: it is in range, and no float is NaN where its bits are asked.
-use Rattle.std.proofs.Common.{◌+◌, arith, rules}
+use Rattle.std.proofs.Common.{◌+◌, arith}
 use Rattle.float_bits.proofs.double.Bits.{number_below, equal_itself}
 use Rattle.logarithm.proofs.division.guess.Goals as goal
 

@@ -1,5 +1,5 @@
 -- `logarithm::division::in_units` meets its contract.
-use Rattle.std.proofs.Common.{◌+◌, arith, rules}
+use Rattle.std.proofs.Common.{◌+◌, arith}
 use Rattle.float_bits.proofs.double.Bits.{number_below}
 use Rattle.logarithm.proofs.division.Floats.{in_floats}
 use Rattle.logarithm.proofs.division.in_units.Goals as goal

@@ -1,5 +1,5 @@
-use Rattle.std.proofs.Common.{◌-◌, ◌*◌, ◌/◌, ◌^◌, ◌<◌, arith}
-use Rattle.logarithm.proofs.division.Words.{Divided, digit, first_digit, next_digit, quotient_fits, last_digit}
+use Rattle.std.proofs.Common.{◌*◌, ◌/◌, ◌^◌, ◌<◌, arith}
+use Rattle.logarithm.proofs.division.Words.{digit, first_digit, next_digit, quotient_fits, last_digit}
 use Rattle.logarithm.proofs.division.long_division.Goals as goal
 
 fits_q : (c : goal.In-loop-i) → c.loop-i.q < 4 ^ 30

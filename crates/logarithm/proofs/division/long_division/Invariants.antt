@@ -1,6 +1,6 @@
 -- `logarithm::division::long_division` meets its contract. The measure is the number of turns left.
-use Rattle.std.proofs.Common.{◌-◌, ◌*◌, ◌/◌, ◌^◌, ◌<◌, arith}
-use Rattle.logarithm.proofs.division.Words.{Divided, digit, first_digit, next_digit, quotient_fits, last_digit}
+use Rattle.std.proofs.Common.{◌-◌}
+use Rattle.logarithm.proofs.division.Words.{Divided}
 use Rattle.logarithm.proofs.division.long_division.Given as goal
 
 abbrev pub invariant-loop-i : goal.invariant-loop-i

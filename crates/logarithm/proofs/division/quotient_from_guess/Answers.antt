@@ -1,5 +1,5 @@
 -- `logarithm::division::quotient_from_guess` meets its contract.
-use Rattle.std.proofs.Common.{refl, arith, rules}
+use Rattle.std.proofs.Common.{refl, arith}
 use Rattle.logarithm.proofs.division.Words.{high_small, quotient_is, shift_fits, below_pos, sum_fits}
 use Rattle.logarithm.proofs.division.quotient_from_guess.Goals as goal
 

@@ -1,5 +1,5 @@
-use Rattle.std.proofs.Common.{◌+◌, ◌-◌, ◌*◌, div-le_self, arith, rules}
-use Rattle.logarithm.proofs.series.Words.{Summing, four, t_small, first_term, next_term, term_fits, product_small, last_term}
+use Rattle.std.proofs.Common.{◌+◌, ◌-◌, ◌*◌, div-le_self, arith}
+use Rattle.logarithm.proofs.series.Words.{four, t_small, first_term, next_term, term_fits, product_small, last_term}
 use Rattle.logarithm.proofs.series.artanh_series.Goals as goal
 
 pub overflow_mul-t : goal.overflow_mul-t

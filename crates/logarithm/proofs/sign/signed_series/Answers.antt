@@ -1,5 +1,4 @@
 -- `logarithm::sign::signed_series` meets its contract.
-use Rattle.std.proofs.Common.{rules}
 use Rattle.logarithm.proofs.sign.Words.{taken, left}
 use Rattle.logarithm.proofs.sign.signed_series.Goals as goal
 

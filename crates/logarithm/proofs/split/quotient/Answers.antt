@@ -1,5 +1,5 @@
 -- `logarithm::split::quotient` meets its contract.
-use Rattle.std.proofs.Common.{ℕ, ◌+◌, ◌^◌, ap, ◌∙◌, rules}
+use Rattle.std.proofs.Common.{ℕ, ◌+◌, ◌^◌, ap, ◌∙◌}
 use Rattle.logarithm.specs.fixed_point.Units.{ratio}
 use Rattle.logarithm.proofs.split.quotient.Goals as goal
 

@@ -1,5 +1,4 @@
 -- `logarithm::split::sum_of_parts` meets its contract.
-use Rattle.std.proofs.Common.{rules}
 use Rattle.logarithm.proofs.split.Together.{y_small, sum_is}
 use Rattle.logarithm.proofs.split.sum_of_parts.Goals as goal
 

@@ -1,12 +1,10 @@
 -- `re_lower::back_substitution::backward`: the invariant is that the cells from i on are solved and nothing else has changed.
-use mathlib.Core.Path.{◌≡◌, refl, ap, ◌∙◌}
-use Prim.Native.Nat.{ℕ, ◌≤◌, ◌-◌, ◌+◌, suc}
-use native.Mathlib.Omega.{arith}
-use lib.ListN.{length, length-set}
+use mathlib.Core.Path.{◌≡◌}
+use Prim.Native.Nat.{◌≤◌, ◌-◌}
+use lib.ListN.{length}
 use Rattle.storage.specs.Runs.{start, triangle}
 use Rattle.storage.specs.Part.{store}
-use Rattle.storage.proofs.Starts.{start_triangle, start_le}
-use Rattle.re_lower.proofs.Back.{start_half, start_before, back_to, back_none, back_all, back_turn}
+use Rattle.re_lower.proofs.Back.{back_to}
 use Rattle.re_lower.proofs.back_substitution.backward.Given as goal
 
 abbrev pub invariant-loop-i : goal.invariant-loop-i

@@ -1,11 +1,8 @@
 -- `re_lower::back_substitution::chain_column`: the invariant is that v is s less the products of the rows before q.
-use mathlib.Core.Path.{◌≡◌, ap, ◌∙◌}
-use Prim.Native.Nat.{◌≤◌, ◌<◌, ◌-◌, ◌+◌, suc}
-use native.Mathlib.Omega.{arith}
-use native.Mathlib.Numerals.{add-one}
+use mathlib.Core.Path.{◌≡◌}
+use Prim.Native.Nat.{◌≤◌, ◌<◌, ◌-◌, suc}
 use Rattle.storage.specs.Runs.{start, triangle}
-use Rattle.storage.proofs.Starts.{start_below}
-use Rattle.re_lower.proofs.Back.{column_to, column_none, column_turn}
+use Rattle.re_lower.proofs.Back.{column_to}
 use Rattle.re_lower.proofs.back_substitution.chain_column.Given as goal
 
 abbrev pub invariant-loop-q : goal.invariant-loop-q

@@ -5,7 +5,6 @@ use Rattle.storage.specs.Runs.{triangle}
 use Rattle.storage.proofs.Starts.{start_triangle, start_le}
 use Rattle.re_lower.proofs.Back.{start_half}
 use Rattle.re_lower.proofs.Band.{row_back}
-use borrow.Author.Rules.{rules}
 use Rattle.re_lower.proofs.band_row.band_row.Goals as goal
 
 pub put_row-requires : goal.put_row-requires

@@ -1,11 +1,10 @@
 use mathlib.Core.Path.{◌≡◌, refl}
-use Prim.Native.Nat.{◌≤◌, ◌-◌, ◌+◌, suc}
+use Prim.Native.Nat.{◌≤◌, ◌+◌, suc}
 use native.Mathlib.Omega.{arith}
 use native.Mathlib.Numerals.{add-one}
-use lib.ListN.{length, length-set}
+use lib.ListN.{length-set}
 use Rattle.storage.specs.Runs.{start, triangle}
 use Rattle.storage.proofs.Starts.{start_below}
-use Rattle.re_lower.specs.Band.{LeftOfPivotFrom}
 use Rattle.re_lower.proofs.Turns.{row_turn}
 use Rattle.re_lower.proofs.band_row.row_left_of_pivot.Goals as goal
 

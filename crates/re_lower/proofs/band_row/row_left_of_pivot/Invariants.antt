@@ -1,13 +1,9 @@
 -- `re_lower::band_row::row_left_of_pivot`: the invariant is that the first c cells of the row are solved and nothing else has changed, whatever list the first c0 were solved in.
-use mathlib.Core.Path.{◌≡◌, refl}
-use Prim.Native.Nat.{◌≤◌, ◌-◌, ◌+◌, suc}
-use native.Mathlib.Omega.{arith}
-use native.Mathlib.Numerals.{add-one}
-use lib.ListN.{length, length-set}
+use mathlib.Core.Path.{◌≡◌}
+use Prim.Native.Nat.{◌≤◌, ◌-◌}
+use lib.ListN.{length}
 use Rattle.storage.specs.Runs.{start, triangle}
-use Rattle.storage.proofs.Starts.{start_below}
 use Rattle.re_lower.specs.Band.{LeftOfPivotFrom}
-use Rattle.re_lower.proofs.Turns.{row_turn}
 use Rattle.re_lower.proofs.band_row.row_left_of_pivot.Given as goal
 
 abbrev pub invariant-loop-c : goal.invariant-loop-c

@@ -4,7 +4,6 @@ use native.Mathlib.Omega.{arith}
 use Rattle.storage.specs.Runs.{triangle}
 use Rattle.storage.proofs.Starts.{start_le}
 use Rattle.re_lower.proofs.Band.{band_ready}
-use borrow.Author.Rules.{rules}
 use Rattle.re_lower.proofs.cholesky.next_band.Goals as goal
 
 pub returns-then-x-n : goal.returns-then-x-n

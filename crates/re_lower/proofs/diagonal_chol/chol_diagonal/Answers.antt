@@ -1,16 +1,14 @@
 use mathlib.Core.Path.{◌≡◌, refl, sym, ap, ◌∙◌}
-use Prim.Native.Nat.{ℕ, ◌≤◌, ◌-◌}
+use Prim.Native.Nat.{ℕ}
 use native.Mathlib.Omega.{arith}
 use native.Mathlib.Numerals.{add-one}
-use borrow.Author.Rules.{rules}
-use lib.ListN.{length, length-set}
-use mathlib.Core.Option.{none}
+use lib.ListN.{length-set}
 use Rattle.storage.specs.Runs.{tab}
 use Rattle.storage.specs.Part.{store}
 use Rattle.storage.proofs.Parts.{store_nil}
 use Rattle.storage.proofs.Blocks.{fill_diagonal}
 use Rattle.rules.specs.Arithmetic.{ieee}
-use Rattle.rules.specs.Cholesky.{first_bad, pivots}
+use Rattle.rules.specs.Cholesky.{first_bad}
 use Rattle.re_lower.specs.Lower.{pivot, answer_of}
 use Rattle.re_lower.proofs.Laws.{goes_on, refused_at_lem}
 use Rattle.re_lower.proofs.Turns.{roots_to, root_own, root_turn}

@@ -1,20 +1,13 @@
 -- `re_lower::diagonal_chol::chol_diagonal`: the invariant is that the first r cells are the roots of what stood there, and none was refused.
-use mathlib.Core.Path.{◌≡◌, refl, sym, ap, ◌∙◌}
-use Prim.Native.Nat.{ℕ, ◌≤◌, ◌-◌}
-use native.Mathlib.Omega.{arith}
-use native.Mathlib.Numerals.{add-one}
-use borrow.Author.Rules.{rules}
-use lib.ListN.{length, length-set}
+use mathlib.Core.Path.{◌≡◌}
+use Prim.Native.Nat.{◌≤◌, ◌-◌}
+use lib.ListN.{length}
 use mathlib.Core.Option.{none}
-use Rattle.storage.specs.Runs.{tab}
 use Rattle.storage.specs.Part.{store}
-use Rattle.storage.proofs.Parts.{store_nil}
-use Rattle.storage.proofs.Blocks.{fill_diagonal}
 use Rattle.rules.specs.Arithmetic.{ieee}
-use Rattle.rules.specs.Cholesky.{first_bad, pivots}
-use Rattle.re_lower.specs.Lower.{pivot, answer_of}
-use Rattle.re_lower.proofs.Laws.{goes_on, refused_at_lem}
-use Rattle.re_lower.proofs.Turns.{roots_to, root_own, root_turn}
+use Rattle.rules.specs.Cholesky.{pivots}
+use Rattle.re_lower.specs.Lower.{pivot}
+use Rattle.re_lower.proofs.Turns.{roots_to}
 use Rattle.re_lower.proofs.diagonal_chol.chol_diagonal.Given as goal
 
 abbrev pub invariant-loop-r : goal.invariant-loop-r

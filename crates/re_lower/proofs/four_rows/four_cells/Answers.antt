@@ -1,8 +1,8 @@
 use mathlib.Core.Path.{◌≡◌, refl}
-use Prim.Native.Nat.{◌≤◌, ◌-◌, ◌+◌, ◌*◌, suc}
+use Prim.Native.Nat.{◌+◌, ◌*◌, suc}
 use native.Mathlib.Omega.{arith}
 use lib.ListN.{length-set}
-use Rattle.re_lower.specs.Band.{lane, lane_chain, next_cell}
+use Rattle.re_lower.specs.Band.{next_cell}
 use Rattle.re_lower.proofs.Band.{lane_start, lane_turn, lane_done, four_written}
 use Rattle.re_lower.proofs.four_rows.four_cells.Goals as goal
 

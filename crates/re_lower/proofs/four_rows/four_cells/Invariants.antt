@@ -1,10 +1,7 @@
 -- `re_lower::four_rows::four_cells`: the invariant is that each of the four is its cell less the first y products.
-use mathlib.Core.Path.{◌≡◌, refl}
-use Prim.Native.Nat.{◌≤◌, ◌-◌, ◌+◌, ◌*◌, suc}
-use native.Mathlib.Omega.{arith}
-use lib.ListN.{length-set}
-use Rattle.re_lower.specs.Band.{lane, lane_chain, next_cell}
-use Rattle.re_lower.proofs.Band.{lane_start, lane_turn, lane_done, four_written}
+use mathlib.Core.Path.{◌≡◌}
+use Prim.Native.Nat.{◌≤◌, ◌-◌}
+use Rattle.re_lower.specs.Band.{lane, lane_chain}
 use Rattle.re_lower.proofs.four_rows.four_cells.Given as goal
 
 abbrev pub invariant-loop-y : goal.invariant-loop-y

@@ -1,12 +1,10 @@
 use mathlib.Core.Path.{◌≡◌, refl, sym, ap, ◌∙◌}
-use Prim.Native.Nat.{◌≤◌, ◌-◌, ◌+◌, suc}
+use Prim.Native.Nat.{◌≤◌, ◌+◌, suc}
 use native.Mathlib.Omega.{arith}
 use native.Mathlib.Numerals.{add-one}
 use native.Mathlib.Nat.{add-zero}
-use lib.ListN.{length}
 use Rattle.storage.specs.Runs.{start, triangle}
 use Rattle.storage.proofs.Starts.{start_below}
-use Rattle.re_lower.specs.Band.{BandGathered}
 use Rattle.re_lower.proofs.Band.{band_turn}
 use Rattle.re_lower.proofs.four_rows.gather.Goals as goal
 

@@ -1,14 +1,9 @@
 -- `re_lower::four_rows::gather`: the invariant is that the first i rows are there.
-use mathlib.Core.Path.{◌≡◌, refl, sym, ap, ◌∙◌}
-use Prim.Native.Nat.{◌≤◌, ◌-◌, ◌+◌, suc}
-use native.Mathlib.Omega.{arith}
-use native.Mathlib.Numerals.{add-one}
-use native.Mathlib.Nat.{add-zero}
+use mathlib.Core.Path.{◌≡◌}
+use Prim.Native.Nat.{◌≤◌, ◌-◌, ◌+◌}
 use lib.ListN.{length}
 use Rattle.storage.specs.Runs.{start, triangle}
-use Rattle.storage.proofs.Starts.{start_below}
 use Rattle.re_lower.specs.Band.{BandGathered}
-use Rattle.re_lower.proofs.Band.{band_turn}
 use Rattle.re_lower.proofs.four_rows.gather.Given as goal
 
 abbrev pub invariant-loop-i : goal.invariant-loop-i

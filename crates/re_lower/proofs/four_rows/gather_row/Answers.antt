@@ -1,9 +1,7 @@
 use mathlib.Core.Path.{◌≡◌, refl}
-use Prim.Native.Nat.{◌≤◌, ◌-◌}
 use native.Mathlib.Omega.{arith}
 use native.Mathlib.Numerals.{add-one}
-use lib.ListN.{length, length-set}
-use Rattle.re_lower.specs.Band.{Gathered}
+use lib.ListN.{length-set}
 use Rattle.re_lower.proofs.Band.{gather_turn}
 use Rattle.re_lower.proofs.four_rows.gather_row.Goals as goal
 

@@ -1,11 +1,8 @@
 -- `re_lower::four_rows::gather_row`: the invariant is that the first c cells are there and the other rows as they were.
-use mathlib.Core.Path.{◌≡◌, refl}
+use mathlib.Core.Path.{◌≡◌}
 use Prim.Native.Nat.{◌≤◌, ◌-◌}
-use native.Mathlib.Omega.{arith}
-use native.Mathlib.Numerals.{add-one}
-use lib.ListN.{length, length-set}
+use lib.ListN.{length}
 use Rattle.re_lower.specs.Band.{Gathered}
-use Rattle.re_lower.proofs.Band.{gather_turn}
 use Rattle.re_lower.proofs.four_rows.gather_row.Given as goal
 
 abbrev pub invariant-loop-c : goal.invariant-loop-c

@@ -1,13 +1,8 @@
 -- `re_lower::four_rows::put_row`: the invariant is that the first c cells are there and nothing else has changed.
-use mathlib.Core.Path.{◌≡◌, refl, sym, ap, ◌∙◌}
-use Prim.Native.Nat.{◌≤◌, ◌<◌, ◌-◌}
-use native.Mathlib.Omega.{arith}
-use native.Mathlib.Numerals.{add-one}
-use lib.ListN.{length, length-set}
-use Rattle.storage.specs.Runs.{tab}
-use Rattle.storage.proofs.Parts.{store_nil}
+use mathlib.Core.Path.{◌≡◌}
+use Prim.Native.Nat.{◌≤◌, ◌-◌}
+use lib.ListN.{length}
 use Rattle.re_lower.specs.Band.{lane_stored}
-use Rattle.re_lower.proofs.Band.{put_turn}
 use Rattle.re_lower.proofs.four_rows.put_row.Given as goal
 
 abbrev pub invariant-loop-c : goal.invariant-loop-c

@@ -1,13 +1,11 @@
 use mathlib.Core.Path.{◌≡◌, refl}
-use Prim.Native.Nat.{ℕ, ◌≤◌, ◌-◌, ◌*◌, ◌+◌}
+use Prim.Native.Nat.{◌≤◌, ◌*◌, ◌+◌}
 use native.Mathlib.Omega.{arith}
 use native.Mathlib.Numerals.{add-one}
 use lib.ListN.{length}
 use Rattle.storage.specs.Runs.{start, triangle}
 use Rattle.storage.proofs.Starts.{start_below}
-use Rattle.rules.specs.Arithmetic.{ieee}
-use Rattle.rules.specs.Cholesky.{at}
-use Rattle.re_lower.specs.Band.{FourSolved, four_done}
+use Rattle.re_lower.specs.Band.{four_done}
 use Rattle.re_lower.proofs.Band.{four_rest, four_solved}
 use Rattle.re_lower.proofs.four_rows.solve_four.Goals as goal
 

@@ -1,15 +1,11 @@
 -- `re_lower::four_rows::solve_four`: the invariant is that the first c cells of each row are solved and nothing behind them has changed.
-use mathlib.Core.Path.{◌≡◌, refl}
-use Prim.Native.Nat.{ℕ, ◌≤◌, ◌-◌, ◌*◌, ◌+◌}
-use native.Mathlib.Omega.{arith}
-use native.Mathlib.Numerals.{add-one}
+use mathlib.Core.Path.{◌≡◌}
+use Prim.Native.Nat.{ℕ, ◌≤◌, ◌-◌, ◌*◌}
 use lib.ListN.{length}
 use Rattle.storage.specs.Runs.{start, triangle}
-use Rattle.storage.proofs.Starts.{start_below}
 use Rattle.rules.specs.Arithmetic.{ieee}
 use Rattle.rules.specs.Cholesky.{at}
-use Rattle.re_lower.specs.Band.{FourSolved, four_done}
-use Rattle.re_lower.proofs.Band.{four_rest, four_solved}
+use Rattle.re_lower.specs.Band.{FourSolved}
 use Rattle.re_lower.proofs.four_rows.solve_four.Given as goal
 
 abbrev pub invariant-loop-c : goal.invariant-loop-c

@@ -1,6 +1,5 @@
-use borrow.Author.Rules.{rules}
 use mathlib.Core.Path.{◌≡◌, refl, ap}
-use Prim.Native.Nat.{◌≤◌, ◌-◌, ◌+◌}
+use Prim.Native.Nat.{◌+◌}
 use native.Mathlib.Omega.{arith}
 use native.Mathlib.Numerals.{add-one}
 use Rattle.storage.specs.Runs.{start, single}
@@ -8,7 +7,7 @@ use Rattle.storage.proofs.Starts.{start_single}
 use Rattle.rules.specs.Sums.{logs_from}
 use Rattle.rules.specs.Cholesky.{at}
 use Rattle.rules.specs.Arithmetic.{ieee}
-use Rattle.re_lower.specs.Lower.{pivot, logs_of_diagonal}
+use Rattle.re_lower.specs.Lower.{pivot}
 use Rattle.re_lower.proofs.Turns.{log_turn}
 use Rattle.re_lower.proofs.pivot_logs.log_diagonal.Goals as goal
 

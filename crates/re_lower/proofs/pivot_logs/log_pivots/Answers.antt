@@ -1,6 +1,5 @@
-use borrow.Author.Rules.{rules}
 use mathlib.Core.Path.{◌≡◌, refl, ap}
-use Prim.Native.Nat.{ℕ, ◌≤◌, ◌-◌, ◌+◌, suc}
+use Prim.Native.Nat.{ℕ, ◌≤◌, ◌+◌, suc}
 use native.Mathlib.Omega.{arith}
 use native.Mathlib.Numerals.{add-one}
 use Rattle.storage.specs.Runs.{start, triangle}
@@ -8,7 +7,7 @@ use Rattle.storage.proofs.Starts.{start_below}
 use Rattle.rules.specs.Sums.{logs_from}
 use Rattle.rules.specs.Cholesky.{at}
 use Rattle.rules.specs.Arithmetic.{ieee}
-use Rattle.re_lower.specs.Lower.{lower, logs_of_triangle}
+use Rattle.re_lower.specs.Lower.{lower}
 use Rattle.re_lower.proofs.Turns.{log_turn}
 use Rattle.re_lower.proofs.pivot_logs.log_pivots.Goals as goal
 

@@ -1,16 +1,8 @@
 -- `re_lower::pivot_logs::log_pivots`: the invariant is that v is s and the first r logarithms.
-use borrow.Author.Rules.{rules}
-use mathlib.Core.Path.{◌≡◌, refl, ap}
-use Prim.Native.Nat.{ℕ, ◌≤◌, ◌-◌, ◌+◌, suc}
-use native.Mathlib.Omega.{arith}
-use native.Mathlib.Numerals.{add-one}
+use mathlib.Core.Path.{◌≡◌}
+use Prim.Native.Nat.{◌≤◌, ◌-◌}
 use Rattle.storage.specs.Runs.{start, triangle}
-use Rattle.storage.proofs.Starts.{start_below}
-use Rattle.rules.specs.Sums.{logs_from}
-use Rattle.rules.specs.Cholesky.{at}
-use Rattle.rules.specs.Arithmetic.{ieee}
-use Rattle.re_lower.specs.Lower.{lower, logs_of_triangle}
-use Rattle.re_lower.proofs.Turns.{log_turn}
+use Rattle.re_lower.specs.Lower.{logs_of_triangle}
 use Rattle.re_lower.proofs.pivot_logs.log_pivots.Given as goal
 
 abbrev pub invariant-loop-r : goal.invariant-loop-r

@@ -1,11 +1,9 @@
 use mathlib.Core.Path.{◌≡◌, refl}
-use Prim.Native.Nat.{◌≤◌, ◌-◌}
 use native.Mathlib.Omega.{arith}
 use native.Mathlib.Numerals.{add-one}
 use native.Mathlib.Nat.{zero-add}
 use mathlib.Core.Path.{sym}
 use Rattle.rules.specs.Sums.{subtract_from}
-use Rattle.re_lower.specs.Lower.{chained}
 use Rattle.re_lower.proofs.Turns.{chain_turn}
 use Rattle.re_lower.proofs.substitution.chain_row.Goals as goal
 

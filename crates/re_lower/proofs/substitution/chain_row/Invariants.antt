@@ -1,13 +1,7 @@
 -- `re_lower::substitution::chain_row`: the invariant is that v is s less the first y products.
-use mathlib.Core.Path.{◌≡◌, refl}
+use mathlib.Core.Path.{◌≡◌}
 use Prim.Native.Nat.{◌≤◌, ◌-◌}
-use native.Mathlib.Omega.{arith}
-use native.Mathlib.Numerals.{add-one}
-use native.Mathlib.Nat.{zero-add}
-use mathlib.Core.Path.{sym}
-use Rattle.rules.specs.Sums.{subtract_from}
 use Rattle.re_lower.specs.Lower.{chained}
-use Rattle.re_lower.proofs.Turns.{chain_turn}
 use Rattle.re_lower.proofs.substitution.chain_row.Given as goal
 
 abbrev pub invariant-loop-y : goal.invariant-loop-y

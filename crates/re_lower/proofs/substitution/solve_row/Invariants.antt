@@ -1,16 +1,10 @@
 -- `re_lower::substitution::solve_row`: the invariant is that the first x cells are solved and nothing else has changed.
-use mathlib.Core.Path.{◌≡◌, refl, sym, ap, ◌∙◌}
+use mathlib.Core.Path.{◌≡◌}
 use Prim.Native.Nat.{◌≤◌, ◌-◌}
-use native.Mathlib.Omega.{arith}
-use native.Mathlib.Numerals.{add-one}
-use lib.ListN.{length, length-set}
-use Prim.Native.Nat.{ℕ}
+use lib.ListN.{length}
 use Rattle.storage.specs.Runs.{start, triangle}
 use Rattle.storage.specs.Part.{store}
-use Rattle.storage.proofs.Starts.{start_below}
-use Rattle.storage.proofs.Parts.{store_nil}
-use Rattle.rules.specs.Cholesky.{forward}
-use Rattle.re_lower.proofs.Turns.{row_to, solve_turn}
+use Rattle.re_lower.proofs.Turns.{row_to}
 use Rattle.re_lower.proofs.substitution.solve_row.Given as goal
 
 abbrev pub invariant-loop-x : goal.invariant-loop-x

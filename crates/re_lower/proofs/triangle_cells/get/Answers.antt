@@ -1,7 +1,6 @@
 -- `re_lower::triangle_cells::get`: the start of row r is where the table says.
 use Prim.Native.Nat.{ℕ, ◌+◌}
 use mathlib.Core.Path.{ap, ◌∙◌}
-use borrow.Author.Rules.{rules}
 use native.Mathlib.Omega.{arith}
 use lib.Ieee.{nan}
 use Rattle.rules.specs.Arithmetic.{ieee}

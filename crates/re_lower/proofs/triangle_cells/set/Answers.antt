@@ -1,7 +1,6 @@
 -- `re_lower::triangle_cells::set`: the start of row r is where the table says.
 use Prim.Native.Nat.{ℕ, ◌+◌}
 use mathlib.Core.Path.{ap}
-use borrow.Author.Rules.{rules}
 use native.Mathlib.Omega.{arith}
 use Rattle.re_lower.proofs.Band.{set_one}
 use Rattle.re_lower.proofs.triangle_cells.set.Goals as goal

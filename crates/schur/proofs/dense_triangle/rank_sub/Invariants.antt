@@ -1,13 +1,10 @@
 -- `schur::dense_triangle::rank_sub`: the first r rows are written.
-use mathlib.Core.Path.{◌≡◌, refl}
+use mathlib.Core.Path.{◌≡◌}
 use Prim.Native.Nat.{◌-◌}
-use native.Mathlib.Omega.{arith}
 use lib.ListN.{length}
-use Rattle.storage.specs.Placed.{as_triangle, as_columns}
+use Rattle.storage.specs.Placed.{as_triangle}
 use Rattle.schur.specs.Schur.{subtract_squares}
-use Rattle.block_runs.proofs.blocks.Going.{Going, going_none, going_room, going_all, turn}
-use Rattle.schur.proofs.Turns.{subtract_sum, sums_swapped}
-use borrow.Author.Rules.{rules}
+use Rattle.block_runs.proofs.blocks.Going.{Going}
 use Rattle.schur.proofs.dense_triangle.rank_sub.Given as goal
 
 abbrev pub invariant-loop-r : goal.invariant-loop-r

@@ -1,15 +1,13 @@
-use mathlib.Core.Path.{◌≡◌, refl, ap}
-use Prim.Native.Nat.{ℕ, ◌+◌, ◌-◌}
+use mathlib.Core.Path.{refl, ap}
+use Prim.Native.Nat.{ℕ, ◌+◌}
 use native.Mathlib.Omega.{arith}
 use native.Mathlib.Numerals.{add-one}
-use borrow.Author.Rules.{rules}
 use lib.Ieee.{Float, nan}
-use Rattle.storage.proofs.Filling.{Filling, filling_none, filling_next, filling_done}
+use Rattle.storage.proofs.Filling.{filling_none, filling_next, filling_done}
 use Rattle.storage.specs.Runs.{start, dense}
 use Rattle.storage.proofs.Starts.{start_below}
 use Rattle.rules.specs.Arithmetic.{ieee}
 use Rattle.block_runs.specs.axpy.Axpy.{at}
-use Rattle.schur.specs.few_rows.Few.{subtract_sum}
 use Rattle.schur.proofs.few_rows.subtract_column.Goals as goal
 
 pub loop-i-init : goal.loop-i-init

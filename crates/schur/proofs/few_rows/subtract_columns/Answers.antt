@@ -1,11 +1,7 @@
 use mathlib.Core.Path.{refl}
-use Prim.Native.Nat.{◌-◌}
 use native.Mathlib.Omega.{arith}
-use borrow.Author.Rules.{rules}
 use Rattle.storage.specs.Runs.{dense}
-use Rattle.storage.specs.Shape.{columns, size_of}
-use Rattle.block_runs.proofs.blocks.Runs.{Writing, writing_none, writing_room, writing_all}
-use Rattle.schur.specs.few_rows.Few.{subtract_sums}
+use Rattle.block_runs.proofs.blocks.Runs.{writing_none, writing_room, writing_all}
 use Rattle.schur.proofs.few_rows.Laws.{column_subtracted}
 use Rattle.schur.proofs.few_rows.subtract_columns.Goals as goal
 

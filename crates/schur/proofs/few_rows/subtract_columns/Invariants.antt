@@ -1,13 +1,9 @@
 -- `schur::few_rows::subtract_columns`: the first c columns are written.
-use mathlib.Core.Path.{refl}
 use Prim.Native.Nat.{◌-◌}
-use native.Mathlib.Omega.{arith}
-use borrow.Author.Rules.{rules}
 use Rattle.storage.specs.Runs.{dense}
 use Rattle.storage.specs.Shape.{columns, size_of}
-use Rattle.block_runs.proofs.blocks.Runs.{Writing, writing_none, writing_room, writing_all}
+use Rattle.block_runs.proofs.blocks.Runs.{Writing}
 use Rattle.schur.specs.few_rows.Few.{subtract_sums}
-use Rattle.schur.proofs.few_rows.Laws.{column_subtracted}
 use Rattle.schur.proofs.few_rows.subtract_columns.Given as goal
 
 abbrev pub invariant-loop-c : goal.invariant-loop-c

@@ -3,7 +3,6 @@ use Prim.Native.Nat.{◌+◌, ◌*◌, ◌-◌}
 use native.Mathlib.Omega.{arith}
 use Rattle.storage.proofs.Parts.{length_part}
 use Rattle.schur.proofs.few_rows.Laws.{few_subtracted, few_room, block_ends}
-use borrow.Author.Rules.{rules}
 use Rattle.schur.proofs.few_rows.subtract_few.Goals as goal
 
 pub overflow_mul-end : goal.overflow_mul-end

@@ -2,7 +2,6 @@
 use native.Mathlib.Omega.{arith}
 use Rattle.schur.proofs.Turns.{lies_as}
 use Rattle.schur.proofs.few_rows.Laws.{row_put}
-use borrow.Author.Rules.{rules}
 use Rattle.schur.proofs.few_rows.sum_row.Goals as goal
 
 pub add_products-requires : goal.add_products-requires

@@ -1,13 +1,8 @@
-use mathlib.Core.Path.{◌≡◌, refl}
-use Prim.Native.Nat.{◌-◌}
+use mathlib.Core.Path.{refl}
 use native.Mathlib.Omega.{arith}
-use lib.ListN.{length}
 use Rattle.storage.specs.Runs.{dense}
-use Rattle.storage.specs.Shape.{columns, size_of}
-use Rattle.block_runs.proofs.blocks.Runs.{Writing, writing_none, writing_room, writing_more, writing_all}
-use Rattle.schur.specs.few_rows.Few.{row_sums}
+use Rattle.block_runs.proofs.blocks.Runs.{writing_none, writing_room, writing_more, writing_all}
 use Rattle.schur.proofs.few_rows.Laws.{two_rows, two_rows_room}
-use borrow.Author.Rules.{rules}
 use Rattle.schur.proofs.few_rows.sum_rows.Goals as goal
 
 pub loop-r-init : goal.loop-r-init

@@ -1,14 +1,11 @@
 -- `schur::few_rows::sum_rows`: the sums of the first r rows are there.
-use mathlib.Core.Path.{◌≡◌, refl}
+use mathlib.Core.Path.{◌≡◌}
 use Prim.Native.Nat.{◌-◌}
-use native.Mathlib.Omega.{arith}
 use lib.ListN.{length}
 use Rattle.storage.specs.Runs.{dense}
 use Rattle.storage.specs.Shape.{columns, size_of}
-use Rattle.block_runs.proofs.blocks.Runs.{Writing, writing_none, writing_room, writing_more, writing_all}
+use Rattle.block_runs.proofs.blocks.Runs.{Writing}
 use Rattle.schur.specs.few_rows.Few.{row_sums}
-use Rattle.schur.proofs.few_rows.Laws.{two_rows, two_rows_room}
-use borrow.Author.Rules.{rules}
 use Rattle.schur.proofs.few_rows.sum_rows.Given as goal
 
 abbrev pub invariant-loop-r : goal.invariant-loop-r

@@ -6,7 +6,6 @@ use Rattle.block_runs.specs.axpy.Axpy.{run}
 use Rattle.schur.specs.few_rows.Few.{row_sums}
 use Rattle.schur.proofs.Turns.{lies_as}
 use Rattle.schur.proofs.few_rows.Laws.{row_put}
-use borrow.Author.Rules.{rules}
 use Rattle.schur.proofs.few_rows.sum_two_rows.Goals as goal
 
 pub add_products_pair-requires : goal.add_products_pair-requires

@@ -1,12 +1,8 @@
-use mathlib.Core.Path.{◌≡◌, refl}
-use Prim.Native.Nat.{◌-◌}
+use mathlib.Core.Path.{refl}
 use native.Mathlib.Omega.{arith}
-use lib.ListN.{length}
 use Rattle.storage.specs.Placed.{as_triangle, as_columns}
-use Rattle.schur.specs.Schur.{subtract_last_cell}
-use Rattle.block_runs.proofs.blocks.Going.{Going, going_none, going_room, going_all, turn}
+use Rattle.block_runs.proofs.blocks.Going.{going_none, going_room, going_all, turn}
 use Rattle.schur.proofs.Turns.{subtract_each, products_swapped}
-use borrow.Author.Rules.{rules}
 use Rattle.schur.proofs.last_triangle.subtract_last.Goals as goal
 
 pub loop-r-init : goal.loop-r-init

@@ -1,7 +1,6 @@
 -- `schur::last_triangle::subtract_last_run`: the run, then its products.
 use native.Mathlib.Omega.{arith}
 use Rattle.schur.proofs.Turns.{products_put, lies_as}
-use borrow.Author.Rules.{rules}
 use Rattle.schur.proofs.last_triangle.subtract_last_run.Goals as goal
 
 pub subtract_products-requires : goal.subtract_products-requires

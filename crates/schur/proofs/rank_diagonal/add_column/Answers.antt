@@ -1,10 +1,8 @@
-use borrow.Author.Rules.{rules}
-use Prim.Native.Nat.{◌≤◌, ◌-◌, ◌+◌}
 use native.Mathlib.Omega.{arith}
-use Rattle.storage.specs.Runs.{start, dense}
+use Rattle.storage.specs.Runs.{dense}
 use Rattle.storage.proofs.Starts.{start_below}
-use Rattle.storage.proofs.Filling.{Filling, filling_none}
-use Rattle.schur.proofs.rank_diagonal.Squares.{added, column_more, column_added}
+use Rattle.storage.proofs.Filling.{filling_none}
+use Rattle.schur.proofs.rank_diagonal.Squares.{column_more, column_added}
 use Rattle.schur.proofs.rank_diagonal.add_column.Goals as goal
 
 pub loop-r-init : goal.loop-r-init

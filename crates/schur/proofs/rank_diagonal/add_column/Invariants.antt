@@ -1,11 +1,8 @@
 -- `schur::rank_diagonal::add_column`: the first r rows have the column.
-use borrow.Author.Rules.{rules}
 use Prim.Native.Nat.{◌≤◌, ◌-◌, ◌+◌}
-use native.Mathlib.Omega.{arith}
 use Rattle.storage.specs.Runs.{start, dense}
-use Rattle.storage.proofs.Starts.{start_below}
-use Rattle.storage.proofs.Filling.{Filling, filling_none}
-use Rattle.schur.proofs.rank_diagonal.Squares.{added, column_more, column_added}
+use Rattle.storage.proofs.Filling.{Filling}
+use Rattle.schur.proofs.rank_diagonal.Squares.{added}
 use Rattle.schur.proofs.rank_diagonal.add_column.Given as goal
 
 abbrev pub invariant-loop-r : goal.invariant-loop-r

@@ -3,7 +3,6 @@ use Prim.Native.Nat.{ℕ}
 use mathlib.Core.Path.{ap, ◌∙◌}
 use native.Mathlib.Nat.{add-zero}
 use Rattle.schur.specs.rank_diagonal.Rows.{subtract_each}
-use borrow.Author.Rules.{rules}
 use Rattle.schur.proofs.rank_diagonal.subtract_sums.Goals as goal
 
 pub returns : goal.returns

@@ -1,15 +1,10 @@
 -- `schur::rank_diagonal::sum_columns`: the sums over the first x columns; p and q are where column x starts.
 use Prim.Native.Nat.{◌≤◌, ◌-◌, ◌+◌}
-use mathlib.Core.Path.{◌≡◌, refl}
+use mathlib.Core.Path.{◌≡◌}
 use lib.ListN.{length}
-use borrow.Author.Rules.{rules}
-use native.Mathlib.Omega.{arith}
-use native.Mathlib.Numerals.{add-one}
 use Rattle.storage.specs.Runs.{start, dense}
 use Rattle.storage.specs.Placed.{as_columns}
-use Rattle.storage.proofs.Starts.{start_below}
 use Rattle.schur.specs.rank_diagonal.Rows.{Summed}
-use Rattle.schur.proofs.rank_diagonal.Squares.{summed_none, summed_more}
 use Rattle.schur.proofs.rank_diagonal.sum_columns.Given as goal
 
 abbrev pub invariant-loop-x : goal.invariant-loop-x

@@ -1,7 +1,6 @@
 -- `schur::rank_diagonal_sparse::add_entry`: the entry's row is among the rows, or not.
 use Prim.Native.Nat.{◌-◌}
 use native.Mathlib.Omega.{arith}
-use borrow.Author.Rules.{rules}
 use Rattle.schur.proofs.rank_diagonal.Squares.{entry_elsewhere, entry_here}
 use Rattle.schur.proofs.rank_diagonal_sparse.add_entry.Goals as goal
 

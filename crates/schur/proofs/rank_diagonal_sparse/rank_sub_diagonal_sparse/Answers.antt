@@ -1,11 +1,8 @@
-use Prim.Native.Nat.{◌≤◌, ◌-◌}
 use mathlib.Core.Path.{◌≡◌, refl}
-use lib.ListN.{length}
 use native.Mathlib.Omega.{arith}
 use Rattle.storage.specs.Placed.{as_entries}
 use Rattle.storage.proofs.Starts.{start_single}
 use Rattle.block_runs.specs.blocks.Blocks.{row_from}
-use Rattle.schur.specs.rank_diagonal.Rows.{done_rows}
 use Rattle.schur.proofs.rank_diagonal.Chunks.{rows_none, rows_all, rows_more}
 use Rattle.schur.proofs.rank_diagonal_sparse.rank_sub_diagonal_sparse.Goals as goal
 

@@ -1,12 +1,10 @@
 use borrow.Author.Rules.{rules}
-use Prim.Native.Nat.{ℕ, ◌≤◌, ◌-◌}
+use Prim.Native.Nat.{ℕ}
 use mathlib.Core.Path.{◌≡◌, refl}
-use lib.ListN.{length}
 use native.Mathlib.Omega.{arith}
 use native.Mathlib.Numerals.{add-one}
 use Rattle.storage.specs.Placed.{as_entries}
 use Rattle.block_runs.specs.blocks.Blocks.{row_from}
-use Rattle.schur.specs.rank_diagonal.Rows.{Summed}
 use Rattle.schur.proofs.rank_diagonal.Squares.{summed_none, summed_more, entry_added}
 use Rattle.schur.proofs.rank_diagonal_sparse.sum_entries.Goals as goal
 

@@ -1,14 +1,10 @@
 -- `schur::rank_diagonal_sparse::sum_entries`: the sums over the first x columns.
-use borrow.Author.Rules.{rules}
-use Prim.Native.Nat.{ℕ, ◌≤◌, ◌-◌}
-use mathlib.Core.Path.{◌≡◌, refl}
+use Prim.Native.Nat.{◌≤◌, ◌-◌}
+use mathlib.Core.Path.{◌≡◌}
 use lib.ListN.{length}
-use native.Mathlib.Omega.{arith}
-use native.Mathlib.Numerals.{add-one}
 use Rattle.storage.specs.Placed.{as_entries}
 use Rattle.block_runs.specs.blocks.Blocks.{row_from}
 use Rattle.schur.specs.rank_diagonal.Rows.{Summed}
-use Rattle.schur.proofs.rank_diagonal.Squares.{summed_none, summed_more, entry_added}
 use Rattle.schur.proofs.rank_diagonal_sparse.sum_entries.Given as goal
 
 abbrev pub invariant-loop-x : goal.invariant-loop-x

@@ -1,13 +1,9 @@
-use mathlib.Core.Path.{◌≡◌, refl}
-use Prim.Native.Nat.{◌-◌}
+use mathlib.Core.Path.{refl}
 use native.Mathlib.Omega.{arith}
-use lib.ListN.{length}
 use Rattle.storage.specs.Placed.{as_columns}
-use Rattle.schur.specs.Schur.{subtract_dots}
-use Rattle.block_runs.proofs.blocks.Going.{Going, going_none, going_room, going_all}
+use Rattle.block_runs.proofs.blocks.Going.{going_none, going_room, going_all}
 use Rattle.schur.proofs.Turns.{room_for_two}
 use Rattle.schur.proofs.schur_dense.Laws.{one_turn, two_turns}
-use borrow.Author.Rules.{rules}
 use Rattle.schur.proofs.schur_dense.subtract_columns.Goals as goal
 
 pub loop-c-init : goal.loop-c-init

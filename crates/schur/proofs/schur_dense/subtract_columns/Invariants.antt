@@ -1,14 +1,10 @@
 -- `schur::schur_dense::subtract_columns`: the first c columns are written.
-use mathlib.Core.Path.{◌≡◌, refl}
+use mathlib.Core.Path.{◌≡◌}
 use Prim.Native.Nat.{◌-◌}
-use native.Mathlib.Omega.{arith}
 use lib.ListN.{length}
 use Rattle.storage.specs.Placed.{as_columns}
 use Rattle.schur.specs.Schur.{subtract_dots}
-use Rattle.block_runs.proofs.blocks.Going.{Going, going_none, going_room, going_all}
-use Rattle.schur.proofs.Turns.{room_for_two}
-use Rattle.schur.proofs.schur_dense.Laws.{one_turn, two_turns}
-use borrow.Author.Rules.{rules}
+use Rattle.block_runs.proofs.blocks.Going.{Going}
 use Rattle.schur.proofs.schur_dense.subtract_columns.Given as goal
 
 abbrev pub invariant-loop-c : goal.invariant-loop-c

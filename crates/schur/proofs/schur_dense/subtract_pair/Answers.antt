@@ -3,7 +3,6 @@ use Prim.Native.Nat.{◌+◌}
 use native.Mathlib.Omega.{arith}
 use Rattle.schur.proofs.Turns.{sums_subtracted, lies_as}
 use Rattle.schur.proofs.schur_dense.Laws.{second_subtracted}
-use borrow.Author.Rules.{rules}
 use Rattle.schur.proofs.schur_dense.subtract_pair.Goals as goal
 
 pub add_products_pair-requires : goal.add_products_pair-requires

@@ -2,7 +2,6 @@
 use Prim.Native.Nat.{◌+◌}
 use native.Mathlib.Omega.{arith}
 use Rattle.schur.proofs.sparse_schur.Laws.{column_subtracted}
-use borrow.Author.Rules.{rules}
 use Rattle.schur.proofs.sparse_schur.subtract_column.Goals as goal
 
 pub returns : goal.returns

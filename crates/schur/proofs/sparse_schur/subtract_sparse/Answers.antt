@@ -1,10 +1,6 @@
-use mathlib.Core.Path.{◌≡◌, refl}
-use Prim.Native.Nat.{◌-◌}
+use mathlib.Core.Path.{refl}
 use native.Mathlib.Omega.{arith}
-use lib.ListN.{length}
-use Rattle.block_runs.specs.blocks.Blocks.{row_from}
-use Rattle.schur.proofs.sparse_schur.Laws.{Subtracting, sparse_none, sparse_all, source_room, target_room, sparse_more}
-use borrow.Author.Rules.{rules}
+use Rattle.schur.proofs.sparse_schur.Laws.{sparse_none, sparse_all, source_room, target_room, sparse_more}
 use Rattle.schur.proofs.sparse_schur.subtract_sparse.Goals as goal
 
 pub loop-x-init : goal.loop-x-init

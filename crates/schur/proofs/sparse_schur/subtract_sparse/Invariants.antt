@@ -1,11 +1,9 @@
 -- `schur::sparse_schur::subtract_sparse`: the first x entries are subtracted.
-use mathlib.Core.Path.{◌≡◌, refl}
+use mathlib.Core.Path.{◌≡◌}
 use Prim.Native.Nat.{◌-◌}
-use native.Mathlib.Omega.{arith}
 use lib.ListN.{length}
 use Rattle.block_runs.specs.blocks.Blocks.{row_from}
-use Rattle.schur.proofs.sparse_schur.Laws.{Subtracting, sparse_none, sparse_all, source_room, target_room, sparse_more}
-use borrow.Author.Rules.{rules}
+use Rattle.schur.proofs.sparse_schur.Laws.{Subtracting}
 use Rattle.schur.proofs.sparse_schur.subtract_sparse.Given as goal
 
 abbrev pub invariant-loop-x : goal.invariant-loop-x

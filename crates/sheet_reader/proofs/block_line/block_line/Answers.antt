@@ -1,5 +1,5 @@
 -- `sheet_reader::block_line::block_line`: field by field, as defined.
-use Rattle.std.proofs.Common.{◌≡◌, ℕ, List, rules}
+use Rattle.std.proofs.Common.{◌≡◌, ℕ, List}
 use Rattle.sheet.specs.declared.Field.{Field}
 use Rattle.sheet.specs.declared.Line.{Line}
 use Rattle.sheet.specs.Line.{block_line, tab, lf, block_tag, tag_to, number_to}

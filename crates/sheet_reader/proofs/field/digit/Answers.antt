@@ -1,5 +1,5 @@
 -- `sheet_reader::field::digit`: a case for each range of bytes.
-use Rattle.std.proofs.Common.{rules, le-ltb, lt-ltb}
+use Rattle.std.proofs.Common.{le-ltb, lt-ltb}
 use Rattle.sheet.specs.Field.{digit_of}
 use Rattle.sheet_reader.proofs.field.digit.Goals as goal
 

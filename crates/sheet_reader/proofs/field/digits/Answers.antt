@@ -1,6 +1,5 @@
-use Rattle.std.proofs.Common.{◌-◌, length, drop, refl, arith, rules}
-use Rattle.sheet.specs.Field.{digits_from}
-use Rattle.sheet_reader.proofs.field.Fields.{Digits, digits_leading, digits_more, digits_done, digits_other, digits_short}
+use Rattle.std.proofs.Common.{refl, arith}
+use Rattle.sheet_reader.proofs.field.Fields.{digits_leading, digits_more, digits_done, digits_other, digits_short}
 use Rattle.sheet_reader.proofs.field.digits.Goals as goal
 
 pub loop-i-init : goal.loop-i-init

@@ -1,7 +1,7 @@
 -- `sheet_reader::field::digits`: what is left of the number still ends as the whole does, the value held at the cap.
-use Rattle.std.proofs.Common.{◌-◌, length, drop, refl, arith, rules}
+use Rattle.std.proofs.Common.{◌-◌, length, drop}
 use Rattle.sheet.specs.Field.{digits_from}
-use Rattle.sheet_reader.proofs.field.Fields.{Digits, digits_leading, digits_more, digits_done, digits_other, digits_short}
+use Rattle.sheet_reader.proofs.field.Fields.{Digits}
 use Rattle.sheet_reader.proofs.field.digits.Given as goal
 
 abbrev pub invariant-loop-i : goal.invariant-loop-i

@@ -1,5 +1,4 @@
 -- `sheet_reader::field::number`: there is a first byte or none.
-use Rattle.std.proofs.Common.{rules}
 use Rattle.sheet_reader.proofs.field.Fields.{number_short, number_more, number_other}
 use Rattle.sheet_reader.proofs.field.number.Goals as goal
 

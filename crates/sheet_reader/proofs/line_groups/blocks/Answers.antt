@@ -1,8 +1,6 @@
-use Rattle.std.proofs.Common.{◌-◌, arith, rules}
-use Rattle.sheet.specs.Line.{block_line}
-use Rattle.sheet.specs.Run.{block_verdict, block_in, blocks_of}
+use Rattle.std.proofs.Common.{arith}
 use Rattle.sheet.proofs.Lines.{grid_length}
-use Rattle.sheet_reader.proofs.line_verdict.Runs.{Rows, rows_start, rows_refused, ones_next, rows_end, blocks_past}
+use Rattle.sheet_reader.proofs.line_verdict.Runs.{rows_start, rows_refused, ones_next, rows_end, blocks_past}
 use Rattle.sheet_reader.proofs.line_groups.blocks.Goals as goal
 
 pub loop-i-init : goal.loop-i-init

@@ -1,9 +1,8 @@
 -- `sheet_reader::line_groups::blocks`: the lines that are left still end as the whole run does.
-use Rattle.std.proofs.Common.{◌-◌, arith, rules}
+use Rattle.std.proofs.Common.{◌-◌}
 use Rattle.sheet.specs.Line.{block_line}
 use Rattle.sheet.specs.Run.{block_verdict, block_in, blocks_of}
-use Rattle.sheet.proofs.Lines.{grid_length}
-use Rattle.sheet_reader.proofs.line_verdict.Runs.{Rows, rows_start, rows_refused, ones_next, rows_end, blocks_past}
+use Rattle.sheet_reader.proofs.line_verdict.Runs.{Rows}
 use Rattle.sheet_reader.proofs.line_groups.blocks.Given as goal
 
 abbrev pub invariant-loop-i : goal.invariant-loop-i

@@ -1,6 +1,5 @@
-use Rattle.std.proofs.Common.{length, refl, arith, rules}
-use Rattle.sheet.specs.Run.{entries_from}
-use Rattle.sheet_reader.proofs.line_verdict.Runs.{Entries, entries_refused, entries_other, entries_next, entries_end, entries_past, second_cap}
+use Rattle.std.proofs.Common.{refl, arith}
+use Rattle.sheet_reader.proofs.line_verdict.Runs.{entries_refused, entries_other, entries_next, entries_end, entries_past, second_cap}
 use Rattle.sheet_reader.proofs.line_groups.entries.Goals as goal
 
 pub loop-left-init : goal.loop-left-init

@@ -1,7 +1,7 @@
 -- `sheet_reader::line_groups::entries`: the lines that are left still end as the whole run does.
-use Rattle.std.proofs.Common.{length, refl, arith, rules}
+use Rattle.std.proofs.Common.{length}
 use Rattle.sheet.specs.Run.{entries_from}
-use Rattle.sheet_reader.proofs.line_verdict.Runs.{Entries, entries_refused, entries_other, entries_next, entries_end, entries_past, second_cap}
+use Rattle.sheet_reader.proofs.line_verdict.Runs.{Entries}
 use Rattle.sheet_reader.proofs.line_groups.entries.Given as goal
 
 abbrev pub invariant-loop-left : goal.invariant-loop-left

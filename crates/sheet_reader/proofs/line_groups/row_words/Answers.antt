@@ -1,7 +1,4 @@
-use Rattle.std.proofs.Common.{◌-◌, rules}
-use Rattle.sheet.specs.Line.{word_line}
-use Rattle.sheet.specs.Run.{lines_of, row_from, prescribed_verdict, word_in}
-use Rattle.sheet_reader.proofs.line_verdict.Runs.{Row, row_starts, row_refused, row_next, row_ends}
+use Rattle.sheet_reader.proofs.line_verdict.Runs.{row_starts, row_refused, row_next, row_ends}
 use Rattle.sheet_reader.proofs.line_groups.row_words.Goals as goal
 
 pub loop-col-init : goal.loop-col-init

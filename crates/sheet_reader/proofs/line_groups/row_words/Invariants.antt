@@ -1,8 +1,8 @@
 -- `sheet_reader::line_groups::row_words`: the lines that are left still end as the whole row does.
-use Rattle.std.proofs.Common.{◌-◌, rules}
+use Rattle.std.proofs.Common.{◌-◌}
 use Rattle.sheet.specs.Line.{word_line}
 use Rattle.sheet.specs.Run.{lines_of, row_from, prescribed_verdict, word_in}
-use Rattle.sheet_reader.proofs.line_verdict.Runs.{Row, row_starts, row_refused, row_next, row_ends}
+use Rattle.sheet_reader.proofs.line_verdict.Runs.{Row}
 use Rattle.sheet_reader.proofs.line_groups.row_words.Given as goal
 
 abbrev pub invariant-loop-col : goal.invariant-loop-col

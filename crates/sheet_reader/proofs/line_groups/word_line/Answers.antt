@@ -1,5 +1,4 @@
 -- `sheet_reader::line_groups::word_line`: a case for each number of numbers.
-use Rattle.std.proofs.Common.{rules}
 use Rattle.sheet_reader.proofs.line_verdict.Runs.{word_pair, word_single, word_bare}
 use Rattle.sheet_reader.proofs.line_groups.word_line.Goals as goal
 

@@ -1,7 +1,5 @@
-use Rattle.std.proofs.Common.{◌+◌, ◌-◌, ◌*◌, arith, rules}
-use Rattle.sheet.specs.Line.{word_line}
-use Rattle.sheet.specs.Run.{rows_from, prescribed_verdict, word_in, word_kind, words_of}
-use Rattle.sheet_reader.proofs.line_verdict.Runs.{Rows, rows_most, rows_start, words_past, rows_refused, rows_next, rows_room, rows_end}
+use Rattle.std.proofs.Common.{arith}
+use Rattle.sheet_reader.proofs.line_verdict.Runs.{rows_most, rows_start, words_past, rows_refused, rows_next, rows_room, rows_end}
 use Rattle.sheet_reader.proofs.line_groups.words.Goals as goal
 
 pub loop-r-init : goal.loop-r-init

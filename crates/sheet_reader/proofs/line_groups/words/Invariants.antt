@@ -1,8 +1,8 @@
 -- `sheet_reader::line_groups::words`: the rows that are left still end as the whole run does.
-use Rattle.std.proofs.Common.{◌+◌, ◌-◌, ◌*◌, arith, rules}
+use Rattle.std.proofs.Common.{◌+◌, ◌-◌, ◌*◌}
 use Rattle.sheet.specs.Line.{word_line}
 use Rattle.sheet.specs.Run.{rows_from, prescribed_verdict, word_in, word_kind, words_of}
-use Rattle.sheet_reader.proofs.line_verdict.Runs.{Rows, rows_most, rows_start, words_past, rows_refused, rows_next, rows_room, rows_end}
+use Rattle.sheet_reader.proofs.line_verdict.Runs.{Rows}
 use Rattle.sheet_reader.proofs.line_groups.words.Given as goal
 
 abbrev pub invariant-loop-r : goal.invariant-loop-r

@@ -1,5 +1,4 @@
 -- `sheet_reader::line_verdict::pass`: as defined, by the cursor's number and the line's.
-use Rattle.std.proofs.Common.{rules}
 use Rattle.sheet.proofs.Lines.{stays}
 use Rattle.sheet_reader.proofs.line_verdict.Runs.{pass_on, pass_refused}
 use Rattle.sheet_reader.proofs.line_verdict.pass.Goals as goal

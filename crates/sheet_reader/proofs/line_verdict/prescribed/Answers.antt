@@ -1,5 +1,4 @@
 -- `sheet_reader::line_verdict::prescribed`: by the parts of its verdict.
-use Rattle.std.proofs.Common.{rules}
 use Rattle.sheet_reader.proofs.line_verdict.Runs.{prescribed_passed}
 use Rattle.sheet_reader.proofs.line_verdict.prescribed.Goals as goal
 

@@ -1,5 +1,5 @@
 -- `sheet_reader::pair_line::pair_line`: field by field, as defined.
-use Rattle.std.proofs.Common.{◌≡◌, ℕ, List, rules}
+use Rattle.std.proofs.Common.{◌≡◌, ℕ, List}
 use Rattle.sheet.specs.declared.Field.{Field}
 use Rattle.sheet.specs.declared.Line.{Line}
 use Rattle.sheet.specs.Line.{pair_line, tab, tag_to, number_to, word_to}

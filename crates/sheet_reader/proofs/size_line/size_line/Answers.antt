@@ -1,5 +1,5 @@
 -- `sheet_reader::size_line::size_line`: field by field, as defined.
-use Rattle.std.proofs.Common.{◌≡◌, ℕ, List, rules}
+use Rattle.std.proofs.Common.{◌≡◌, ℕ, List}
 use Rattle.sheet.specs.declared.Field.{Field}
 use Rattle.sheet.specs.declared.Size.{Size}
 use Rattle.sheet.specs.Line.{size_line, tab, lf, size_tag, tag_to, number_to}

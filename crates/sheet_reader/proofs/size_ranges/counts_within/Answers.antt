@@ -1,5 +1,5 @@
 -- `sheet_reader::size_ranges::counts_within`: as defined.
-use Rattle.std.proofs.Common.{◌&&◌, ap₂, rules}
+use Rattle.std.proofs.Common.{◌&&◌, ap₂}
 use Rattle.sheet_reader.proofs.size_ranges.counts_within.Goals as goal
 
 pub returns : goal.returns

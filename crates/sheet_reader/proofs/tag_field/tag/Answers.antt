@@ -1,6 +1,5 @@
-use Rattle.std.proofs.Common.{◌-◌, length, refl, rules}
-use Rattle.sheet.specs.Line.{tag_to}
-use Rattle.sheet_reader.proofs.field.Fields.{Tag, tag_short, tag_other, tag_more, tag_done}
+use Rattle.std.proofs.Common.{refl}
+use Rattle.sheet_reader.proofs.field.Fields.{tag_short, tag_other, tag_more, tag_done}
 use Rattle.sheet_reader.proofs.tag_field.tag.Goals as goal
 
 pub loop-k-init : goal.loop-k-init

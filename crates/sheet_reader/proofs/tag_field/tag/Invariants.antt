@@ -1,7 +1,7 @@
 -- `sheet_reader::tag_field::tag`: what is left of the tag still ends as the whole does.
-use Rattle.std.proofs.Common.{◌-◌, length, refl, rules}
+use Rattle.std.proofs.Common.{◌-◌, length}
 use Rattle.sheet.specs.Line.{tag_to}
-use Rattle.sheet_reader.proofs.field.Fields.{Tag, tag_short, tag_other, tag_more, tag_done}
+use Rattle.sheet_reader.proofs.field.Fields.{Tag}
 use Rattle.sheet_reader.proofs.tag_field.tag.Given as goal
 
 abbrev pub invariant-loop-k : goal.invariant-loop-k

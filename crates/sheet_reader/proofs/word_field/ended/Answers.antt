@@ -1,5 +1,4 @@
 -- `sheet_reader::word_field::ended`: there is a byte or none.
-use Rattle.std.proofs.Common.{rules}
 use Rattle.sheet_reader.proofs.field.Fields.{end_short, end_found, end_other}
 use Rattle.sheet_reader.proofs.word_field.ended.Goals as goal
 

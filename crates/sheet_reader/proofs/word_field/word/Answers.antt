@@ -1,8 +1,7 @@
-use Rattle.std.proofs.Common.{ℕ, ◌+◌, ◌-◌, ◌<◌, get_or, arith, rules}
+use Rattle.std.proofs.Common.{◌+◌, get_or, arith}
 use Rattle.sheet.specs.Field.{digit_of}
-use Rattle.sheet.specs.Line.{lf, word_to}
-use Rattle.sheet_reader.proofs.field.Fields.{Word, word_begun, word_short, word_more, word_count, word_done}
-use Rattle.sheet_reader.proofs.field.Table.{mark, right, Marks, marks, mark_fits}
+use Rattle.sheet_reader.proofs.field.Fields.{word_begun, word_short, word_more, word_count, word_done}
+use Rattle.sheet_reader.proofs.field.Table.{mark, right, marks, mark_fits}
 use Rattle.sheet_reader.proofs.word_field.word.Goals as goal
 
 pub returns-then-bytes-lt17 : goal.returns-then-bytes-lt17

@@ -1,9 +1,8 @@
 -- `sheet_reader::word_field::word`: the digits to come still end as the whole word does, unless an entry before was that of no digit.
-use Rattle.std.proofs.Common.{ℕ, ◌+◌, ◌-◌, ◌<◌, get_or, arith, rules}
-use Rattle.sheet.specs.Field.{digit_of}
+use Rattle.std.proofs.Common.{◌-◌}
 use Rattle.sheet.specs.Line.{lf, word_to}
-use Rattle.sheet_reader.proofs.field.Fields.{Word, word_begun, word_short, word_more, word_count, word_done}
-use Rattle.sheet_reader.proofs.field.Table.{mark, right, Marks, marks, mark_fits}
+use Rattle.sheet_reader.proofs.field.Fields.{Word}
+use Rattle.sheet_reader.proofs.field.Table.{Marks}
 use Rattle.sheet_reader.proofs.word_field.word.Given as goal
 
 abbrev pub invariant-loop-k : goal.invariant-loop-k

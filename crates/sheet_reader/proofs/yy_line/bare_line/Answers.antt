@@ -1,5 +1,5 @@
 -- `sheet_reader::yy_line::bare_line`: field by field, as defined.
-use Rattle.std.proofs.Common.{◌≡◌, ℕ, List, rules}
+use Rattle.std.proofs.Common.{◌≡◌, ℕ, List}
 use Rattle.sheet.specs.declared.Field.{Field}
 use Rattle.sheet.specs.declared.Line.{Line}
 use Rattle.sheet.specs.Line.{bare_line, tag_to, word_to}

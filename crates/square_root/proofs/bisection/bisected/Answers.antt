@@ -1,7 +1,5 @@
 use mathlib.Core.Path.{sym, ◌∙◌, refl}
-use Prim.Native.Nat.{◌-◌}
-use native.Mathlib.Omega.{arith}
-use Rattle.square_root.proofs.bisection.Words.{Between, whole_range, raised, lowered, narrowed}
+use Rattle.square_root.proofs.bisection.Words.{whole_range, raised, lowered, narrowed}
 use Rattle.square_root.proofs.bisection.bisected.Goals as goal
 
 pub loop-hi-init : goal.loop-hi-init

@@ -1,8 +1,6 @@
 -- `square_root::bisection::bisected` meets its contract. The invariant: the root is lo or more, and below hi. The measure is their distance.
-use mathlib.Core.Path.{sym, ◌∙◌, refl}
 use Prim.Native.Nat.{◌-◌}
-use native.Mathlib.Omega.{arith}
-use Rattle.square_root.proofs.bisection.Words.{Between, whole_range, raised, lowered, narrowed}
+use Rattle.square_root.proofs.bisection.Words.{Between}
 use Rattle.square_root.proofs.bisection.bisected.Given as goal
 
 abbrev pub invariant-loop-hi : goal.invariant-loop-hi

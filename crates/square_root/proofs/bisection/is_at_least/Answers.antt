@@ -1,5 +1,4 @@
 -- `square_root::bisection::is_at_least` meets its contract.
-use borrow.Author.Rules.{rules}
 use Rattle.square_root.proofs.bisection.Words.{equal_words, other_words}
 use Rattle.square_root.proofs.bisection.is_at_least.Goals as goal
 

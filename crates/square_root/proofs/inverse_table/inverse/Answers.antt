@@ -1,5 +1,4 @@
 -- `square_root::inverse_table::inverse` meets its contract: its terms fit.
-use borrow.Author.Rules.{rules}
 use native.Mathlib.Omega.{arith}
 use Prim.Native.Nat.{◌/◌, ◌%◌}
 use Rattle.square_root.proofs.inverse_table.Words.{terms}

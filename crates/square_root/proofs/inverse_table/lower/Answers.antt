@@ -1,5 +1,4 @@
 -- `square_root::inverse_table::lower` meets its contract.
-use borrow.Author.Rules.{rules}
 use Prim.Native.Nat.{◌^◌}
 use native.Mathlib.Omega.{arith}
 use lib.Dec.{lit<}

@@ -1,5 +1,4 @@
 -- `square_root::parts::doubled` meets its contract.
-use borrow.Author.Rules.{rules}
 use Rattle.square_root.proofs.parts.Value.{not_doubled, is_doubled}
 use Rattle.square_root.proofs.parts.doubled.Goals as goal
 

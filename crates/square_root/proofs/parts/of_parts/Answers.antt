@@ -1,5 +1,4 @@
 -- `square_root::parts::of_parts` meets its contract.
-use borrow.Author.Rules.{rules}
 use native.Mathlib.Omega.{arith}
 use Rattle.float_bits.proofs.double.Bits.{number_below}
 use Rattle.square_root.proofs.parts.Value.{m_range, x_high, bits_are}

@@ -1,5 +1,4 @@
 -- `square_root::rounding::from_remainder` meets its contract. What is left of the square says which of two numbers it is.
-use borrow.Author.Rules.{rules}
 use Rattle.square_root.proofs.rounding.Words.{from_rest}
 use Rattle.square_root.proofs.rounding.from_remainder.Goals as goal
 

@@ -1,0 +1,16 @@
+-- `begin::begin`: 20, or a workspace.
+use Rattle.workspace.proofs.Meaning.{outcome_means}
+use mathlib.Core.Path.{sym, ◌∙◌}
+use Rattle.begin.proofs.Outcome.{not_valid_heading}
+use borrow.Author.Rules.{rules}
+use Rattle.begin.proofs.begin.Goals as goal
+
+pub begin_valid-requires : goal.begin_valid-requires
+begin_valid-requires c = sym c.is_valid_heading.ensures ∙ c.if-is_valid_heading.true
+
+pub returns-then-is_valid_heading : goal.returns-then-is_valid_heading
+returns-then-is_valid_heading c = outcome_means _ _ _ c.begin_valid.ensures
+
+pub returns : goal.returns
+returns c = let a = c.args in
+    outcome_means _ _ _ (not_valid_heading a.heading.now a.doubles.now a.theta.now (sym c.is_valid_heading.ensures ∙ c.if-is_valid_heading.false) _ c.refused.ensures)

@@ -1,0 +1,15 @@
+-- `replace_response::write_rows::spread`: the first c cells are copied.
+use borrow.Author.Rules.{rules}
+use Prim.Native.Nat.{ℕ, ◌-◌, ◌≤◌}
+use mathlib.Core.Path.{◌≡◌, refl, ap, ◌∙◌}
+use native.Mathlib.Omega.{arith}
+use lib.ListN.{length, length-set}
+use Rattle.replace_response.specs.write_rows.Strided.{strided, from}
+use Rattle.replace_response.proofs.write_rows.Strided.{strided_none, strided_more}
+use Rattle.replace_response.proofs.write_rows.spread.Given as goal
+
+abbrev pub invariant-loop-c : goal.invariant-loop-c
+invariant-loop-c l = (l.c ≤ l.n) × (l.doubles ≡ strided l.to l.step l.c (from l.l l.at) l.initial.doubles) × (length l.doubles ≡ length l.initial.doubles)
+
+abbrev pub decreases-loop-c : goal.decreases-loop-c
+decreases-loop-c l = l.n - l.c

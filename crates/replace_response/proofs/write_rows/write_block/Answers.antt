@@ -1,0 +1,18 @@
+-- `replace_response::write_rows::write_block`: one strided copy.
+use native.Mathlib.Omega.{arith}
+use Rattle.replace_response.proofs.write_rows.Cells.{few_blocks, first_within, block_fits, block_written}
+use Rattle.heading_format.proofs.Valid.{is_valid}
+use borrow.Author.Rules.{rules}
+use Rattle.replace_response.proofs.write_rows.write_block.Goals as goal
+
+pub overflow_add-to : goal.overflow_add-to
+overflow_add-to c = omega (arith, first_within c.args.layout c.requires.0 c.args.j c.requires.2, c.start_of.ensures)
+
+pub levels_of-n-requires : goal.levels_of-n-requires
+levels_of-n-requires c = omega (arith, few_blocks c.args.layout c.requires.0)
+
+pub spread-requires : goal.spread-requires
+spread-requires c = block_fits c.args.layout c.requires.0 _ _ c.requires.3 c.args.j _ _ _ c.requires.2 c.start_of.ensures c.levels_of-n.ensures c.row_of-first.ensures c.last_rows-rows.ensures.0 c.requires.4
+
+pub returns : goal.returns
+returns c = block_written c.args.layout c.requires.0 _ _ c.requires.3 c.args.j _ _ 0 c.requires.2 c.start_of.ensures c.levels_of-n.ensures c.row_of-first.ensures c.last_rows-rows.ensures.0 _ _ _ c.spread.ensures

@@ -1,0 +1,29 @@
+-- `step::step_check::name_fault`: test by test.
+use Rattle.update.specs.Names.{step_of_name}
+use Rattle.step.proofs.step_check.Faults.{named_eight, fault_unnamed, fault_done, fault_none, fault_forerun}
+use borrow.Author.Rules.{rules}
+use Rattle.step.proofs.step_check.name_fault.Goals as goal
+
+pub is_done-requires : goal.is_done-requires
+is_done-requires c = let a = c.args in
+    named_eight a.k (step_of_name a.name) c.requires c.is_step.ensures c.if-is_step.true
+
+pub returns-then-is_done : goal.returns-then-is_done
+returns-then-is_done c = let a = c.args in
+    fault_done a.k a.progress (step_of_name a.name) c.is_step.ensures c.if-is_step.true c.is_done.ensures c.if-is_done.true
+
+pub forerunners_done-requires : goal.forerunners_done-requires
+forerunners_done-requires c = let a = c.args in
+    named_eight a.k (step_of_name a.name) c.requires c.is_step.ensures c.if-is_step.true
+
+pub returns-then-forerunners_done : goal.returns-then-forerunners_done
+returns-then-forerunners_done c = let a = c.args in
+    fault_none a.k a.progress (step_of_name a.name) c.is_step.ensures c.if-is_step.true c.is_done.ensures c.if-is_done.false c.forerunners_done.ensures c.if-forerunners_done.true
+
+pub returns-then-is_step : goal.returns-then-is_step
+returns-then-is_step c = let a = c.args in
+    fault_forerun a.k a.progress (step_of_name a.name) c.is_step.ensures c.if-is_step.true c.is_done.ensures c.if-is_done.false c.forerunners_done.ensures c.if-forerunners_done.false
+
+pub returns : goal.returns
+returns c = let a = c.args in
+    fault_unnamed a.k a.progress (step_of_name a.name) c.is_step.ensures c.if-is_step.false

@@ -1,0 +1,16 @@
+-- `views::steps_left`: 20 by the heading, or the number.
+use mathlib.Core.Path.{sym, ap, ◌∙◌}
+use Rattle.views.specs.Views.{steps_meaning}
+use Rattle.heading_format.proofs.Fits.{fits}
+use Rattle.views.proofs.Looks.{no_heading, steps}
+use borrow.Author.Rules.{rules}
+use Rattle.views.proofs.steps_left.Goals as goal
+
+pub progress-progress-requires : goal.progress-progress-requires
+progress-progress-requires c = (fits c.args.heading.now 2199023255552 (sym c.is_valid_heading.ensures ∙ c.if-is_valid_heading.true)).long
+
+pub returns-then-is_valid_heading : goal.returns-then-is_valid_heading
+returns-then-is_valid_heading c = ap steps_meaning (steps c.args.heading.now _ c.is_valid_heading.ensures c.if-is_valid_heading.true _ c.progress-progress.ensures)
+
+pub returns : goal.returns
+returns c = ap steps_meaning (no_heading c.args.heading.now _ c.is_valid_heading.ensures c.if-is_valid_heading.false _ c.refused.ensures)
