@@ -72,5 +72,5 @@ module _ (h : List ℕ) (w theta : List Float) where
           let v : w' ≡ (begun h w theta).doubles =
           d (entry_row h)
           ∙ ap (store (sum_at (layout_of h)) (ieee.zero ∷ [])) (sym (blocks_stored h w theta (fits h (length w) ok).room same_long)) in
-          ap₂ accept (rw is at p.0) v
+          ap₂ accept (p.0 ∙ ap (λ (z : Layout). heading_with h (under_way z.k)) is) v
           ∙ rw (ok, eq-eqb (length theta) (layout_of h).k same_long, e) refl

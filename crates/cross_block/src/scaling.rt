@@ -6,7 +6,7 @@ ghost use Rattle.cross_block.specs.Blocks.{scaled_twice, scaled_once};
 // Begin, a cross block of n doubles: the loaded ones times theta of the column block, then times theta of the row block.
 pub fn scale_twice(doubles: &mut [f64], off: usize, src: usize, n: usize, column: f64, row: f64)
     requires n_in_bounds { (off + n ≤ length doubles.old) × (src + n ≤ length doubles.old) }
-    requires fact { (off + n ≤ src) ⊎ (src + n ≤ off) }
+    requires apart { (off + n ≤ src) ⊎ (src + n ≤ off) }
     ensures { EachShape n (λ s. doubles.new ≡ scaled_twice s off src column row doubles.old) }
 {
     let mut i = 0;
@@ -19,7 +19,7 @@ pub fn scale_twice(doubles: &mut [f64], off: usize, src: usize, n: usize, column
 // Begin, fixed rows of n doubles: the loaded ones times theta of the column block.
 pub fn scale_once(doubles: &mut [f64], off: usize, src: usize, n: usize, t: f64)
     requires n_in_bounds { (off + n ≤ length doubles.old) × (src + n ≤ length doubles.old) }
-    requires fact { (off + n ≤ src) ⊎ (src + n ≤ off) }
+    requires apart { (off + n ≤ src) ⊎ (src + n ≤ off) }
     ensures { EachShape n (λ s. doubles.new ≡ scaled_once s off src t doubles.old) }
 {
     let mut i = 0;

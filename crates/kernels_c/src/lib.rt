@@ -211,7 +211,7 @@ pub extern "C" fn husk_scale_twice(
     row: f64,
 )
     requires n_in_bounds { (off + n ≤ length doubles.old) × (src + n ≤ length doubles.old) }
-    requires fact { (off + n ≤ src) ⊎ (src + n ≤ off) }
+    requires apart { (off + n ≤ src) ⊎ (src + n ≤ off) }
     ensures { EachShape n (λ s. doubles.new ≡ scaled_twice s off src column row doubles.old) }
 {
     scaling::scale_twice(doubles, off, src, n, column, row);

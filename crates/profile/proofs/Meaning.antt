@@ -1,7 +1,6 @@
 -- What an answer means says which answer it is; and the meaning of each case, computed.
-use Prim.Native.Nat.{ℕ}
 use mathlib.Core.Path.{◌≡◌, refl, sym, ap, ◌∙◌}
-use mathlib.Core.Bool.{Bool, true, false, cond}
+use mathlib.Core.Bool.{Bool, true, false}
 use mathlib.Core.Option.{Option, none, some}
 use lib.IntN.{pos}
 use lib.Ieee as Ieee

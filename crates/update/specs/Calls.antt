@@ -1,5 +1,5 @@
 -- Begin and the steps as functions of heading, doubles and arguments, refused ones included (document 01, Records 4 and 5, "Refused because of the state").
-use Rattle.std.specs.Prelude.{ℕ, zero, suc, ◌+◌, Bool, true, false, List, [], ◌∷◌, eqb, length, Float}
+use Rattle.std.specs.Prelude.{ℕ, suc, ◌+◌, Bool, true, false, List, [], ◌∷◌, eqb, length, Float}
 use Rattle.std.proofs.Math.Option.{Option, none, some}
 use Rattle.storage.specs.Runs.{start, triangle}
 use Rattle.storage.specs.Part.{store}

@@ -1,5 +1,5 @@
 -- What begin and each step make of whole blocks (document 01, Record 4): the rules of `rules`, at the shapes of a layout. A block is the list of its doubles.
-use Prim.Native.Nat.{ℕ, zero}
+use Prim.Native.Nat.{ℕ}
 use Rattle.std.specs.Prelude.{Bool, ◌&&◌, List, eqb}
 use Rattle.std.proofs.Math.Bool.{cond}
 use Rattle.std.proofs.Math.Option.{Option, none}

@@ -2,7 +2,6 @@
 use native.Mathlib.Omega.{arith}
 use Rattle.storage.proofs.Starts.{start_dense}
 use Rattle.cross_block.proofs.Turns.{column_solved}
-use borrow.Author.Rules.{rules}
 use Rattle.cross_block.proofs.solve_column.Goals as goal
 
 pub subtract_products-requires : goal.subtract_products-requires

@@ -1,16 +1,11 @@
 -- `cross_block::solve_rows`: the first c columns are solved.
-use borrow.Author.Rules.{rules}
-use mathlib.Core.Path.{◌≡◌, refl}
+use mathlib.Core.Path.{◌≡◌}
 use Prim.Native.Nat.{◌-◌, ◌+◌}
-use native.Mathlib.Omega.{arith}
-use native.Mathlib.Numerals.{add-one}
 use lib.ListN.{length}
-use Rattle.storage.specs.Runs.{start, triangle, dense}
+use Rattle.storage.specs.Runs.{start, triangle}
 use Rattle.storage.specs.Placed.{as_columns}
-use Rattle.storage.proofs.Starts.{start_below, start_le}
-use Rattle.block_runs.proofs.blocks.Going.{Going, going_none, going_room, going_all}
+use Rattle.block_runs.proofs.blocks.Going.{Going}
 use Rattle.cross_block.specs.Blocks.{solved_cell}
-use Rattle.cross_block.proofs.Turns.{solve_turn}
 use Rattle.cross_block.proofs.solve_rows.Given as goal
 
 abbrev pub invariant-loop-c : goal.invariant-loop-c

@@ -2,7 +2,6 @@
 use native.Mathlib.Omega.{arith}
 use Rattle.storage.proofs.Starts.{start_dense}
 use Rattle.cross_matvec.proofs.Dense.{sums_subtracted}
-use borrow.Author.Rules.{rules}
 use Rattle.cross_matvec.proofs.subtract_sums.Goals as goal
 
 pub add_products-requires : goal.add_products-requires

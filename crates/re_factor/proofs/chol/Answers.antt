@@ -7,7 +7,6 @@ use Rattle.rules.specs.Cholesky.{radicand, pivots}
 use Rattle.re_lower.specs.Lower.{left_of_triangle}
 use Rattle.re_lower.proofs.Blocks.{triangle_room}
 use Rattle.re_factor.proofs.Lends.{lent_factor}
-use borrow.Author.Rules.{rules}
 use Rattle.re_factor.proofs.chol.Goals as goal
 
 pub returns : goal.returns

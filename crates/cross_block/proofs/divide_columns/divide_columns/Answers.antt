@@ -1,11 +1,8 @@
-use borrow.Author.Rules.{rules}
 use mathlib.Core.Path.{refl}
-use Prim.Native.Nat.{◌-◌}
 use native.Mathlib.Omega.{arith}
 use Rattle.storage.specs.Placed.{as_columns}
 use Rattle.storage.proofs.Starts.{start_single}
-use Rattle.block_runs.proofs.blocks.Going.{Going, going_none, going_room, going_all}
-use Rattle.cross_block.specs.Blocks.{divided_cell}
+use Rattle.block_runs.proofs.blocks.Going.{going_none, going_room, going_all}
 use Rattle.cross_block.proofs.Turns.{divide_turn}
 use Rattle.cross_block.proofs.divide_columns.divide_columns.Goals as goal
 

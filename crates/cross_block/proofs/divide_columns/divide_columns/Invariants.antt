@@ -1,13 +1,8 @@
 -- `cross_block::divide_columns::divide_columns`: the first c columns are divided.
-use borrow.Author.Rules.{rules}
-use mathlib.Core.Path.{refl}
 use Prim.Native.Nat.{◌-◌}
-use native.Mathlib.Omega.{arith}
 use Rattle.storage.specs.Placed.{as_columns}
-use Rattle.storage.proofs.Starts.{start_single}
-use Rattle.block_runs.proofs.blocks.Going.{Going, going_none, going_room, going_all}
+use Rattle.block_runs.proofs.blocks.Going.{Going}
 use Rattle.cross_block.specs.Blocks.{divided_cell}
-use Rattle.cross_block.proofs.Turns.{divide_turn}
 use Rattle.cross_block.proofs.divide_columns.divide_columns.Given as goal
 
 abbrev pub invariant-loop-c : goal.invariant-loop-c

@@ -1,14 +1,9 @@
 -- `cross_block::scaling::scale_once`: the first i doubles are written.
-use borrow.Author.Rules.{rules}
-use mathlib.Core.Path.{ap}
 use Prim.Native.Nat.{◌-◌, ◌+◌}
-use native.Mathlib.Omega.{arith}
-use lib.Ieee.{nan}
-use Rattle.storage.proofs.Filling.{Filling, filling_none, filling_apart, filling_more, filling_done}
+use Rattle.storage.proofs.Filling.{Filling}
 use Rattle.rules.specs.Arithmetic.{ieee}
 use Rattle.rules.specs.Begin.{fixed_cell}
 use Rattle.block_runs.specs.axpy.Axpy.{at}
-use Rattle.cross_block.proofs.Turns.{as_shape}
 use Rattle.cross_block.proofs.scaling.scale_once.Given as goal
 
 abbrev pub invariant-loop-i : goal.invariant-loop-i

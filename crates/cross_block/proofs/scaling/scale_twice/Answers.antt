@@ -1,12 +1,9 @@
-use borrow.Author.Rules.{rules}
 use mathlib.Core.Path.{ap}
-use Prim.Native.Nat.{◌-◌, ◌+◌}
 use native.Mathlib.Omega.{arith}
 use lib.Ieee.{nan}
-use Rattle.storage.proofs.Filling.{Filling, filling_none, filling_apart, filling_more, filling_done}
+use Rattle.storage.proofs.Filling.{filling_none, filling_apart, filling_more, filling_done}
 use Rattle.rules.specs.Arithmetic.{ieee}
 use Rattle.rules.specs.Begin.{cross_cell}
-use Rattle.block_runs.specs.axpy.Axpy.{at}
 use Rattle.cross_block.proofs.Turns.{as_shape}
 use Rattle.cross_block.proofs.scaling.scale_twice.Goals as goal
 
@@ -15,7 +12,7 @@ loop-i-init c = let a = c.args in filling_none _ a.off a.n a.doubles.now (omega 
 
 pub loop-i-preserved : goal.loop-i-preserved
 loop-i-preserved c = let a = c.args in let l = c.loop-i in
-    filling_more l.invariant (omega arith) (ap (cross_cell ieee a.column a.row) (filling_apart l.invariant nan a.src a.n c.requires.fact l.i (omega arith)))
+    filling_more l.invariant (omega arith) (ap (cross_cell ieee a.column a.row) (filling_apart l.invariant nan a.src a.n c.requires.apart l.i (omega arith)))
 
 pub returns : goal.returns
 returns c = let a = c.args in

@@ -1,11 +1,9 @@
-use borrow.Author.Rules.{rules}
 use mathlib.Core.Path.{◌≡◌, refl}
-use Prim.Native.Nat.{◌≤◌, ◌-◌, ◌+◌}
+use Prim.Native.Nat.{◌+◌}
 use native.Mathlib.Omega.{arith}
 use native.Mathlib.Numerals.{add-one}
 use lib.Ieee.{of_bits}
 use Rattle.block_runs.specs.axpy.Axpy.{along}
-use Rattle.cross_matvec.specs.Products.{column_sum}
 use Rattle.cross_matvec.proofs.Dense.{sum_more}
 use Rattle.cross_matvec.proofs.column_sums.four.Goals as goal
 

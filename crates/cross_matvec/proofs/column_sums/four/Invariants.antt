@@ -1,13 +1,7 @@
 -- `cross_matvec::column_sums::four`: each of the four is the sum of the first r products of its column.
-use borrow.Author.Rules.{rules}
-use mathlib.Core.Path.{◌≡◌, refl}
-use Prim.Native.Nat.{◌≤◌, ◌-◌, ◌+◌}
-use native.Mathlib.Omega.{arith}
-use native.Mathlib.Numerals.{add-one}
-use lib.Ieee.{of_bits}
-use Rattle.block_runs.specs.axpy.Axpy.{along}
+use mathlib.Core.Path.{◌≡◌}
+use Prim.Native.Nat.{◌≤◌, ◌-◌}
 use Rattle.cross_matvec.specs.Products.{column_sum}
-use Rattle.cross_matvec.proofs.Dense.{sum_more}
 use Rattle.cross_matvec.proofs.column_sums.four.Given as goal
 
 abbrev pub invariant-loop-r : goal.invariant-loop-r

@@ -1,5 +1,4 @@
 -- `cross_matvec::column_sums::subtract_four`: the four sums are those of the columns.
-use borrow.Author.Rules.{rules}
 use Rattle.cross_matvec.proofs.Dense.{four_subtracted}
 use Rattle.cross_matvec.proofs.column_sums.subtract_four.Goals as goal
 

@@ -1,5 +1,4 @@
 -- `cross_matvec::column_sums::subtract_one`: the entry less the sum of its column.
-use borrow.Author.Rules.{rules}
 use native.Mathlib.Omega.{arith}
 use Rattle.cross_matvec.proofs.Dense.{column_subtracted}
 use Rattle.cross_matvec.proofs.column_sums.subtract_one.Goals as goal

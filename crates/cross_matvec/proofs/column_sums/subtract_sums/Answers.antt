@@ -4,7 +4,6 @@ use lib.ListN.{length-set}
 use Prim.Native.Nat.{◌+◌}
 use Rattle.storage.proofs.Filling.{filling_none, filling_done}
 use Rattle.cross_matvec.proofs.Dense.{entry_subtracted}
-use borrow.Author.Rules.{rules}
 use Rattle.cross_matvec.proofs.column_sums.subtract_sums.Goals as goal
 
 pub bounds-v-to-3 : goal.bounds-v-to-3

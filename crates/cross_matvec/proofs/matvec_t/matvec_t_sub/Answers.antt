@@ -1,11 +1,8 @@
-use borrow.Author.Rules.{rules}
-use mathlib.Core.Path.{◌≡◌, refl, ◌∙◌}
-use Prim.Native.Nat.{◌-◌, ◌+◌}
+use mathlib.Core.Path.{refl, ◌∙◌}
 use native.Mathlib.Omega.{arith}
-use Rattle.storage.proofs.Filling.{Filling, filling_none, filling_done}
-use Rattle.storage.specs.Runs.{start, dense}
+use Rattle.storage.proofs.Filling.{filling_none, filling_done}
+use Rattle.storage.specs.Runs.{start}
 use Rattle.block_runs.proofs.axpy.Sums.{left_fits, next_start}
-use Rattle.cross_matvec.specs.Products.{minus_column}
 use Rattle.cross_matvec.proofs.Dense.{columns_more, columns_done}
 use Rattle.cross_matvec.proofs.matvec_t.matvec_t_sub.Goals as goal
 

@@ -1,13 +1,9 @@
 -- `cross_matvec::matvec_t::matvec_t_sub`: the first c entries are written, p is where column c starts.
-use borrow.Author.Rules.{rules}
-use mathlib.Core.Path.{◌≡◌, refl, ◌∙◌}
+use mathlib.Core.Path.{◌≡◌}
 use Prim.Native.Nat.{◌-◌, ◌+◌}
-use native.Mathlib.Omega.{arith}
-use Rattle.storage.proofs.Filling.{Filling, filling_none, filling_done}
+use Rattle.storage.proofs.Filling.{Filling}
 use Rattle.storage.specs.Runs.{start, dense}
-use Rattle.block_runs.proofs.axpy.Sums.{left_fits, next_start}
 use Rattle.cross_matvec.specs.Products.{minus_column}
-use Rattle.cross_matvec.proofs.Dense.{columns_more, columns_done}
 use Rattle.cross_matvec.proofs.matvec_t.matvec_t_sub.Given as goal
 
 abbrev pub invariant-loop-c : goal.invariant-loop-c

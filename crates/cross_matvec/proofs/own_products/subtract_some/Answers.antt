@@ -1,5 +1,4 @@
 -- `cross_matvec::own_products::subtract_some`: the columns that are left have room for one, or for four.
-use borrow.Author.Rules.{rules}
 use native.Mathlib.Omega.{arith}
 use lib.ListN.{length}
 use Rattle.block_runs.proofs.axpy.Sums.{one_fits, four_fit}

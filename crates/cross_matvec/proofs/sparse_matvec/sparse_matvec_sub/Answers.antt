@@ -1,14 +1,8 @@
 use mathlib.Core.Path.{◌≡◌, refl}
-use Prim.Native.Nat.{◌≤◌, ◌<◌, ◌-◌}
+use Prim.Native.Nat.{◌<◌}
 use native.Mathlib.Omega.{arith}
 use native.Mathlib.Numerals.{add-one}
-use lib.ListN.{length}
 use Rattle.storage.proofs.Starts.{start_single}
-use Rattle.rules.specs.Arithmetic.{ieee}
-use Rattle.rules.specs.Solves.{sparse_matvec_sub}
-use Rattle.block_runs.specs.blocks.Blocks.{entry}
-use Rattle.block_runs.specs.axpy.Axpy.{run}
-use Rattle.cross_matvec.specs.Products.{row_in}
 use Rattle.cross_matvec.proofs.Skips.{skip_none, skip_more}
 use Rattle.cross_matvec.proofs.sparse_matvec.sparse_matvec_sub.Goals as goal
 

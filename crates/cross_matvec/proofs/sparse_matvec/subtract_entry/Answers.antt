@@ -1,7 +1,6 @@
 -- `cross_matvec::sparse_matvec::subtract_entry`: the test is the definition's.
 use mathlib.Core.Bool.{true, false}
 use Rattle.cross_matvec.proofs.Skips.{by_test}
-use borrow.Author.Rules.{rules}
 use Rattle.cross_matvec.proofs.sparse_matvec.subtract_entry.Goals as goal
 
 pub returns-then-e : goal.returns-then-e

@@ -1,13 +1,10 @@
 -- `cross_matvec::sparse_matvec_t::sparse_matvec_t_sub`: the first c entries are written.
-use Prim.Native.Nat.{◌<◌, ◌-◌}
-use native.Mathlib.Omega.{arith}
-use Rattle.storage.proofs.Filling.{Filling, filling_none, filling_done}
-use Rattle.storage.proofs.Starts.{start_single}
+use Prim.Native.Nat.{◌-◌}
+use Rattle.storage.proofs.Filling.{Filling}
 use Rattle.rules.specs.Arithmetic.{ieee}
 use Rattle.rules.specs.Solves.{sparse_matvec_t_sub}
 use Rattle.block_runs.specs.blocks.Blocks.{entry}
 use Rattle.cross_matvec.specs.Products.{row_in}
-use Rattle.cross_matvec.proofs.Vectors.{sparse_subtracted}
 use Rattle.cross_matvec.proofs.sparse_matvec_t.sparse_matvec_t_sub.Given as goal
 
 abbrev pub invariant-loop-c : goal.invariant-loop-c

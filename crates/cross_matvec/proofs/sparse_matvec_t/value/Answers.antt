@@ -1,5 +1,4 @@
 -- `cross_matvec::sparse_matvec_t::value`: an entry of the part is the list's own, so far behind its start.
-use borrow.Author.Rules.{rules}
 use Prim.Native.Nat.{◌-◌}
 use mathlib.Core.Path.{◌∙◌, ap}
 use mathlib.Core.List.{List}

@@ -1,10 +1,7 @@
-use borrow.Author.Rules.{rules}
-use Prim.Native.Nat.{◌+◌, ◌-◌, ◌≤◌}
 use native.Mathlib.Omega.{arith}
-use lib.ListN.{length}
 use Rattle.storage.proofs.Starts.{start_single}
-use Rattle.storage.proofs.Filling.{Filling, filling_none, filling_done}
-use Rattle.re_factor.proofs.Turns.{quotient, divide_turn}
+use Rattle.storage.proofs.Filling.{filling_none, filling_done}
+use Rattle.re_factor.proofs.Turns.{divide_turn}
 use Rattle.re_factor.proofs.block_divide.divide.Goals as goal
 
 pub loop-i-init : goal.loop-i-init

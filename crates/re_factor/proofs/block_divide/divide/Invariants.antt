@@ -1,11 +1,8 @@
 -- `re_factor::block_divide::divide`: the first i entries are divided.
-use borrow.Author.Rules.{rules}
 use Prim.Native.Nat.{◌+◌, ◌-◌, ◌≤◌}
-use native.Mathlib.Omega.{arith}
 use lib.ListN.{length}
-use Rattle.storage.proofs.Starts.{start_single}
-use Rattle.storage.proofs.Filling.{Filling, filling_none, filling_done}
-use Rattle.re_factor.proofs.Turns.{quotient, divide_turn}
+use Rattle.storage.proofs.Filling.{Filling}
+use Rattle.re_factor.proofs.Turns.{quotient}
 use Rattle.re_factor.proofs.block_divide.divide.Given as goal
 
 abbrev pub invariant-loop-i : goal.invariant-loop-i

@@ -1,7 +1,6 @@
 -- `re_factor::block_logs::log_pivots`: the lent part is the block.
 use Rattle.storage.specs.Placed.{as_triangle}
 use Rattle.re_factor.proofs.Lends.{lent_logs}
-use borrow.Author.Rules.{rules}
 use Rattle.re_factor.proofs.block_logs.log_pivots.Goals as goal
 
 pub returns : goal.returns

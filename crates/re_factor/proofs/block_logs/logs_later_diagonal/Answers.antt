@@ -1,7 +1,6 @@
 -- `re_factor::block_logs::logs_later_diagonal`: the callee's sum, added.
 use mathlib.Core.Path.{ap}
 use lib.Ieee.{add, binary64}
-use borrow.Author.Rules.{rules}
 use Rattle.re_factor.proofs.block_logs.logs_later_diagonal.Goals as goal
 
 pub returns : goal.returns

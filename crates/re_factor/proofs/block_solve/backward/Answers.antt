@@ -4,7 +4,6 @@ use Rattle.rules.specs.Arithmetic.{ieee}
 use Rattle.rules.specs.Solves.{backward}
 use Rattle.re_lower.proofs.Back.{length_backward}
 use Rattle.re_factor.proofs.Lends.{lent_solve}
-use borrow.Author.Rules.{rules}
 use Rattle.re_factor.proofs.block_solve.backward.Goals as goal
 
 pub returns : goal.returns

@@ -3,7 +3,6 @@ use native.Mathlib.Omega.{arith}
 use Rattle.rules.specs.Arithmetic.{ieee}
 use Rattle.rules.specs.Cholesky.{forward}
 use Rattle.re_factor.proofs.Lends.{lent_solve}
-use borrow.Author.Rules.{rules}
 use Rattle.rules.proofs.Rows.{length_forward}
 use Rattle.re_factor.proofs.block_solve.forward.Goals as goal
 

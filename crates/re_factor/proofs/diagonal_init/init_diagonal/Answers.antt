@@ -1,14 +1,13 @@
-use borrow.Author.Rules.{rules}
-use mathlib.Core.Path.{◌≡◌, refl}
-use Prim.Native.Nat.{◌≤◌, ◌-◌, ◌+◌}
+use mathlib.Core.Path.{refl}
+use Prim.Native.Nat.{◌+◌}
 use native.Mathlib.Omega.{arith}
 use native.Mathlib.Numerals.{add-one}
-use lib.ListN.{length, length-set}
+use lib.ListN.{length-set}
 use Rattle.storage.specs.Placed.{block_of, as_diagonal}
 use Rattle.storage.proofs.Starts.{start_single}
 use Rattle.block_runs.proofs.blocks.Laws.{has_diagonal}
 use Rattle.re_factor.specs.Factor.{loaded_of}
-use Rattle.re_factor.proofs.Turns.{Begun, begun_none, begun_pivot, begun_all}
+use Rattle.re_factor.proofs.Turns.{begun_none, begun_pivot, begun_all}
 use Rattle.re_factor.proofs.diagonal_init.init_diagonal.Goals as goal
 
 pub loop-r-init : goal.loop-r-init

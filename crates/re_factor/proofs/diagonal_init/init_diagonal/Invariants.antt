@@ -1,15 +1,10 @@
 -- `re_factor::diagonal_init::init_diagonal`: the first r pivots are written.
-use borrow.Author.Rules.{rules}
-use mathlib.Core.Path.{◌≡◌, refl}
+use mathlib.Core.Path.{◌≡◌}
 use Prim.Native.Nat.{◌≤◌, ◌-◌, ◌+◌}
-use native.Mathlib.Omega.{arith}
-use native.Mathlib.Numerals.{add-one}
-use lib.ListN.{length, length-set}
-use Rattle.storage.specs.Placed.{block_of, as_diagonal}
-use Rattle.storage.proofs.Starts.{start_single}
-use Rattle.block_runs.proofs.blocks.Laws.{has_diagonal}
+use lib.ListN.{length}
+use Rattle.storage.specs.Placed.{as_diagonal}
 use Rattle.re_factor.specs.Factor.{loaded_of}
-use Rattle.re_factor.proofs.Turns.{Begun, begun_none, begun_pivot, begun_all}
+use Rattle.re_factor.proofs.Turns.{Begun}
 use Rattle.re_factor.proofs.diagonal_init.init_diagonal.Given as goal
 
 abbrev pub invariant-loop-r : goal.invariant-loop-r

@@ -1,9 +1,6 @@
-use borrow.Author.Rules.{rules}
 use mathlib.Core.Path.{refl}
-use Prim.Native.Nat.{◌-◌}
 use native.Mathlib.Omega.{arith}
-use Rattle.storage.proofs.Filling.{Filling, filling_none, filling_more, filling_done}
-use Rattle.rules.specs.Arithmetic.{ieee}
+use Rattle.storage.proofs.Filling.{filling_none, filling_more, filling_done}
 use Rattle.re_factor.proofs.triangle_init.clear.Goals as goal
 
 pub loop-i-init : goal.loop-i-init

@@ -1,15 +1,14 @@
-use borrow.Author.Rules.{rules}
-use mathlib.Core.Path.{◌≡◌, refl}
-use Prim.Native.Nat.{suc, ◌≤◌, ◌-◌, ◌+◌}
+use mathlib.Core.Path.{refl}
+use Prim.Native.Nat.{suc, ◌≤◌, ◌+◌}
 use native.Mathlib.Omega.{arith}
 use native.Mathlib.Numerals.{add-one}
-use lib.ListN.{length, length-set}
+use lib.ListN.{length-set}
 use Rattle.storage.specs.Runs.{start, triangle}
 use Rattle.storage.specs.Placed.{block_of, as_triangle}
 use Rattle.storage.proofs.Starts.{start_below, start_single}
 use Rattle.block_runs.proofs.blocks.Laws.{has_packed}
 use Rattle.re_factor.specs.Factor.{loaded_of}
-use Rattle.re_factor.proofs.Turns.{Begun, begun_none, begun_cells, begun_pivot, begun_all, off_diagonal_zero}
+use Rattle.re_factor.proofs.Turns.{begun_none, begun_cells, begun_pivot, begun_all, off_diagonal_zero}
 use Rattle.re_factor.proofs.triangle_init.init.Goals as goal
 
 pub loop-r-init : goal.loop-r-init

@@ -1,16 +1,11 @@
 -- `re_factor::triangle_init::init`: the first r rows are written.
-use borrow.Author.Rules.{rules}
-use mathlib.Core.Path.{◌≡◌, refl}
-use Prim.Native.Nat.{suc, ◌≤◌, ◌-◌, ◌+◌}
-use native.Mathlib.Omega.{arith}
-use native.Mathlib.Numerals.{add-one}
-use lib.ListN.{length, length-set}
+use mathlib.Core.Path.{◌≡◌}
+use Prim.Native.Nat.{◌≤◌, ◌-◌, ◌+◌}
+use lib.ListN.{length}
 use Rattle.storage.specs.Runs.{start, triangle}
-use Rattle.storage.specs.Placed.{block_of, as_triangle}
-use Rattle.storage.proofs.Starts.{start_below, start_single}
-use Rattle.block_runs.proofs.blocks.Laws.{has_packed}
+use Rattle.storage.specs.Placed.{as_triangle}
 use Rattle.re_factor.specs.Factor.{loaded_of}
-use Rattle.re_factor.proofs.Turns.{Begun, begun_none, begun_cells, begun_pivot, begun_all, off_diagonal_zero}
+use Rattle.re_factor.proofs.Turns.{Begun}
 use Rattle.re_factor.proofs.triangle_init.init.Given as goal
 
 abbrev pub invariant-loop-r : goal.invariant-loop-r

@@ -1,0 +1,19 @@
+use Prim.Native.Nat.{◌-◌, ◌<◌}
+use borrow.Author.Rules.{rules}
+use native.Mathlib.Omega.{arith}
+use Rattle.solution_vectors.proofs.Vectors.{Blockwise, blockwise_none, blockwise_all}
+use Rattle.solution_vectors.specs.result_places.Places.{b_at}
+use Rattle.solution_finish.specs.b_vector.Effects.{effect_block, effect_blocks}
+use Rattle.solution_finish.proofs.b_vector.Scaled.{b_more}
+use Rattle.solution_finish.proofs.b_vector.write_b.Goals as goal
+
+pub loop-j-init : goal.loop-j-init
+loop-j-init c = blockwise_none c.requires.0.valid (omega (arith, c.requires.1))
+
+pub loop-j-preserved : goal.loop-j-preserved
+loop-j-preserved c = let l = c.loop-j in let t : l.j < c.args.layout.k = omega arith in
+    b_more c.args.layout c.requires.0.valid c.args.heading.now c.args.doubles.now l.invariant t c.scale_block.ensures
+
+pub returns : goal.returns
+unfolding effect_blocks
+returns c = blockwise_all c.loop-j.invariant (omega arith)

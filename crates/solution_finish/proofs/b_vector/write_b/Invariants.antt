@@ -1,0 +1,15 @@
+-- `solution_finish::b_vector::write_b`: the first j blocks of b are written.
+use Prim.Native.Nat.{◌-◌, ◌<◌}
+use borrow.Author.Rules.{rules}
+use native.Mathlib.Omega.{arith}
+use Rattle.solution_vectors.proofs.Vectors.{Blockwise, blockwise_none, blockwise_all}
+use Rattle.solution_vectors.specs.result_places.Places.{b_at}
+use Rattle.solution_finish.specs.b_vector.Effects.{effect_block, effect_blocks}
+use Rattle.solution_finish.proofs.b_vector.Scaled.{b_more}
+use Rattle.solution_finish.proofs.b_vector.write_b.Given as goal
+
+abbrev pub invariant-loop-j : goal.invariant-loop-j
+invariant-loop-j l = Blockwise l.layout (b_at l.layout) (effect_block l.heading l.doubles l.layout l.initial.v) l.initial.v l.v l.j
+
+abbrev pub decreases-loop-j : goal.decreases-loop-j
+decreases-loop-j l = l.layout.k - l.j

@@ -1,0 +1,8 @@
+-- `solution_finish::beta::solve_beta`: a copy, the two substitutions, the sum, and the copy put back.
+use native.Mathlib.Omega.{arith}
+use Rattle.solution_finish.proofs.beta.Solved.{solved}
+use borrow.Author.Rules.{rules}
+use Rattle.solution_finish.proofs.beta.solve_beta.Goals as goal
+
+pub returns : goal.returns
+returns c = solved c.args.off c.args.p c.args.v.now _ _ _ _ (omega (arith, c.requires.0)) c.requires.1 c.read.ensures c.forward.ensures c.backward.ensures _ _ c.one-r.ensures c.put.ensures

@@ -1,0 +1,8 @@
+-- `solution_finish::refuse`: the list cleared whole.
+use mathlib.Core.Path.{refl}
+use Rattle.solution_finish.proofs.Finish.{cleared}
+use borrow.Author.Rules.{rules}
+use Rattle.solution_finish.proofs.refuse.Goals as goal
+
+pub returns : goal.returns
+returns c = (refl, cleared c.args.v.now _ c.clear.ensures)
