@@ -1,6 +1,5 @@
 -- `block_places::block`: each part is what its function says.
 use mathlib.Core.Path.{refl}
-use borrow.Author.Rules.{rules}
 use Rattle.block_places.proofs.block.Goals as goal
 
 pub returns : goal.returns

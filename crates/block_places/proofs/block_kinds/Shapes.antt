@@ -2,7 +2,7 @@
 use Prim.Native.Nat.{ℕ, ◌+◌, ◌≤◌, ◌<◌}
 use mathlib.Core.Path.{◌≡◌, refl, sym, ap, ◌∙◌}
 use mathlib.Core.Bool.{Bool, true, false}
-use mathlib.Core.Logic.{◌⊎◌, inl, inr, ⊎_elim, by_cases}
+use mathlib.Core.Logic.{◌⊎◌, ⊎_elim, by_cases}
 use native.Mathlib.Decide.{dec_lt}
 use native.Mathlib.Omega.{arith}
 use borrow.Author.Tests.{eq-eqb, ne_eqb}
@@ -15,7 +15,7 @@ use Rattle.heading_format.specs.Heading.{valid_layout}
 use Rattle.heading_format.proofs.Valid.{is_valid}
 use Rattle.heading_format.proofs.Sorted.{dense_rows, packed_rows}
 use Rattle.layout.proofs.Factors.{later_packed}
-use Rattle.layout.proofs.Places.{size_working, size_loaded, working_inside, working_behind, working_apart, loaded_inside}
+use Rattle.layout.proofs.Places.{size_working, size_loaded, working_inside, working_behind, loaded_inside}
 use Rattle.block_places.specs.block_kinds.Rows.{rows_of}
 
 -- one of two runs of doubles ends before the other starts

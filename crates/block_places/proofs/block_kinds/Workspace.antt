@@ -7,8 +7,8 @@ use native.Mathlib.Omega.{arith}
 use lib.ListN.{length}
 use lib.Ieee.{Float}
 use Rattle.layout.specs.declared.Layout.{Layout}
-use Rattle.layout.specs.Shapes.{levels, doubles_needed}
-use Rattle.heading_format.specs.Heading.{valid_layout, layout_of, entry_row, numbers_needed}
+use Rattle.layout.specs.Shapes.{levels}
+use Rattle.heading_format.specs.Heading.{entry_row}
 use Rattle.heading_format.specs.Fits.{Fits}
 use Rattle.block_places.specs.block_kinds.Rows.{rows_of}
 use Rattle.block_places.proofs.block_kinds.Shapes.{sparse_two, rows_level}

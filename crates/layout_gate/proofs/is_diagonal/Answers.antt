@@ -1,6 +1,5 @@
 -- `layout_gate::is_diagonal`: the pass over the entries of the two blocks.
 use mathlib.Core.Path.{◌∙◌}
-use borrow.Author.Rules.{rules}
 use native.Mathlib.Omega.{arith}
 use Rattle.layout_gate.proofs.Reading.{not_two, two, given_small, given_below, given_room}
 use Rattle.layout_gate.proofs.is_diagonal.Goals as goal

@@ -2,7 +2,6 @@
 use Prim.Native.Nat.{ℕ, ◌≤◌}
 use mathlib.Core.Path.{sym, subst, ◌∙◌}
 use mathlib.Core.List.{List}
-use borrow.Author.Rules.{rules}
 use lib.ListN.{get_or}
 use Rattle.sheet_checks.proofs.levels.Reading.{few}
 use Rattle.layout_gate.proofs.Reading.{order_is, levels_are, layout_small}

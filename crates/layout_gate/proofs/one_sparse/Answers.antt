@@ -1,6 +1,5 @@
 -- `layout_gate::one_sparse`: with k = 2, what the gate says.
 use mathlib.Core.Path.{ap, ◌∙◌}
-use borrow.Author.Rules.{rules}
 use native.Mathlib.Omega.{arith}
 use Rattle.heading_format.specs.Heading.{is_sparse}
 use Rattle.layout_gate.proofs.Reading.{not_sparse, is_two}

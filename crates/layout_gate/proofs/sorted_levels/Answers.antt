@@ -1,7 +1,5 @@
-use Prim.Native.Nat.{◌-◌}
-use borrow.Author.Rules.{rules}
 use native.Mathlib.Omega.{arith}
-use Rattle.layout_gate.proofs.Picking.{Picked, picked_start, picked_more, picked_done, block_below}
+use Rattle.layout_gate.proofs.Picking.{picked_start, picked_more, picked_done, block_below}
 use Rattle.layout_gate.proofs.sorted_levels.Goals as goal
 
 pub loop-i-init : goal.loop-i-init

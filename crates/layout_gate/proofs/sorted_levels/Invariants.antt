@@ -1,8 +1,6 @@
 -- `layout_gate::sorted_levels`: the levels picked so far are stored, and the rest follow.
 use Prim.Native.Nat.{◌-◌}
-use borrow.Author.Rules.{rules}
-use native.Mathlib.Omega.{arith}
-use Rattle.layout_gate.proofs.Picking.{Picked, picked_start, picked_more, picked_done, block_below}
+use Rattle.layout_gate.proofs.Picking.{Picked}
 use Rattle.layout_gate.proofs.sorted_levels.Given as goal
 
 abbrev pub invariant-loop-i : goal.invariant-loop-i

@@ -6,7 +6,6 @@ use Rattle.layout.specs.Shapes.{levels}
 use Rattle.workspace.specs.Loaded.{entry_row_in}
 use Rattle.load_numbers.proofs.sheet_words.Loads.{ready_valid, knows}
 use Rattle.load_numbers.proofs.Made.{sparse_room, unpicked, rows_loaded}
-use borrow.Author.Rules.{rules}
 use Rattle.load_numbers.proofs.load_entry_rows.Goals as goal
 
 pub map_of-m-requires : goal.map_of-m-requires

@@ -6,7 +6,6 @@ use Rattle.heading_format.proofs.Valid.{is_valid}
 use Rattle.workspace.specs.Loaded.{row_start}
 use Rattle.load_numbers.proofs.word_address.Places.{found}
 use Rattle.load_numbers.proofs.Made.{put_none, put_one}
-use borrow.Author.Rules.{rules}
 use Rattle.load_numbers.proofs.put_row.Goals as goal
 
 pub returns-then-block_of-ne0 : goal.returns-then-block_of-ne0

@@ -1,15 +1,9 @@
 -- `load_numbers::put_rows`: what is left of the lines still makes what all of them make.
-use Prim.Native.Nat.{ℕ, ◌+◌, ◌-◌}
-use mathlib.Core.Path.{◌≡◌, sym, ap, ◌∙◌}
-use mathlib.Core.List.{List}
-use native.Mathlib.Omega.{arith}
-use borrow.Author.Rules.{rules}
-use lib.ListN.{length, length-set}
+use mathlib.Core.Path.{◌≡◌}
+use lib.ListN.{length}
 use Rattle.sheet.specs.Line.{zz_tag, pair_line}
 use Rattle.load_numbers.specs.word_address.Spread.{spread}
-use Rattle.load_numbers.proofs.word_address.Places.{spread_none, spread_more}
-use Rattle.load_numbers.specs.Rows.{row_place, put_row}
-use Rattle.load_numbers.proofs.Made.{any_number}
+use Rattle.load_numbers.specs.Rows.{put_row}
 use Rattle.load_numbers.proofs.put_rows.Given as goal
 
 abbrev pub invariant-loop-left : goal.invariant-loop-left

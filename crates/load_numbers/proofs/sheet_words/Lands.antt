@@ -7,7 +7,7 @@ use native.Mathlib.Decide.{dec_lt}
 use native.Mathlib.Omega.{arith}
 use lib.Dec.{ltb, eqb}
 use borrow.Author.Tests.{ltb-true, eqb-true, lt-ltb, le-ltb, eq-eqb, ne_eqb}
-use Rattle.storage.specs.Shape.{Shape, packed, diagonal, columns, entries, has_cell, place_of as cell_at}
+use Rattle.storage.specs.Shape.{Shape, diagonal, columns, entries, has_cell, place_of as cell_at}
 use Rattle.storage.proofs.Places.{place_below, place_one_to_one, place_columns, place_diagonal, place_entries}
 use Rattle.sheet.specs.Field.{nowhere}
 use Rattle.layout.specs.declared.Layout.{Layout}

@@ -1,5 +1,4 @@
 -- `solution_vectors::block_start`: the block's rows are among the vector's.
-use borrow.Author.Rules.{rules}
 use native.Mathlib.Omega.{arith}
 use Rattle.block_places.proofs.sheet_rows.AllRows.{rows_within}
 use Rattle.solution_vectors.proofs.block_start.Goals as goal

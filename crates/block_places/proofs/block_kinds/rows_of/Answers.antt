@@ -3,7 +3,6 @@ use mathlib.Core.Path.{sym, ◌∙◌}
 use native.Mathlib.Omega.{arith}
 use Rattle.block_places.proofs.block_sizes.Sizes.{below, few_blocks}
 use Rattle.block_places.proofs.block_kinds.Shapes.{rows_last, rows_level}
-use borrow.Author.Rules.{rules}
 use Rattle.block_places.proofs.block_kinds.rows_of.Goals as goal
 
 pub returns-then-i-layout : goal.returns-then-i-layout

@@ -3,7 +3,6 @@ use native.Mathlib.Omega.{arith}
 use Rattle.block_places.specs.block_sizes.Kind.{sizes_of}
 use Rattle.block_places.proofs.block_sizes.Sizes.{cells_small}
 use Rattle.block_places.proofs.block_sizes.Before.{last_ends}
-use borrow.Author.Rules.{rules}
 use Rattle.block_places.proofs.block_sizes.all_cells.Goals as goal
 
 pub overflow_add-result : goal.overflow_add-result

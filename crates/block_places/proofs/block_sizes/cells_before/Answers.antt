@@ -1,13 +1,11 @@
 -- `block_places::block_sizes::cells_before`: the factors before it; or all factors, the pairs of the rows above and the blocks to its left.
 use Prim.Native.Nat.{ℕ}
 use mathlib.Core.Path.{◌≡◌, sym, subst, ◌∙◌}
-use mathlib.Core.Logic.{⊎_elim}
 use native.Mathlib.Omega.{arith}
 use Rattle.layout.specs.Shapes.{targets, factors, cells_of, before}
 use Rattle.block_places.specs.block_sizes.Kind.{sizes_of}
 use Rattle.block_places.proofs.block_sizes.Sizes.{before_small}
 use Rattle.block_places.proofs.block_sizes.Before.{before_factor, before_row}
-use borrow.Author.Rules.{rules}
 use Rattle.block_places.proofs.block_sizes.cells_before.Goals as goal
 use Rattle.block_places.proofs.block_sizes.cells_before.Goals.{then-i-j+else-i-layout, else-i-j}
 

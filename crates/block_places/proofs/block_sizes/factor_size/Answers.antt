@@ -3,7 +3,6 @@ use mathlib.Core.Path.{sym, ap, ◌∙◌}
 use mathlib.Core.Logic.{inl, inr}
 use native.Mathlib.Omega.{arith}
 use Prim.Native.Nat.{ℕ, ◌+◌, ◌*◌, ◌/◌}
-use borrow.Author.Rules.{rules}
 use Rattle.block_places.proofs.block_sizes.Sizes.{few_blocks, few_levels, product_small, kind_diagonal, kind_packed}
 use Rattle.block_places.proofs.block_sizes.factor_size.Goals as goal
 

@@ -5,7 +5,6 @@ use native.Mathlib.Omega.{arith}
 use Rattle.layout.specs.Shapes.{last_rows}
 use Rattle.block_places.specs.block_sizes.Kind.{sizes_of}
 use Rattle.block_places.proofs.block_sizes.Sizes.{few_blocks, few_levels, product_small, kind_fixed, kind_last, below}
-use borrow.Author.Rules.{rules}
 use Rattle.block_places.proofs.block_sizes.fixed_size.Goals as goal
 
 pub overflow_mul-result : goal.overflow_mul-result

@@ -1,10 +1,8 @@
 -- `block_places::block_sizes::pair_cells`: the cells of the pairs of the first i factors.
 use Prim.Native.Nat.{◌-◌}
-use native.Mathlib.Omega.{arith}
 use Rattle.layout.specs.Shapes.{across, pairs, cells_of}
 use Rattle.block_places.specs.block_sizes.Kind.{sizes_of}
-use Rattle.block_places.proofs.block_sizes.Growing.{Summing, summing_none, summing_fits, summing_more, summing_all, pairs_sums}
-use Rattle.block_places.proofs.block_sizes.Sizes.{few_blocks, row_small}
+use Rattle.block_places.proofs.block_sizes.Growing.{Summing}
 use Rattle.block_places.proofs.block_sizes.pair_cells.Given as goal
 
 abbrev pub invariant-loop-i : goal.invariant-loop-i

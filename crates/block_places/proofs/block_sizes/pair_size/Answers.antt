@@ -1,6 +1,5 @@
 -- `block_places::block_sizes::pair_size`: sparse or dense.
 use mathlib.Core.Path.{sym, ap₂, ◌∙◌}
-use borrow.Author.Rules.{rules}
 use native.Mathlib.Omega.{arith}
 use Prim.Native.Nat.{ℕ, ◌*◌}
 use Rattle.block_places.proofs.block_sizes.Sizes.{few_blocks, few_levels, product_small, kind_sparse, kind_dense}

@@ -1,8 +1,6 @@
-use Prim.Native.Nat.{◌-◌}
 use native.Mathlib.Omega.{arith}
-use Rattle.layout.specs.Shapes.{across, cells_of}
 use Rattle.block_places.specs.block_sizes.Kind.{sizes_of}
-use Rattle.block_places.proofs.block_sizes.Growing.{Summing, summing_none, summing_fits, summing_more, summing_all, across_sums}
+use Rattle.block_places.proofs.block_sizes.Growing.{summing_none, summing_fits, summing_more, summing_all, across_sums}
 use Rattle.block_places.proofs.block_sizes.Sizes.{few_blocks, block_small}
 use Rattle.block_places.proofs.block_sizes.row_cells.Goals as goal
 

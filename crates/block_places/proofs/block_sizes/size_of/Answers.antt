@@ -2,7 +2,6 @@
 use mathlib.Core.Path.{sym, ap, ◌∙◌}
 use Prim.Native.Nat.{ℕ}
 use Rattle.block_places.specs.block_sizes.Kind.{sizes_of}
-use borrow.Author.Rules.{rules}
 use Rattle.block_places.proofs.block_sizes.size_of.Goals as goal
 
 pub returns-then-i-layout : goal.returns-then-i-layout

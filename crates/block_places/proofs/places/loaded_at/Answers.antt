@@ -1,6 +1,5 @@
 -- `block_places::places::loaded_at`: the loaded cells before it.
 use Rattle.layout.specs.Shapes.{loaded_at}
-use borrow.Author.Rules.{rules}
 use Rattle.block_places.proofs.places.loaded_at.Goals as goal
 
 pub returns : goal.returns

@@ -3,7 +3,6 @@ use native.Mathlib.Omega.{arith}
 use Rattle.layout.specs.Shapes.{sum_at}
 use Rattle.layout.proofs.Places.{theta_inside}
 use Rattle.block_places.proofs.block_sizes.Sizes.{doubles_small}
-use borrow.Author.Rules.{rules}
 use Rattle.block_places.proofs.places.sum_at.Goals as goal
 
 pub overflow_add-result : goal.overflow_add-result

@@ -1,6 +1,5 @@
 -- `block_places::places::theta_at`: all loaded cells.
 use Rattle.layout.specs.Shapes.{triangle_end}
-use borrow.Author.Rules.{rules}
 use Rattle.block_places.proofs.places.theta_at.Goals as goal
 
 pub returns : goal.returns

@@ -3,7 +3,6 @@ use native.Mathlib.Omega.{arith}
 use Rattle.layout.specs.Shapes.{working_at}
 use Rattle.layout.proofs.Places.{theta_inside, working_inside}
 use Rattle.block_places.proofs.block_sizes.Sizes.{doubles_small}
-use borrow.Author.Rules.{rules}
 use Rattle.block_places.proofs.places.working_at.Goals as goal
 
 pub overflow_add-result : goal.overflow_add-result

@@ -1,14 +1,12 @@
-use Prim.Native.Nat.{ℕ, ◌≤◌, ◌+◌, ◌-◌}
-use mathlib.Core.Path.{◌≡◌, refl, sym, ap, ap₂, ◌∙◌}
+use Prim.Native.Nat.{ℕ, ◌+◌}
+use mathlib.Core.Path.{refl, sym, ap, ap₂, ◌∙◌}
 use mathlib.Core.List.{List}
 use mathlib.Core.Bool.{Bool, cond, ◌&&◌}
 use native.Mathlib.Omega.{arith}
-use borrow.Author.Rules.{rules}
 use lib.Dec.{ltb, leb}
 use lib.ListN.{get_or}
-use Rattle.layout.specs.declared.Layout.{Layout}
 use Rattle.heading_format.proofs.Valid.{is_valid}
-use Rattle.block_places.specs.sheet_rows.Blocks.{block_of_row, FirstRows}
+use Rattle.block_places.specs.sheet_rows.Blocks.{block_of_row}
 use Rattle.block_places.proofs.sheet_rows.Rows.{start_small, block_none, block_more}
 use Rattle.block_places.proofs.row_map.block_of.Goals as goal
 

@@ -1,12 +1,8 @@
 -- `block_places::row_map::fill_at`: the first t starts.
 use Prim.Native.Nat.{ℕ, ◌≤◌, ◌<◌, ◌+◌, ◌*◌, ◌-◌}
-use mathlib.Core.Path.{◌≡◌, refl}
-use native.Mathlib.Omega.{arith}
-use borrow.Author.Rules.{rules}
-use lib.ListN.{length, get_or, length-set}
+use mathlib.Core.Path.{◌≡◌}
+use lib.ListN.{length, get_or}
 use Rattle.layout.specs.Shapes.{loaded_at}
-use Rattle.heading_format.proofs.Valid.{is_valid}
-use Rattle.block_places.proofs.sheet_rows.Rows.{filled_more}
 use Rattle.block_places.proofs.row_map.fill_at.Given as goal
 
 abbrev pub invariant-loop-t : goal.invariant-loop-t

@@ -1,12 +1,8 @@
 -- `block_places::row_map::fill_first`: the first j starts.
 use Prim.Native.Nat.{ℕ, ◌≤◌, ◌<◌, ◌-◌}
-use mathlib.Core.Path.{◌≡◌, refl}
-use native.Mathlib.Omega.{arith}
-use borrow.Author.Rules.{rules}
-use lib.ListN.{length, get_or, length-set}
-use Rattle.heading_format.proofs.Valid.{is_valid}
+use mathlib.Core.Path.{◌≡◌}
+use lib.ListN.{length, get_or}
 use Rattle.workspace.specs.Loaded.{row_start}
-use Rattle.block_places.proofs.sheet_rows.Rows.{filled_more}
 use Rattle.block_places.proofs.row_map.fill_first.Given as goal
 
 abbrev pub invariant-loop-j : goal.invariant-loop-j

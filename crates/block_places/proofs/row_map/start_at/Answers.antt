@@ -4,7 +4,6 @@ use native.Mathlib.Omega.{arith}
 use Rattle.layout.specs.Shapes.{loaded_at}
 use Rattle.heading_format.proofs.Valid.{is_valid}
 use Rattle.block_places.proofs.sheet_rows.Rows.{split_nine}
-use borrow.Author.Rules.{rules}
 use Rattle.block_places.proofs.row_map.start_at.Goals as goal
 
 pub returns-then-i-j : goal.returns-then-i-j

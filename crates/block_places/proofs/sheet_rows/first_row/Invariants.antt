@@ -1,14 +1,9 @@
 -- `block_places::sheet_rows::first_row`: the levels of the first i blocks of the sheet.
-use Prim.Native.Nat.{ℕ, ◌+◌, ◌≤◌, ◌-◌}
-use mathlib.Core.Path.{◌≡◌, refl, sym, ap, ap₂, ◌∙◌}
-use native.Mathlib.Omega.{arith}
+use Prim.Native.Nat.{◌≤◌, ◌-◌}
+use mathlib.Core.Path.{◌≡◌}
 use lib.ListN.{get_or}
 use Rattle.layout.specs.Blocks as Blocks
 use Rattle.heading_format.specs.Heading.{sheet_levels}
-use Rattle.heading_format.proofs.Valid.{is_valid}
-use Rattle.layout.proofs.Sums.{sum_none, sum_more}
-use Rattle.heading_format.proofs.Sorted.{order_below}
-use Rattle.block_places.proofs.sheet_rows.Rows.{levels_small, rows_small}
 use Rattle.block_places.proofs.sheet_rows.first_row.Given as goal
 
 abbrev pub invariant-loop-i : goal.invariant-loop-i

@@ -1,7 +1,6 @@
-use Prim.Native.Nat.{ℕ, ◌≤◌, ◌-◌}
-use mathlib.Core.Path.{◌≡◌, refl, ap, ◌∙◌}
+use Prim.Native.Nat.{ℕ}
+use mathlib.Core.Path.{refl, ap, ◌∙◌}
 use native.Mathlib.Omega.{arith}
-use borrow.Author.Rules.{rules}
 use Rattle.heading_format.specs.Heading.{sheet_levels}
 use Rattle.heading_format.proofs.Valid.{is_valid}
 use Rattle.block_places.proofs.sheet_rows.Rows.{sheet_none, sheet_more}

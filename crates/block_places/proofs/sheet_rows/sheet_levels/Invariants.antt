@@ -1,11 +1,7 @@
 -- `block_places::sheet_rows::sheet_levels`: among the first s sorted blocks.
-use Prim.Native.Nat.{ℕ, ◌≤◌, ◌-◌}
-use mathlib.Core.Path.{◌≡◌, refl, ap, ◌∙◌}
-use native.Mathlib.Omega.{arith}
-use borrow.Author.Rules.{rules}
+use Prim.Native.Nat.{◌≤◌, ◌-◌}
+use mathlib.Core.Path.{◌≡◌}
 use Rattle.heading_format.specs.Heading.{sheet_levels}
-use Rattle.heading_format.proofs.Valid.{is_valid}
-use Rattle.block_places.proofs.sheet_rows.Rows.{sheet_none, sheet_more}
 use Rattle.block_places.proofs.sheet_rows.sheet_levels.Given as goal
 
 abbrev pub invariant-loop-s : goal.invariant-loop-s

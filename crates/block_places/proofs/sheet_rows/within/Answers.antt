@@ -1,7 +1,6 @@
 -- `block_places::sheet_rows::within`: both tests.
 use native.Mathlib.Omega.{arith}
 use borrow.Author.Tests.{lt-leb, le-leb}
-use borrow.Author.Rules.{rules}
 use Rattle.block_places.proofs.sheet_rows.within.Goals as goal
 
 pub returns-then-x-first : goal.returns-then-x-first

@@ -1,6 +1,5 @@
 -- `layout_gate::column_entries::in_pair`: both tests.
 use mathlib.Core.Bool.{true, false}
-use borrow.Author.Rules.{rules}
 use Rattle.layout_gate.proofs.column_entries.Lines.{pair_reported}
 use Rattle.layout_gate.proofs.column_entries.in_pair.Goals as goal
 

@@ -1,8 +1,6 @@
 use mathlib.Core.Path.{refl}
-use borrow.Author.Rules.{rules}
 use native.Mathlib.Omega.{arith}
-use Rattle.layout_gate.specs.column_entries.Columns.{in_turn, entries_at}
-use Rattle.layout_gate.proofs.column_entries.Lines.{Turn, turn_more, turn_other, turn_fits, turn_done}
+use Rattle.layout_gate.proofs.column_entries.Lines.{turn_more, turn_other, turn_fits, turn_done}
 use Rattle.layout_gate.proofs.column_entries.in_turn.Goals as goal
 
 pub loop-left-init : goal.loop-left-init

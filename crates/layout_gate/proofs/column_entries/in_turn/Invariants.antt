@@ -1,9 +1,6 @@
 -- `layout_gate::column_entries::in_turn`: from the column that is due the lines that are left come to what all come to.
-use mathlib.Core.Path.{refl}
-use borrow.Author.Rules.{rules}
-use native.Mathlib.Omega.{arith}
 use Rattle.layout_gate.specs.column_entries.Columns.{in_turn, entries_at}
-use Rattle.layout_gate.proofs.column_entries.Lines.{Turn, turn_more, turn_other, turn_fits, turn_done}
+use Rattle.layout_gate.proofs.column_entries.Lines.{Turn}
 use Rattle.layout_gate.proofs.column_entries.in_turn.Given as goal
 
 abbrev pub invariant-loop-left : goal.invariant-loop-left

@@ -1,6 +1,5 @@
 -- `layout_gate::column_entries::one_each_lem`: the pass over the zz lines of the held sheet, which rise.
 use mathlib.Core.Path.{◌∙◌}
-use borrow.Author.Rules.{rules}
 use Rattle.sheet.proofs.Whole.{read_whole}
 use Rattle.layout_gate.proofs.column_entries.Lines.{held_turn}
 use Rattle.layout_gate.proofs.column_entries.Turns.{turn_is}

@@ -1,9 +1,7 @@
-use Prim.Native.Nat.{◌-◌}
 use mathlib.Core.Path.{◌∙◌}
-use borrow.Author.Rules.{rules}
 use native.Mathlib.Omega.{arith}
 use Rattle.layout_gate.proofs.gate_search.Pairs.{by_sheet}
-use Rattle.layout_gate.proofs.gate_search.Found.{Clear, clear_start, clear_more, clear_row, none_found, one_found}
+use Rattle.layout_gate.proofs.gate_search.Found.{clear_start, clear_more, clear_row, none_found, one_found}
 use Rattle.layout_gate.proofs.gate_search.first_refused_pair.Goals as goal
 
 pub pairs-init : goal.pairs-init

@@ -1,10 +1,6 @@
 -- `layout_gate::gate_search::first_refused_pair`: no pair before the one at hand is refused.
 use Prim.Native.Nat.{◌-◌}
-use mathlib.Core.Path.{◌∙◌}
-use borrow.Author.Rules.{rules}
-use native.Mathlib.Omega.{arith}
-use Rattle.layout_gate.proofs.gate_search.Pairs.{by_sheet}
-use Rattle.layout_gate.proofs.gate_search.Found.{Clear, clear_start, clear_more, clear_row, none_found, one_found}
+use Rattle.layout_gate.proofs.gate_search.Found.{Clear}
 use Rattle.layout_gate.proofs.gate_search.first_refused_pair.Given as goal
 
 abbrev pub invariant-loop-jj : goal.invariant-loop-jj

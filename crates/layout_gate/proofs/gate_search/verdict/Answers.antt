@@ -1,6 +1,5 @@
 -- `layout_gate::gate_search::verdict`: the number of what the gate says.
 use mathlib.Core.Path.{ap, ◌∙◌}
-use borrow.Author.Rules.{rules}
 use Rattle.layout_gate.specs.gate_search.Search.{number_of, verdict}
 use Rattle.layout_gate.proofs.gate_search.verdict.Goals as goal
 

@@ -4,7 +4,6 @@ use mathlib.Core.Path.{ap, ◌∙◌}
 use Rattle.storage.specs.Runs.{tab}
 use Rattle.storage.specs.Part.{store}
 use Rattle.rules.specs.Arithmetic.{ieee}
-use borrow.Author.Rules.{rules}
 use Rattle.load_numbers.proofs.clear_doubles.clear_all.Goals as goal
 
 pub returns : goal.returns

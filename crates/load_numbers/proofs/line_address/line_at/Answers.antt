@@ -2,7 +2,6 @@
 use mathlib.Core.Path.{sym, ap, ◌∙◌}
 use Rattle.load_numbers.specs.declared.word_address.Run.{Run}
 use Rattle.load_numbers.specs.word_address.Spread.{line_of}
-use borrow.Author.Rules.{rules}
 use Rattle.load_numbers.proofs.line_address.line_at.Goals as goal
 
 pub returns-in-Zz : goal.returns-in-Zz

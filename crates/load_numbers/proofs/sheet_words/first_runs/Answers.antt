@@ -6,7 +6,6 @@ use Rattle.load_numbers.specs.declared.word_address.Run.TheVariants.{Zz, Zx, Zy}
 use Rattle.load_numbers.specs.word_address.Spread.{line_of, EachLine, FiniteWord}
 use Rattle.sheet_checks.proofs.levels.Counting.{grid_of}
 use Rattle.load_numbers.proofs.sheet_words.Loads.{ready_valid, few_q, few_p, zz_few, zz_lines, zx_count, zx_lines, zy_count, zy_lines, first_made}
-use borrow.Author.Rules.{rules}
 use Rattle.load_numbers.proofs.sheet_words.first_runs.Goals as goal
 
 pub entries-requires : goal.entries-requires

@@ -6,7 +6,6 @@ use Rattle.load_numbers.specs.declared.word_address.Run.TheVariants.{Xx, Xy}
 use Rattle.load_numbers.specs.word_address.Spread.{line_of, EachLine, FiniteWord}
 use Rattle.sheet_checks.proofs.levels.Counting.{product_of}
 use Rattle.load_numbers.proofs.sheet_words.Loads.{ready_valid, few_p, xx_count, xx_lines, xy_count, xy_lines, yy_lines, last_made}
-use borrow.Author.Rules.{rules}
 use Rattle.load_numbers.proofs.sheet_words.last_runs.Goals as goal
 
 pub overflow_add-triangle : goal.overflow_add-triangle

@@ -1,7 +1,6 @@
 -- `load_numbers::sheet_words::load_numbers`: +0.0 everywhere, then all runs.
 use native.Mathlib.Omega.{arith}
 use Rattle.load_numbers.proofs.sheet_words.Loads.{ready_valid, loaded}
-use borrow.Author.Rules.{rules}
 use Rattle.load_numbers.proofs.sheet_words.load_numbers.Goals as goal
 
 pub map_of-m-requires : goal.map_of-m-requires

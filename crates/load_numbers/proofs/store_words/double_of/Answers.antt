@@ -1,6 +1,5 @@
 -- `load_numbers::store_words::double_of`: a finite word is no NaN's.
 use Rattle.load_numbers.proofs.word_address.Places.{finite_no_nan}
-use borrow.Author.Rules.{rules}
 use Rattle.load_numbers.proofs.store_words.double_of.Goals as goal
 
 pub float_from_bits-result : goal.float_from_bits-result

@@ -2,7 +2,6 @@
 use mathlib.Core.Path.{sym}
 use native.Mathlib.Omega.{arith}
 use lib.Seq.{set_out}
-use borrow.Author.Rules.{rules}
 use Rattle.load_numbers.proofs.store_words.put.Goals as goal
 
 pub returns-else-place-doubles : goal.returns-else-place-doubles

@@ -1,11 +1,10 @@
-use Prim.Native.Nat.{ℕ, ◌≤◌, ◌+◌, ◌-◌}
+use Prim.Native.Nat.{ℕ, ◌+◌, ◌-◌}
 use mathlib.Core.Path.{◌≡◌, refl, sym, ap, ap₂, ◌∙◌}
 use mathlib.Core.List.{List}
 use native.Mathlib.Omega.{arith}
-use borrow.Author.Rules.{rules}
 use lib.Ieee.{Float}
 use lib.ListN.{length, set, length-set}
-use Rattle.load_numbers.specs.word_address.Spread.{line_of, EachLine, FiniteWord, spread, place_of, put_word}
+use Rattle.load_numbers.specs.word_address.Spread.{line_of, FiniteWord, spread, place_of, put_word}
 use Rattle.load_numbers.proofs.word_address.Places.{spread_none, spread_more, each_now, each_more}
 use Rattle.load_numbers.proofs.store_words.scatter.Goals as goal
 

@@ -1,13 +1,8 @@
 -- `load_numbers::store_words::scatter`: what is left of the run still makes what the whole run makes.
-use Prim.Native.Nat.{ℕ, ◌≤◌, ◌+◌, ◌-◌}
-use mathlib.Core.Path.{◌≡◌, refl, sym, ap, ap₂, ◌∙◌}
-use mathlib.Core.List.{List}
-use native.Mathlib.Omega.{arith}
-use borrow.Author.Rules.{rules}
-use lib.Ieee.{Float}
-use lib.ListN.{length, set, length-set}
-use Rattle.load_numbers.specs.word_address.Spread.{line_of, EachLine, FiniteWord, spread, place_of, put_word}
-use Rattle.load_numbers.proofs.word_address.Places.{spread_none, spread_more, each_now, each_more}
+use Prim.Native.Nat.{◌≤◌, ◌+◌}
+use mathlib.Core.Path.{◌≡◌}
+use lib.ListN.{length}
+use Rattle.load_numbers.specs.word_address.Spread.{line_of, EachLine, FiniteWord, spread, put_word}
 use Rattle.load_numbers.proofs.store_words.scatter.Given as goal
 
 abbrev pub invariant-loop-left : goal.invariant-loop-left

@@ -5,7 +5,6 @@ use native.Mathlib.Omega.{arith}
 use Rattle.layout.specs.Shapes.{levels}
 use Rattle.heading_format.proofs.Valid.{is_valid}
 use Rattle.load_numbers.proofs.word_address.Places.{found, entry_none, entry_own, entry_mirror, entry_pair, pair_same}
-use borrow.Author.Rules.{rules}
 use Rattle.load_numbers.proofs.word_address.entry_place.Goals as goal
 
 pub returns-then-i-layout : goal.returns-then-i-layout

@@ -4,7 +4,6 @@ use mathlib.Core.Path.{ap, ap₂, ◌∙◌}
 use native.Mathlib.Omega.{arith}
 use Rattle.heading_format.proofs.Valid.{is_valid}
 use Rattle.load_numbers.proofs.word_address.Places.{found, fixed_none, fixed_row_lem, fixed_low}
-use borrow.Author.Rules.{rules}
 use Rattle.layout.specs.Shapes.{loaded_at}
 use Rattle.workspace.specs.Loaded.{row_start}
 use Rattle.load_numbers.proofs.word_address.fixed_place.Goals as goal

@@ -9,7 +9,6 @@ use Rattle.layout.specs.declared.Layout.{Layout}
 use Rattle.heading_format.specs.Heading.{valid_layout}
 use Rattle.heading_format.proofs.Valid.{is_valid}
 use Rattle.load_numbers.proofs.word_address.Places.{cell_low}
-use borrow.Author.Rules.{rules}
 use Rattle.load_numbers.proofs.word_address.pair_place.Goals as goal
 
 -- the cell is among the pair's

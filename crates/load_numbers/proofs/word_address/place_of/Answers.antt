@@ -5,7 +5,6 @@ use native.Mathlib.Nat.{mod-lt}
 use Rattle.heading_format.proofs.Valid.{is_valid}
 use Rattle.load_numbers.specs.declared.word_address.Run.{Run}
 use Rattle.load_numbers.specs.word_address.Spread.{place_of}
-use borrow.Author.Rules.{rules}
 use Rattle.load_numbers.proofs.word_address.place_of.Goals as goal
 
 pub nonzero_div-i : goal.nonzero_div-i

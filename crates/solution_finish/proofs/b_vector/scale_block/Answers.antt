@@ -19,7 +19,7 @@ rows_of-n-requires c = (c.requires.0.valid, omega (arith, c.requires.1))
 
 pub scale_once-requires : goal.scale_once-requires
 scale_once-requires c = let f = c.first_row.ensures in let n = c.rows_of-n.ensures in
-    record { n_in_bounds = block_fits c.args.layout c.requires.0.valid c.args.j _ _ _ c.requires.1 (f) (n) c.requires.2; fact = block_apart c.args.layout c.requires.0.valid c.args.j _ _ _ c.requires.1 f n c.requires.2 }
+    record { n_in_bounds = block_fits c.args.layout c.requires.0.valid c.args.j _ _ _ c.requires.1 (f) (n) c.requires.2; apart = block_apart c.args.layout c.requires.0.valid c.args.j _ _ _ c.requires.1 f n c.requires.2 }
 
 pub returns : goal.returns
 returns c = block_scaled c.args.layout c.requires.0.valid c.args.heading.now c.args.doubles.now _ _ c.args.j _ _ _ c.requires.1 c.theta_of-theta.ensures

@@ -1,7 +1,6 @@
 -- `solution_vectors::result_places::l_x_at`: the sum.
 use native.Mathlib.Omega.{arith}
 use Rattle.solution_vectors.proofs.result_places.Bounds.{few_effects, few_rows}
-use borrow.Author.Rules.{rules}
 use Rattle.solution_vectors.proofs.result_places.l_x_at.Goals as goal
 
 pub overflow_add-result : goal.overflow_add-result

@@ -1,7 +1,6 @@
 -- `solution_vectors::result_places::result_length`: the sum.
 use native.Mathlib.Omega.{arith}
 use Rattle.solution_vectors.proofs.result_places.Bounds.{few_effects, few_rows, few_cells, few_products}
-use borrow.Author.Rules.{rules}
 use Rattle.solution_vectors.proofs.result_places.result_length.Goals as goal
 
 pub row_start-requires : goal.row_start-requires

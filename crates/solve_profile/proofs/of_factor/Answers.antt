@@ -1,0 +1,10 @@
+-- `solve_profile::of_factor`: w of every row, then the finish.
+use native.Mathlib.Omega.{arith}
+use borrow.Author.Rules.{rules}
+use Rattle.solve_profile.proofs.of_factor.Goals as goal
+
+pub solve_profile_finish-requires : goal.solve_profile_finish-requires
+solve_profile_finish-requires c = record { fits = (c.requires.0, omega (arith, c.requires.1)); solved = c.solve_all.ensures }
+
+pub returns : goal.returns
+returns c = c.solve_profile_finish.ensures
