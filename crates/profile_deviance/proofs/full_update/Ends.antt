@@ -3,9 +3,7 @@ use Prim.Native.Nat.{ℕ, ◌≤◌}
 use mathlib.Core.Path.{◌≡◌, refl, sym, ap, subst, ◌∙◌}
 use mathlib.Core.Bool.{Bool, true, false, true≢false}
 use mathlib.Core.List.{List}
-use mathlib.Core.Logic.{◌⊎◌, inl, inr}
 use native.Mathlib.Omega.{arith}
-use denote.Enum.Declared.{tag_of}
 use lib.ListN.{length}
 use lib.Ieee.{Float}
 use Rattle.step_order.specs.Steps.{rust_order}
@@ -26,7 +24,6 @@ use Rattle.profile.specs.declared.DevianceAnswer.TheVariants.{Given, Refused as 
 use Rattle.profile.specs.Deviance.{Profiled, after_steps, after_begin, deviance_value, profile_of, log_determinant}
 use Rattle.deviance.specs.deviance_tail.Tail.{log_determinant_of, deviance_with}
 use Rattle.deviance.proofs.deviance_tail.Tails.{tail_value}
-use Rattle.profile_deviance.specs.contracts.full_update.Updated as Declaration
 use Rattle.profile_deviance.specs.declared.full_update.Updated.{Updated}
 use Rattle.profile_deviance.specs.declared.full_update.Updated.TheVariants.{Value, Pivot, Refused}
 use Rattle.profile_deviance.specs.full_update.Updating.{Updating, after_run, factored, after_begun, update_of, is_value, Without}
@@ -44,11 +41,10 @@ abbrev profiled : DevianceAnswer → Workspace → Profiled
 profiled d v = record { answer = d; left = v }
 
 -- the cases of an update that the `else` of its value is for
-pub not_value : (u : Updated) → (tag_of Declaration.the_type u ≡ 1) ⊎ (tag_of Declaration.the_type u ≡ 2) → is_value u ≡ false
-not_value (Value x) (inl t) = absurd (omega arith)
-not_value (Value x) (inr t) = absurd (omega arith)
-not_value (Pivot j r) t = refl
-not_value (Refused r) t = refl
+pub not_value : (u : Updated) → ((x : Float) → u ≡ Value x → ⊥) → is_value u ≡ false
+not_value (Value x) n = absurd (n x refl)
+not_value (Pivot j r) n = refl
+not_value (Refused r) n = refl
 
 -- the two answers to them
 pub without_pivot : (u : Updated) (j r : ℕ) → u ≡ Pivot j r → Without u (Given (Unfactored j r))

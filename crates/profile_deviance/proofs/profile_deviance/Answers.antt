@@ -6,7 +6,7 @@ use borrow.Author.Rules.{rules}
 use Rattle.profile_deviance.proofs.profile_deviance.Goals as goal
 
 pub without_value-requires : goal.without_value-requires
-without_value-requires c = not_value c.update-u.result c.in_default.keys2
+without_value-requires c = not_value c.update-u.result c.in_default.not-Value
 
 pub returns-in_default : goal.returns-in_default
 returns-in_default c = let a = c.args in profiled_means _ _ _ (no_value a.heading.now a.doubles.now a.theta.now a.reml _ _ _ c.update-u.ensures _ c.without_value.ensures)

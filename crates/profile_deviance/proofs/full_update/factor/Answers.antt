@@ -7,7 +7,7 @@ pub run-requires : goal.run-requires
 run-requires c = turn_come c.args.heading.now c.args.doubles.now _ c.layout-layout.ensures c.requires.1.valid c.requires.2
 
 pub log_determinant-requires : goal.log_determinant-requires
-log_determinant-requires c = still c.args.heading.now c.args.doubles.now c.run.new.doubles.0 _ c.layout-layout.ensures c.requires.1 (search rules)
+log_determinant-requires c = still c.args.heading.now c.args.doubles.now c.run.new.doubles _ c.layout-layout.ensures c.requires.1 (search rules)
 
 pub returns-in-Accepted : goal.returns-in-Accepted
 returns-in-Accepted c = let a = c.args in run_done a.heading.now a.doubles.now _ c.layout-layout.ensures _ _ _ c.run.ensures c.in-Accepted.is _ c.log_determinant.ensures

@@ -11,4 +11,4 @@ pub apply_ready-requires : goal.apply_ready-requires
 apply_ready-requires c = is_ready (workspace c.args.heading.now c.args.doubles.now) (step_of_name c.args.name) [] c.requires
 
 pub returns : goal.returns
-returns c = ran_one (workspace c.args.heading.now c.args.doubles.now) (step_of_name c.args.name) c.requires (outcome c.apply_ready.result (workspace c.apply_ready.new.heading c.apply_ready.new.doubles.0)) c.apply_ready.ensures (search rules)
+returns c = ran_one (workspace c.args.heading.now c.args.doubles.now) (step_of_name c.args.name) c.requires (outcome c.apply_ready.result (workspace c.apply_ready.new.heading c.apply_ready.new.doubles)) c.apply_ready.ensures (search rules)

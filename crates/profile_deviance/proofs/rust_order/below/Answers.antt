@@ -15,10 +15,10 @@ pub target-a-requires : goal.target-a-requires
 target-a-requires c = (search rules, going_turn c.loop-i.invariant.0 (search rules))
 
 pub returns-then-is_refused : goal.returns-then-is_refused
-returns-then-is_refused c = going_refused c.loop-i.invariant.0 (search rules) (outcome c.target-a.result (workspace c.target-a.new.heading c.target-a.new.doubles.0)) c.target-a.ensures (sym c.is_refused.ensures ∙ c.if-is_refused.true)
+returns-then-is_refused c = going_refused c.loop-i.invariant.0 (search rules) (outcome c.target-a.result (workspace c.target-a.new.heading c.target-a.new.doubles)) c.target-a.ensures (sym c.is_refused.ensures ∙ c.if-is_refused.true)
 
 pub loop-i-preserved : goal.loop-i-preserved
-loop-i-preserved c = (going_more c.loop-i.invariant.0 (search rules) (outcome c.target-a.result (workspace c.target-a.new.heading c.target-a.new.doubles.0)) c.target-a.ensures (sym c.is_refused.ensures ∙ c.if-is_refused.false), search rules, search rules)
+loop-i-preserved c = (going_more c.loop-i.invariant.0 (search rules) (outcome c.target-a.result (workspace c.target-a.new.heading c.target-a.new.doubles)) c.target-a.ensures (sym c.is_refused.ensures ∙ c.if-is_refused.false), search rules, search rules)
 
 pub returns : goal.returns
 returns c = going_done c.loop-i.invariant.0 (search rules)

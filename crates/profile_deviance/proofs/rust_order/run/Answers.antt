@@ -17,10 +17,10 @@ column-a-requires c = (search rules, search rules, going_turn c.loop-j.invariant
 
 pub returns-then-is_refused : goal.returns-then-is_refused
 unfolding rust_order
-returns-then-is_refused c = going_refused c.loop-j.invariant.0 (search rules) (outcome c.column-a.result (workspace c.column-a.new.heading c.column-a.new.doubles.0)) c.column-a.ensures (sym c.is_refused.ensures ∙ c.if-is_refused.true)
+returns-then-is_refused c = going_refused c.loop-j.invariant.0 (search rules) (outcome c.column-a.result (workspace c.column-a.new.heading c.column-a.new.doubles)) c.column-a.ensures (sym c.is_refused.ensures ∙ c.if-is_refused.true)
 
 pub loop-j-preserved : goal.loop-j-preserved
-loop-j-preserved c = (going_more c.loop-j.invariant.0 (search rules) (outcome c.column-a.result (workspace c.column-a.new.heading c.column-a.new.doubles.0)) c.column-a.ensures (sym c.is_refused.ensures ∙ c.if-is_refused.false), search rules, search rules)
+loop-j-preserved c = (going_more c.loop-j.invariant.0 (search rules) (outcome c.column-a.result (workspace c.column-a.new.heading c.column-a.new.doubles)) c.column-a.ensures (sym c.is_refused.ensures ∙ c.if-is_refused.false), search rules, search rules)
 
 pub returns : goal.returns
 unfolding rust_order

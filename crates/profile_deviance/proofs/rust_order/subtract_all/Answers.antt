@@ -16,10 +16,10 @@ pub apply-a-requires : goal.apply-a-requires
 apply-a-requires c = going_turn c.loop-x.invariant.0 (search rules)
 
 pub returns-then-is_refused : goal.returns-then-is_refused
-returns-then-is_refused c = going_refused c.loop-x.invariant.0 (search rules) (outcome c.apply-a.result (workspace c.apply-a.new.heading c.apply-a.new.doubles.0)) c.apply-a.ensures (sym c.is_refused.ensures ∙ c.if-is_refused.true)
+returns-then-is_refused c = going_refused c.loop-x.invariant.0 (search rules) (outcome c.apply-a.result (workspace c.apply-a.new.heading c.apply-a.new.doubles)) c.apply-a.ensures (sym c.is_refused.ensures ∙ c.if-is_refused.true)
 
 pub loop-x-preserved : goal.loop-x-preserved
-loop-x-preserved c = (going_more c.loop-x.invariant.0 (search rules) (outcome c.apply-a.result (workspace c.apply-a.new.heading c.apply-a.new.doubles.0)) c.apply-a.ensures (sym c.is_refused.ensures ∙ c.if-is_refused.false), search rules, search rules)
+loop-x-preserved c = (going_more c.loop-x.invariant.0 (search rules) (outcome c.apply-a.result (workspace c.apply-a.new.heading c.apply-a.new.doubles)) c.apply-a.ensures (sym c.is_refused.ensures ∙ c.if-is_refused.false), search rules, search rules)
 
 pub returns : goal.returns
 returns c = going_done c.loop-x.invariant.0 (search rules)
