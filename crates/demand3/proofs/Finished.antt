@@ -1,6 +1,6 @@
 -- "Whatever the steps' order and whatever was abandoned or refused before, a finished update leaves the factor and log determinant that document 01's begin
 -- and the Rust's order give a freshly loaded workspace with the same loaded numbers and theta"; and no divisor is 0.
-use Prim.Native.Nat.{ℕ, suc, ◌+◌, ◌≤◌, ◌<◌}
+use Prim.Native.Nat.{ℕ, suc, ◌≤◌, ◌<◌}
 use mathlib.Core.Path.{◌≡◌, refl, sym, ap, ap₂, subst, ◌∙◌}
 use mathlib.Core.Bool.{Bool, true, false, true≢false}
 use mathlib.Core.List.{List}

@@ -1,6 +1,6 @@
 -- "any undone step whose forerunners are done is accepted unless it meets a refused pivot, and writes by its rule its own block, the progress and, where it
 -- takes logarithms, their sum, nothing else; until the last step or a refused pivot some step is ready".
-use Prim.Native.Nat.{ℕ, zero, suc, ◌+◌, ◌≤◌, ◌<◌}
+use Prim.Native.Nat.{ℕ, suc, ◌+◌, ◌≤◌, ◌<◌}
 use mathlib.Core.Path.{◌≡◌, refl, sym, ap, subst, ◌∙◌}
 use mathlib.Core.Bool.{Bool, true}
 use mathlib.Core.List.{List, ◌++◌}
@@ -16,7 +16,7 @@ use Rattle.storage.specs.Part.{part}
 use Rattle.storage.specs.Shape.{size_of}
 use Rattle.storage.proofs.Parts.{take_store, drop_store, length_part}
 use Rattle.step_order.specs.Steps.{Step, S, C, T, IsStep, row, col}
-use Rattle.step_order.specs.Progress.{done, steps_left, refused_in}
+use Rattle.step_order.specs.Progress.{steps_left, refused_in}
 use Rattle.step_order.proofs.Next.{some_next}
 use Rattle.step_order.proofs.Refusal.{refused_below}
 use Rattle.rules.specs.Arithmetic.{ieee}

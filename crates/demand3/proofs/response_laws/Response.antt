@@ -20,7 +20,7 @@ use Rattle.workspace.specs.Answers.{Outcome, unchanged, list_fault, unless_refus
 use Rattle.workspace.specs.Load.{heading_of}
 use Rattle.workspace.specs.Response.{Response, lists_of, response_lengths, responded, replace_of}
 use Rattle.book.specs.Calls.{plain, replace_response}
-use Rattle.book.specs.Book.{Book, book, Entry, layout, last, on_response, with_done, with_loaded}
+use Rattle.book.specs.Book.{Book, Entry, layout, last, on_response, with_done, with_loaded}
 use Rattle.demand3.proofs.frame.Response.{responded_length, responded_behind, responded_loaded}
 use Rattle.demand3.proofs.invariant.Invariant.{behind, Site, Invariant, Follows}
 use Rattle.demand3.proofs.invariant.Site.{loaded_within, heading_layout, layout_of_lem, valid_heading_of}

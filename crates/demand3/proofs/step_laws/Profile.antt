@@ -1,5 +1,5 @@
 -- `profile_deviance` keeps a workspace in step with the book: it answers as on a freshly loaded one, and leaves a finished update or none.
-use Prim.Native.Nat.{ℕ, suc, ◌+◌}
+use Prim.Native.Nat.{ℕ, suc}
 use mathlib.Core.Path.{◌≡◌, refl, sym, ap, subst, ◌∙◌}
 use mathlib.Core.Logic.{⊎_elim}
 use mathlib.Core.Bool.{Bool, true, false, ◌||◌}
@@ -10,7 +10,6 @@ use lib.Dec.{eqb}
 use lib.ListN.{length}
 use lib.Ieee.{Float}
 use borrow.Author.Tests.{eqb-true}
-use Rattle.storage.specs.Shape.{packed}
 use Rattle.step_order.specs.Steps.{Step, is_step, rust_order}
 use Rattle.step_order.specs.Progress.{join_all}
 use Rattle.step_order.proofs.Next.{rust_order_lem}

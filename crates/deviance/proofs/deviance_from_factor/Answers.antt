@@ -2,7 +2,6 @@
 use mathlib.Core.Path.{sym, ap, ◌∙◌}
 use Rattle.profile.specs.Deviance.{deviance_meaning}
 use Rattle.deviance.proofs.deviance_tail.Tails.{not_valid_heading}
-use borrow.Author.Rules.{rules}
 use Rattle.deviance.proofs.deviance_from_factor.Goals as goal
 
 pub of_workspace-requires : goal.of_workspace-requires

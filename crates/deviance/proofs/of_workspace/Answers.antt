@@ -4,7 +4,6 @@ use Rattle.heading_format.specs.declared.Progress.{Progress}
 use Rattle.profile.specs.Deviance.{is_finished}
 use Rattle.heading_format.proofs.Fits.{fits}
 use Rattle.deviance.proofs.deviance_tail.Tails.{not_finished, finished, workspace_fits}
-use borrow.Author.Rules.{rules}
 use Rattle.deviance.proofs.of_workspace.Goals as goal
 
 pub layout-layout-requires : goal.layout-layout-requires

@@ -2,7 +2,6 @@
 use mathlib.Core.Path.{sym, ◌∙◌}
 use Rattle.workspace.proofs.Meaning.{outcome_means}
 use Rattle.load.proofs.judge.Judging.{says_passed, says_refused, judged_ready, loaded_out, refused_out}
-use borrow.Author.Rules.{rules}
 use Rattle.load.proofs.load.Goals as goal
 
 pub returns-then-r-ne0 : goal.returns-then-r-ne0

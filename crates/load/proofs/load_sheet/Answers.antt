@@ -1,7 +1,6 @@
 -- `load::load_sheet`: the gate's refusal, or past the gate.
 use mathlib.Core.Path.{sym, ◌∙◌}
 use Rattle.load.proofs.judge.Judging.{says_passed, says_refused, sheet_passed, passed_loads, refused_loads}
-use borrow.Author.Rules.{rules}
 use Rattle.load.proofs.load_sheet.Goals as goal
 
 pub returns-then-d-ne0 : goal.returns-then-d-ne0

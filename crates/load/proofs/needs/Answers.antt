@@ -4,7 +4,6 @@ use Rattle.load_numbers.proofs.sheet_words.Loads.{ready_valid}
 use Rattle.load.specs.room.Needs.{needs_meaning}
 use Rattle.load.proofs.judge.Judging.{says_passed, judged_ready}
 use Rattle.load.proofs.room.NeedsExactly.{needs_room, needs_refused}
-use borrow.Author.Rules.{rules}
 use Rattle.load.proofs.needs.Goals as goal
 
 pub returns-then-r-ne0 : goal.returns-then-r-ne0

@@ -3,7 +3,6 @@ use Rattle.workspace.proofs.Meaning.{outcome_means}
 use mathlib.Core.Path.{sym, ◌∙◌}
 use Rattle.replace_response.proofs.Replaced.{not_valid_heading}
 use Rattle.workspace.specs.Response.{response}
-use borrow.Author.Rules.{rules}
 use Rattle.replace_response.proofs.replace_response.Goals as goal
 
 pub replace_valid-requires : goal.replace_valid-requires

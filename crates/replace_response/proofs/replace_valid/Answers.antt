@@ -2,7 +2,6 @@
 use Rattle.replace_response.proofs.Replaced.{list_refused, ready, replaced}
 use Rattle.heading_format.proofs.Fits.{fits}
 use Rattle.workspace.specs.Response.{response}
-use borrow.Author.Rules.{rules}
 use Rattle.replace_response.proofs.replace_valid.Goals as goal
 
 pub layout-layout-requires : goal.layout-layout-requires

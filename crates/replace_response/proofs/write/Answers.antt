@@ -4,7 +4,6 @@ use Rattle.heading_format.proofs.Valid.{is_valid}
 use Rattle.heading.specs.writer.Small.{SmallProgress}
 use Rattle.workspace.specs.Memory.{heading_with}
 use Rattle.heading.proofs.writer.Idle.{idle_small}
-use borrow.Author.Rules.{rules}
 use Rattle.replace_response.proofs.write.Goals as goal
 
 pub idle-requires : goal.idle-requires

@@ -6,7 +6,6 @@ use Rattle.heading_format.proofs.Fits.{read_fits}
 use Rattle.heading_format.proofs.Fits.{read_fits}
 use Rattle.step.proofs.Moves.{handed_small}
 use Rattle.step.proofs.Turns.{read_named, read_left}
-use borrow.Author.Rules.{rules}
 use Rattle.step.proofs.apply_ready.Goals as goal
 
 pub apply-m-requires : goal.apply-m-requires

@@ -3,7 +3,6 @@ use Rattle.workspace.proofs.Meaning.{outcome_means}
 use mathlib.Core.Path.{sym, ◌∙◌}
 use Rattle.update.specs.Names.{step_of_name}
 use Rattle.step.proofs.Turns.{not_valid_heading}
-use borrow.Author.Rules.{rules}
 use Rattle.step.proofs.step.Goals as goal
 
 pub step_valid-requires : goal.step_valid-requires

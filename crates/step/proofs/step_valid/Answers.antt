@@ -5,7 +5,6 @@ use Rattle.layout.specs.declared.Layout.{Layout}
 use Rattle.heading_format.proofs.Fits.{fits}
 use Rattle.update.specs.Names.{step_of_name}
 use Rattle.step.proofs.Turns.{few_blocks, fault_now, is_ready, accepted_step, name_refused}
-use borrow.Author.Rules.{rules}
 use Rattle.step.proofs.step_valid.Goals as goal
 
 pub layout-layout-requires : goal.layout-layout-requires

@@ -14,7 +14,7 @@ use Rattle.step_order.specs.Steps.{T}
 use Rattle.layout.specs.declared.Layout.{Layout}
 use Rattle.layout.specs.declared.FactorKind.TheVariants.{Diagonal, Packed}
 use Rattle.layout.specs.Shapes.{factor_kind, working_at}
-use Rattle.heading_format.specs.Heading.{layout_of, entry_row}
+use Rattle.heading_format.specs.Heading.{entry_row}
 use Rattle.heading_format.specs.Fits.{Fits}
 use Rattle.cross_block.specs.Blocks.{divided_columns, solved_rows}
 use Rattle.cross_block.proofs.Turns.{divided_entries}

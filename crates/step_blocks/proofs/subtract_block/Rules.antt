@@ -20,7 +20,7 @@ use Rattle.layout.specs.declared.FactorKind.{FactorKind}
 use Rattle.layout.specs.declared.FactorKind.TheVariants.{Diagonal, Packed}
 use Rattle.layout.specs.Shapes.{pick, levels, factor_kind, loaded_at, working_at}
 use Rattle.layout.proofs.Factors.{diagonal_second}
-use Rattle.heading_format.specs.Heading.{layout_of, entry_row, valid_layout}
+use Rattle.heading_format.specs.Heading.{entry_row, valid_layout}
 use Rattle.heading_format.proofs.Valid.{both}
 use Rattle.block_places.proofs.block_sizes.Sizes.{below, not_both}
 use Rattle.heading_format.specs.Fits.{Fits}

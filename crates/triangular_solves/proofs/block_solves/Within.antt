@@ -16,7 +16,7 @@ use Rattle.layout.specs.declared.Layout.{Layout}
 use Rattle.layout.specs.declared.FactorKind.{FactorKind}
 use Rattle.layout.specs.declared.FactorKind.TheVariants.{Packed}
 use Rattle.layout.specs.Shapes.{levels, factor_kind}
-use Rattle.heading_format.specs.Heading.{valid_layout, layout_of, entry_row}
+use Rattle.heading_format.specs.Heading.{valid_layout, entry_row}
 use Rattle.heading_format.specs.Fits.{Fits}
 use Rattle.workspace.specs.Memory.{working_block}
 use Rattle.workspace.specs.Loaded.{row_start}

@@ -14,7 +14,7 @@ use Rattle.storage.proofs.Starts.{start_single}
 use Rattle.block_runs.specs.blocks.Blocks.{entry}
 use Rattle.layout.specs.declared.Layout.{Layout}
 use Rattle.layout.specs.Shapes.{levels, shape, working_at}
-use Rattle.heading_format.specs.Heading.{valid_layout, layout_of, entry_row}
+use Rattle.heading_format.specs.Heading.{valid_layout, entry_row}
 use Rattle.heading_format.specs.Fits.{Fits}
 use Rattle.heading_format.proofs.Sorted.{dense_rows}
 use Rattle.workspace.specs.Loaded.{row_start}

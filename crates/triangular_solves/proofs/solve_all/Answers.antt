@@ -1,5 +1,4 @@
 -- `triangular_solves::solve_all`: the rows of X, then the response's.
-use borrow.Author.Rules.{rules}
 use native.Mathlib.Omega.{arith}
 use Rattle.triangular_solves.proofs.solve_all.Goals as goal
 

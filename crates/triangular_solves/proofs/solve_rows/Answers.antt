@@ -1,8 +1,6 @@
-use borrow.Author.Rules.{rules}
-use Prim.Native.Nat.{◌-◌, ◌≤◌}
 use native.Mathlib.Omega.{arith}
 use Rattle.triangular_solves.proofs.scaled_row.Scaled.{row_sized}
-use Rattle.triangular_solves.proofs.Rows.{Rows, rows_room, rows_more, rows_all}
+use Rattle.triangular_solves.proofs.Rows.{rows_room, rows_more, rows_all}
 use Rattle.triangular_solves.proofs.solve_rows.Goals as goal
 
 pub loop-r-init : goal.loop-r-init

@@ -1,9 +1,6 @@
 -- `triangular_solves::solve_rows`: the first r rows are solved.
-use borrow.Author.Rules.{rules}
 use Prim.Native.Nat.{◌-◌, ◌≤◌}
-use native.Mathlib.Omega.{arith}
-use Rattle.triangular_solves.proofs.scaled_row.Scaled.{row_sized}
-use Rattle.triangular_solves.proofs.Rows.{Rows, rows_room, rows_more, rows_all}
+use Rattle.triangular_solves.proofs.Rows.{Rows}
 use Rattle.triangular_solves.proofs.solve_rows.Given as goal
 
 abbrev pub invariant-loop-r : goal.invariant-loop-r

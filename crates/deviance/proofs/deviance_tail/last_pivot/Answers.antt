@@ -1,7 +1,6 @@
 -- `deviance::deviance_tail::last_pivot`: the corner of block k.
 use native.Mathlib.Omega.{arith}
 use Rattle.deviance.proofs.deviance_tail.Tails.{few_effects, last_place, pivot_read}
-use borrow.Author.Rules.{rules}
 use Rattle.deviance.proofs.deviance_tail.last_pivot.Goals as goal
 
 pub row_start-requires : goal.row_start-requires

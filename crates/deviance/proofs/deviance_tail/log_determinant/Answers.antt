@@ -1,6 +1,5 @@
 -- `deviance::deviance_tail::log_determinant`: the last double, doubled.
 use Rattle.deviance.proofs.deviance_tail.Tails.{sum_read}
-use borrow.Author.Rules.{rules}
 use Rattle.deviance.proofs.deviance_tail.log_determinant.Goals as goal
 
 pub returns : goal.returns

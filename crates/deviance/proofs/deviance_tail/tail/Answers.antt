@@ -1,6 +1,5 @@
 -- `deviance::deviance_tail::tail`: no scale, or the value.
 use Rattle.deviance.proofs.deviance_tail.Tails.{no_scale_lem, scaled}
-use borrow.Author.Rules.{rules}
 use Rattle.deviance.proofs.deviance_tail.tail.Goals as goal
 
 pub returns-then-r2-d : goal.returns-then-r2-d

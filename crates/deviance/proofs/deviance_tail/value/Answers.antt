@@ -3,7 +3,6 @@ use mathlib.Core.Path.{◌∙◌}
 use native.Mathlib.Omega.{arith}
 use Rattle.deviance.proofs.deviance_value.Values.{value_same}
 use Rattle.deviance.proofs.deviance_tail.Tails.{few_effects, first_rows, first_pivots}
-use borrow.Author.Rules.{rules}
 use Rattle.deviance.proofs.deviance_tail.value.Goals as goal
 
 pub value-requires : goal.value-requires

@@ -2,7 +2,6 @@
 use Prim.{tt}
 use lib.Ieee.{nan_bits}
 use Rattle.deviance.proofs.deviance_value.Values.{value_ml, value_reml}
-use borrow.Author.Rules.{rules}
 use Rattle.deviance.proofs.deviance_value.value.Goals as goal
 
 pub float_from_bits-ln : goal.float_from_bits-ln

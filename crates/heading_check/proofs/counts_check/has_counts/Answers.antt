@@ -1,4 +1,3 @@
-use borrow.Author.Rules.{rules}
 use Rattle.heading_check.proofs.counts_check.has_counts.Goals as goal
 
 pub returns : goal.returns

@@ -1,9 +1,9 @@
 use borrow.Author.Rules.{rules}
-use Prim.Native.Nat.{suc, ◌+◌, ◌-◌, ◌*◌, ◌≤◌, ◌<◌}
+use Prim.Native.Nat.{suc, ◌-◌}
 use mathlib.Core.List.{[], ◌∷◌, ◌++◌}
-use Rattle.step_order.specs.Steps.{T, each, subtractions}
-use Rattle.heading_check.specs.stage_check.Walk.{walked, stages_in}
-use Rattle.heading_check.proofs.stage_check.Walks.{Going, going_start, going_more, going_done}
+use Rattle.step_order.specs.Steps.{T, subtractions}
+use Rattle.heading_check.specs.stage_check.Walk.{stages_in}
+use Rattle.heading_check.proofs.stage_check.Walks.{going_start, going_more, going_done}
 use Rattle.heading_check.proofs.forerunner_check.below.Goals as goal
 
 pub loop-i-init : goal.loop-i-init

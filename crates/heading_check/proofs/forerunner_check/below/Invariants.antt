@@ -1,10 +1,9 @@
 -- `heading_check::forerunner_check::below`: the targets from row i on still end as the walk over all does.
-use borrow.Author.Rules.{rules}
 use Prim.Native.Nat.{suc, ◌+◌, ◌-◌, ◌*◌, ◌≤◌, ◌<◌}
 use mathlib.Core.List.{[], ◌∷◌, ◌++◌}
 use Rattle.step_order.specs.Steps.{T, each, subtractions}
 use Rattle.heading_check.specs.stage_check.Walk.{walked, stages_in}
-use Rattle.heading_check.proofs.stage_check.Walks.{Going, going_start, going_more, going_done}
+use Rattle.heading_check.proofs.stage_check.Walks.{Going}
 use Rattle.heading_check.proofs.forerunner_check.below.Given as goal
 
 abbrev pub invariant-loop-i : goal.invariant-loop-i

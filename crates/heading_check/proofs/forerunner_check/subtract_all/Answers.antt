@@ -1,8 +1,7 @@
-use Prim.Native.Nat.{◌-◌, ◌+◌, ◌≤◌}
 use mathlib.Core.List.{[], ◌∷◌}
-use Rattle.step_order.specs.Steps.{S, subtractions}
-use Rattle.heading_check.specs.stage_check.Walk.{walked, stages_in}
-use Rattle.heading_check.proofs.stage_check.Walks.{Going, going_start, going_more, going_done, walked_one}
+use Rattle.step_order.specs.Steps.{S}
+use Rattle.heading_check.specs.stage_check.Walk.{stages_in}
+use Rattle.heading_check.proofs.stage_check.Walks.{going_start, going_more, going_done, walked_one}
 use mathlib.Core.Path.{◌∙◌}
 use borrow.Author.Rules.{rules}
 use Rattle.heading_check.proofs.forerunner_check.subtract_all.Goals as goal

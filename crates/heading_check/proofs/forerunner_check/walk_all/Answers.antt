@@ -1,8 +1,8 @@
 use borrow.Author.Rules.{rules}
-use Prim.Native.Nat.{suc, ◌-◌, ◌*◌, ◌≤◌}
-use Rattle.step_order.specs.Steps.{each, column_steps, rust_order}
-use Rattle.heading_check.specs.stage_check.Walk.{walked, stages_in}
-use Rattle.heading_check.proofs.stage_check.Walks.{Going, going_start, going_more, going_done}
+use Prim.Native.Nat.{suc}
+use Rattle.step_order.specs.Steps.{column_steps, rust_order}
+use Rattle.heading_check.specs.stage_check.Walk.{stages_in}
+use Rattle.heading_check.proofs.stage_check.Walks.{going_start, going_more, going_done}
 use Rattle.heading_check.proofs.forerunner_check.walk_all.Goals as goal
 
 pub loop-j-init : goal.loop-j-init

@@ -1,9 +1,8 @@
 -- `heading_check::forerunner_check::walk_all`: the columns from j on still end as the walk over all does.
-use borrow.Author.Rules.{rules}
 use Prim.Native.Nat.{suc, ◌-◌, ◌*◌, ◌≤◌}
-use Rattle.step_order.specs.Steps.{each, column_steps, rust_order}
+use Rattle.step_order.specs.Steps.{each, column_steps}
 use Rattle.heading_check.specs.stage_check.Walk.{walked, stages_in}
-use Rattle.heading_check.proofs.stage_check.Walks.{Going, going_start, going_more, going_done}
+use Rattle.heading_check.proofs.stage_check.Walks.{Going}
 use Rattle.heading_check.proofs.forerunner_check.walk_all.Given as goal
 
 abbrev pub invariant-loop-j : goal.invariant-loop-j

@@ -1,9 +1,7 @@
-use mathlib.Core.Path.{◌≡◌, ap, ◌∙◌}
-use Prim.Native.Nat.{◌-◌}
+use mathlib.Core.Path.{ap, ◌∙◌}
 use borrow.Author.Rules.{rules}
-use Rattle.layout.specs.Shapes.{levels}
 use Rattle.heading_format.specs.Heading.{within}
-use Rattle.heading_check.proofs.order_check.Every.{Passing, passing_none, passing_more, passing_fails, passing_all}
+use Rattle.heading_check.proofs.order_check.Every.{passing_none, passing_more, passing_fails, passing_all}
 use Rattle.heading_check.proofs.layout_check.has_levels.Goals as goal
 
 pub loop-j-init : goal.loop-j-init

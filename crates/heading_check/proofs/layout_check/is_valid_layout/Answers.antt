@@ -1,6 +1,5 @@
 -- `heading_check::layout_check::is_valid_layout`: test after test.
 use Rattle.heading_check.proofs.layout_check.Tests.{no_counts, few_blocks, no_levels, ranged, no_order, no_total, all_tests}
-use borrow.Author.Rules.{rules}
 use Rattle.heading_check.proofs.layout_check.is_valid_layout.Goals as goal
 
 pub has_levels-requires : goal.has_levels-requires

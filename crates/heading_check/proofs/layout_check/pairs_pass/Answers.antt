@@ -1,7 +1,4 @@
-use Prim.Native.Nat.{◌-◌}
-use borrow.Author.Rules.{rules}
-use Rattle.heading_format.specs.Heading.{every, valid_pair}
-use Rattle.heading_check.proofs.order_check.Every.{Passing, passing_none, passing_more, passing_fails, passing_all}
+use Rattle.heading_check.proofs.order_check.Every.{passing_none, passing_more, passing_fails, passing_all}
 use Rattle.heading_check.proofs.layout_check.pairs_pass.Goals as goal
 
 pub loop-i-init : goal.loop-i-init

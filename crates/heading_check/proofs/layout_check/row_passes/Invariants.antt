@@ -1,8 +1,7 @@
 -- `heading_check::layout_check::row_passes`: those before j pass.
 use Prim.Native.Nat.{◌-◌}
-use borrow.Author.Rules.{rules}
 use Rattle.heading_format.specs.Heading.{valid_pair}
-use Rattle.heading_check.proofs.order_check.Every.{Passing, passing_none, passing_more, passing_fails, passing_all}
+use Rattle.heading_check.proofs.order_check.Every.{Passing}
 use Rattle.heading_check.proofs.layout_check.row_passes.Given as goal
 
 abbrev pub invariant-loop-j : goal.invariant-loop-j

@@ -1,7 +1,6 @@
 use native.Mathlib.Omega.{arith}
-use Prim.Native.Nat.{◌-◌, ◌≤◌}
 use borrow.Author.Rules.{rules}
-use Rattle.heading_check.proofs.order_check.Sheets.{Summed, summed_none, summed_more, summed_done}
+use Rattle.heading_check.proofs.order_check.Sheets.{summed_none, summed_more, summed_done}
 use Rattle.heading_check.proofs.layout_check.total.Goals as goal
 
 pub loop-j-init : goal.loop-j-init

@@ -1,10 +1,7 @@
-use Prim.Native.Nat.{◌-◌}
 use borrow.Author.Rules.{rules}
-use lib.Dec.{eqb}
-use lib.ListN.{get_or}
 use borrow.Author.Tests.{eq-eqb, ne_eqb}
 use mathlib.Core.Path.{refl}
-use Rattle.heading_check.proofs.order_check.Every.{Passing, passing_none, passing_more, passing_fails, passing_all}
+use Rattle.heading_check.proofs.order_check.Every.{passing_none, passing_more, passing_fails, passing_all}
 use Rattle.heading_check.proofs.order_check.agree.Goals as goal
 
 pub loop-j-init : goal.loop-j-init

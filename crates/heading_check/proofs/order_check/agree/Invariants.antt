@@ -1,11 +1,8 @@
 -- `heading_check::order_check::agree`: those before j pass.
 use Prim.Native.Nat.{◌-◌}
-use borrow.Author.Rules.{rules}
 use lib.Dec.{eqb}
 use lib.ListN.{get_or}
-use borrow.Author.Tests.{eq-eqb, ne_eqb}
-use mathlib.Core.Path.{refl}
-use Rattle.heading_check.proofs.order_check.Every.{Passing, passing_none, passing_more, passing_fails, passing_all}
+use Rattle.heading_check.proofs.order_check.Every.{Passing}
 use Rattle.heading_check.proofs.order_check.agree.Given as goal
 
 abbrev pub invariant-loop-j : goal.invariant-loop-j

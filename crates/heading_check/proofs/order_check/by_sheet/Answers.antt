@@ -1,6 +1,5 @@
-use Prim.Native.Nat.{◌-◌, ◌≤◌}
 use borrow.Author.Rules.{rules}
-use Rattle.heading_check.proofs.order_check.Sheets.{Sheets, sheets_done, sheets_none, sheets_more}
+use Rattle.heading_check.proofs.order_check.Sheets.{sheets_done, sheets_none, sheets_more}
 use Rattle.heading_check.proofs.order_check.by_sheet.Goals as goal
 
 pub loop-s-init : goal.loop-s-init

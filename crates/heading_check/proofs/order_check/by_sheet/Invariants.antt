@@ -1,7 +1,6 @@
 -- `heading_check::order_check::by_sheet`: the first s sorted blocks stand by sheet index.
 use Prim.Native.Nat.{◌-◌, ◌≤◌}
-use borrow.Author.Rules.{rules}
-use Rattle.heading_check.proofs.order_check.Sheets.{Sheets, sheets_done, sheets_none, sheets_more}
+use Rattle.heading_check.proofs.order_check.Sheets.{Sheets}
 use Rattle.heading_check.proofs.order_check.by_sheet.Given as goal
 
 abbrev pub invariant-loop-s : goal.invariant-loop-s

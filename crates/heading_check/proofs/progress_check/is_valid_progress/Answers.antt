@@ -1,6 +1,5 @@
 -- `heading_check::progress_check::is_valid_progress`: test after test.
 use Rattle.heading_check.proofs.stage_check.Stages.{not_bounded, all_tests}
-use borrow.Author.Rules.{rules}
 use Rattle.heading_check.proofs.progress_check.is_valid_progress.Goals as goal
 
 pub returns-then-is_bounded : goal.returns-then-is_bounded

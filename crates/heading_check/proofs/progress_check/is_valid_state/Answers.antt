@@ -1,6 +1,5 @@
 -- `heading_check::progress_check::is_valid_state`: an arm for each state.
 use Rattle.heading_check.proofs.stage_check.Stages.{state_idle, state_going, state_done}
-use borrow.Author.Rules.{rules}
 use Rattle.heading_check.proofs.progress_check.is_valid_state.Goals as goal
 
 pub returns-in-Idle : goal.returns-in-Idle

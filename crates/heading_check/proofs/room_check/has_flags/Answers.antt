@@ -1,5 +1,4 @@
 -- `heading_check::room_check::has_flags`: number by number.
-use borrow.Author.Rules.{rules}
 use Rattle.heading_check.proofs.room_check.has_flags.Goals as goal
 
 pub returns : goal.returns

@@ -1,8 +1,4 @@
-use borrow.Author.Rules.{rules}
-use Prim.Native.Nat.{◌-◌}
-use lib.Dec.{ltb}
-use Rattle.heading_format.specs.Heading.{entry_row}
-use Rattle.heading_check.proofs.order_check.Every.{Passing, passing_none, passing_more, passing_fails, passing_all}
+use Rattle.heading_check.proofs.order_check.Every.{passing_none, passing_more, passing_fails, passing_all}
 use Rattle.heading_check.proofs.room_check.rows_below.Goals as goal
 
 pub loop-c-init : goal.loop-c-init

@@ -1,9 +1,8 @@
 -- `heading_check::room_check::rows_below`: the rows of the columns before c are below.
-use borrow.Author.Rules.{rules}
 use Prim.Native.Nat.{◌-◌}
 use lib.Dec.{ltb}
 use Rattle.heading_format.specs.Heading.{entry_row}
-use Rattle.heading_check.proofs.order_check.Every.{Passing, passing_none, passing_more, passing_fails, passing_all}
+use Rattle.heading_check.proofs.order_check.Every.{Passing}
 use Rattle.heading_check.proofs.room_check.rows_below.Given as goal
 
 abbrev pub invariant-loop-c : goal.invariant-loop-c

@@ -1,9 +1,5 @@
 use borrow.Author.Rules.{rules}
-use Prim.Native.Nat.{suc, ◌-◌}
-use lib.Dec.{leb}
-use Rattle.heading_format.specs.Heading.{every}
-use Rattle.heading_check.proofs.order_check.Every.{Passing, passing_none, passing_more, passing_fails, passing_all}
-use Rattle.heading_check.specs.stage_check.Walk.{stages_in}
+use Rattle.heading_check.proofs.order_check.Every.{passing_none, passing_more, passing_fails, passing_all}
 use Rattle.heading_check.proofs.stage_check.is_bounded.Goals as goal
 
 pub loop-i-init : goal.loop-i-init

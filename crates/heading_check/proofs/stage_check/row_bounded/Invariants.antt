@@ -1,11 +1,8 @@
 -- `heading_check::stage_check::row_bounded`: the targets before j are.
 use Prim.Native.Nat.{suc, ◌-◌}
-use mathlib.Core.Path.{refl}
-use Rattle.heading_check.proofs.stage_check.Stages.{stage_within, stage_past}
 use lib.Dec.{leb}
-use Rattle.heading_check.proofs.order_check.Every.{Passing, passing_none, passing_more, passing_fails, passing_all}
+use Rattle.heading_check.proofs.order_check.Every.{Passing}
 use Rattle.heading_check.specs.stage_check.Walk.{stages_in}
-use borrow.Author.Rules.{rules}
 use Rattle.heading_check.proofs.stage_check.row_bounded.Given as goal
 
 abbrev pub invariant-loop-j : goal.invariant-loop-j

@@ -1,6 +1,5 @@
 -- `heading_check::stage_check::stage`: the number where the stage lies.
 use Rattle.heading_check.proofs.stage_check.Stages.{stage_at}
-use borrow.Author.Rules.{rules}
 use Rattle.heading_check.proofs.stage_check.stage.Goals as goal
 
 pub returns : goal.returns

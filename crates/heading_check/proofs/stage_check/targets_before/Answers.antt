@@ -1,7 +1,6 @@
 -- `heading_check::stage_check::targets_before`: half a product.
 use native.Mathlib.Omega.{arith}
 use Rattle.heading_check.proofs.stage_check.Stages.{row_product, rows_before}
-use borrow.Author.Rules.{rules}
 use Rattle.heading_check.proofs.stage_check.targets_before.Goals as goal
 
 pub overflow_mul-result : goal.overflow_mul-result

@@ -1,7 +1,6 @@
 -- `load::judge::judge`: the reader's refusal is handed on, or the sheet goes on.
 use mathlib.Core.Path.{sym, ◌∙◌}
 use Rattle.load.proofs.judge.Judging.{to_read, read_judged, unread_judged, unread_number}
-use borrow.Author.Rules.{rules}
 use Rattle.load.proofs.judge.judge.Goals as goal
 
 pub judge_sheet-requires : goal.judge_sheet-requires

@@ -1,7 +1,6 @@
 -- `load::judge::judge_sheet`: the gate's answer, beside the layout that it was asked of.
 use Rattle.load.proofs.room.Fits.{gate_small}
 use Rattle.load.proofs.judge.Judging.{gate_judged}
-use borrow.Author.Rules.{rules}
 use Rattle.load.proofs.judge.judge_sheet.Goals as goal
 
 pub first_refused_pair-requires : goal.first_refused_pair-requires

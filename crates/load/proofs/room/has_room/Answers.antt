@@ -4,7 +4,6 @@ use mathlib.Core.Bool.{◌&&◌}
 use lib.Dec.{leb}
 use lib.ListN.{length}
 use Rattle.load.specs.declared.room.Room.{Room}
-use borrow.Author.Rules.{rules}
 use Rattle.load.proofs.room.has_room.Goals as goal
 
 pub returns : goal.returns

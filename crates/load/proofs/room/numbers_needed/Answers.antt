@@ -1,7 +1,6 @@
 -- `load::room::numbers_needed`: with a sparse pair one more for each column.
 use native.Mathlib.Omega.{arith}
 use Rattle.load.proofs.room.Outcomes.{first_levels, numbers_sparse, numbers_dense}
-use borrow.Author.Rules.{rules}
 use Rattle.load.proofs.room.numbers_needed.Goals as goal
 
 pub overflow_add-result : goal.overflow_add-result

@@ -2,7 +2,6 @@
 use Prim.Native.Nat.{ℕ}
 use mathlib.Core.Path.{ap₂}
 use Rattle.load.specs.declared.room.Room.{Room}
-use borrow.Author.Rules.{rules}
 use Rattle.load.proofs.room.room_of.Goals as goal
 
 abbrev both : ℕ → ℕ → Room

@@ -2,7 +2,6 @@
 use mathlib.Core.Path.{sym, ◌∙◌}
 use Rattle.load_numbers.proofs.sheet_words.Loads.{ready_valid}
 use Rattle.load.proofs.room.Outcomes.{numbers_fit, doubles_fit, short_out, written_out}
-use borrow.Author.Rules.{rules}
 use Rattle.load.proofs.write_loaded.load_judged.Goals as goal
 
 pub has_room-requires : goal.has_room-requires

@@ -3,7 +3,6 @@ use native.Mathlib.Omega.{arith}
 use Rattle.load_numbers.proofs.sheet_words.Loads.{few_k}
 use Rattle.load.proofs.room.Fits.{ready_small, progress_small}
 use Rattle.load.proofs.room.Outcomes.{heading_made}
-use borrow.Author.Rules.{rules}
 use Rattle.load.proofs.write_loaded.write_heading.Goals as goal
 
 pub idle-requires : goal.idle-requires

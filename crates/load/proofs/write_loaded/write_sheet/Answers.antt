@@ -1,5 +1,4 @@
 -- `load::write_loaded::write_sheet`: two lists, each written by its own function.
-use borrow.Author.Rules.{rules}
 use Rattle.load.proofs.write_loaded.write_sheet.Goals as goal
 
 pub returns : goal.returns

@@ -1,8 +1,5 @@
-use borrow.Author.Rules.{rules}
-use Prim.Native.Nat.{◌-◌}
 use mathlib.Core.Path.{sym, ◌∙◌}
-use lib.ListN.{length}
-use Rattle.replace_response.proofs.finite.Walk.{Walked, walked_none, walked_more, walked_found, walked_all}
+use Rattle.replace_response.proofs.finite.Walk.{walked_none, walked_more, walked_found, walked_all}
 use Rattle.replace_response.proofs.finite.first_infinite.Goals as goal
 
 pub loop-i-init : goal.loop-i-init

@@ -1,9 +1,7 @@
 -- `replace_response::finite::first_infinite`: the numbers before i are finite.
-use borrow.Author.Rules.{rules}
 use Prim.Native.Nat.{◌-◌}
-use mathlib.Core.Path.{sym, ◌∙◌}
 use lib.ListN.{length}
-use Rattle.replace_response.proofs.finite.Walk.{Walked, walked_none, walked_more, walked_found, walked_all}
+use Rattle.replace_response.proofs.finite.Walk.{Walked}
 use Rattle.replace_response.proofs.finite.first_infinite.Given as goal
 
 abbrev pub invariant-loop-i : goal.invariant-loop-i

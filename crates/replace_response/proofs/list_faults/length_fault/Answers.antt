@@ -1,7 +1,6 @@
 -- `replace_response::list_faults::length_fault`: list by list.
 use mathlib.Core.Path.{refl, ◌∙◌}
 use borrow.Author.Tests.{eq-eqb, ne_eqb}
-use borrow.Author.Rules.{rules}
 use Rattle.workspace.specs.Answers.{length_fault}
 use Rattle.replace_response.proofs.list_faults.length_fault.Goals as goal
 

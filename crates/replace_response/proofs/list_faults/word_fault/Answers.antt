@@ -1,7 +1,6 @@
 -- `replace_response::list_faults::word_fault`: list by list.
 use mathlib.Core.Path.{refl, ◌∙◌}
 use Rattle.replace_response.proofs.list_faults.Faults.{found, not_found}
-use borrow.Author.Rules.{rules}
 use Rattle.workspace.specs.Answers.{word_fault}
 use Rattle.replace_response.proofs.list_faults.word_fault.Goals as goal
 

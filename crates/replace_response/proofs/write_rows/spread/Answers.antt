@@ -1,8 +1,8 @@
 use borrow.Author.Rules.{rules}
-use Prim.Native.Nat.{ℕ, ◌-◌, ◌≤◌}
-use mathlib.Core.Path.{◌≡◌, refl, ap, ◌∙◌}
+use Prim.Native.Nat.{ℕ}
+use mathlib.Core.Path.{refl, ap, ◌∙◌}
 use native.Mathlib.Omega.{arith}
-use lib.ListN.{length, length-set}
+use lib.ListN.{length-set}
 use Rattle.replace_response.specs.write_rows.Strided.{strided, from}
 use Rattle.replace_response.proofs.write_rows.Strided.{strided_none, strided_more}
 use Rattle.replace_response.proofs.write_rows.spread.Goals as goal

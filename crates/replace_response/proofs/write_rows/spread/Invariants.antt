@@ -1,11 +1,8 @@
 -- `replace_response::write_rows::spread`: the first c cells are copied.
-use borrow.Author.Rules.{rules}
-use Prim.Native.Nat.{ℕ, ◌-◌, ◌≤◌}
-use mathlib.Core.Path.{◌≡◌, refl, ap, ◌∙◌}
-use native.Mathlib.Omega.{arith}
-use lib.ListN.{length, length-set}
+use Prim.Native.Nat.{◌-◌, ◌≤◌}
+use mathlib.Core.Path.{◌≡◌}
+use lib.ListN.{length}
 use Rattle.replace_response.specs.write_rows.Strided.{strided, from}
-use Rattle.replace_response.proofs.write_rows.Strided.{strided_none, strided_more}
 use Rattle.replace_response.proofs.write_rows.spread.Given as goal
 
 abbrev pub invariant-loop-c : goal.invariant-loop-c

@@ -1,8 +1,6 @@
 -- `replace_response::write_rows::write_block`: one strided copy.
 use native.Mathlib.Omega.{arith}
 use Rattle.replace_response.proofs.write_rows.Cells.{few_blocks, first_within, block_fits, block_written}
-use Rattle.heading_format.proofs.Valid.{is_valid}
-use borrow.Author.Rules.{rules}
 use Rattle.replace_response.proofs.write_rows.write_block.Goals as goal
 
 pub overflow_add-to : goal.overflow_add-to

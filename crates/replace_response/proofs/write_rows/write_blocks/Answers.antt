@@ -1,8 +1,6 @@
 use Rattle.replace_response.proofs.write_rows.Cells.{few_blocks, rows_none, length_row, rows_more}
 use mathlib.Core.Path.{refl, ap, ◌∙◌}
 use Prim.Native.Nat.{ℕ}
-use Prim.Native.Nat.{◌-◌, ◌≤◌}
-use mathlib.Core.Path.{◌≡◌}
 use lib.ListN.{length}
 use native.Mathlib.Omega.{arith}
 use Rattle.replace_response.specs.write_rows.Strided.{fixed_rows}

@@ -4,7 +4,6 @@ use mathlib.Core.Path.{ap, ◌∙◌}
 use lib.ListN.{length}
 use Rattle.replace_response.proofs.write_rows.Strided.{length_strided}
 use Rattle.replace_response.proofs.write_rows.Cells.{few_effects, last_fits, last_written}
-use borrow.Author.Rules.{rules}
 use Rattle.replace_response.proofs.write_rows.write_last.Goals as goal
 
 pub row_start-requires : goal.row_start-requires

@@ -4,7 +4,6 @@ use Rattle.step_order.specs.Steps.{IsStep}
 use Rattle.update.specs.declared.StepName.{StepName}
 use Rattle.update.specs.Names.{step_of_name}
 use Rattle.step.proofs.step_result.Laws.{by_name}
-use borrow.Author.Rules.{rules}
 use Rattle.step.proofs.apply_step.apply.Goals as goal
 
 pub apply_subtract-requires : goal.apply_subtract-requires

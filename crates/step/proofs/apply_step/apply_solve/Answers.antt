@@ -2,7 +2,6 @@
 use mathlib.Core.Path.{refl}
 use native.Mathlib.Omega.{arith}
 use Rattle.step.proofs.step_result.Laws.{few, solve_applied}
-use borrow.Author.Rules.{rules}
 use Rattle.step.proofs.apply_step.apply_solve.Goals as goal
 
 pub target_place-place-requires : goal.target_place-place-requires

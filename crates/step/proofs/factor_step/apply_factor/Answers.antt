@@ -2,7 +2,6 @@
 use mathlib.Core.Path.{refl}
 use native.Mathlib.Omega.{arith}
 use Rattle.step.proofs.step_result.Laws.{few, still_room, factor_applied, factor_refused}
-use borrow.Author.Rules.{rules}
 use Rattle.step.proofs.factor_step.apply_factor.Goals as goal
 
 pub clear_working-requires : goal.clear_working-requires

@@ -2,7 +2,6 @@
 use mathlib.Core.Path.{refl}
 use Rattle.update.specs.Names.{step_of_name}
 use Rattle.step.proofs.step_check.Faults.{fault_named}
-use borrow.Author.Rules.{rules}
 use Rattle.step.proofs.step_check.fault.Goals as goal
 
 pub returns-in-UnderWay : goal.returns-in-UnderWay

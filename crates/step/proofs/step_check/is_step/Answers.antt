@@ -1,5 +1,4 @@
 -- `step::step_check::is_step`: the tests of the name, in turn.
-use borrow.Author.Rules.{rules}
 use Rattle.step.proofs.step_check.is_step.Goals as goal
 
 pub returns-in-S : goal.returns-in-S

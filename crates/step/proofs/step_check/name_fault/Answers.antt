@@ -1,7 +1,6 @@
 -- `step::step_check::name_fault`: test by test.
 use Rattle.update.specs.Names.{step_of_name}
 use Rattle.step.proofs.step_check.Faults.{named_eight, fault_unnamed, fault_done, fault_none, fault_forerun}
-use borrow.Author.Rules.{rules}
 use Rattle.step.proofs.step_check.name_fault.Goals as goal
 
 pub is_done-requires : goal.is_done-requires

@@ -1,5 +1,4 @@
 -- `step::step_check::stage`: the number at the place of the target.
-use borrow.Author.Rules.{rules}
 use Rattle.step.proofs.step_check.stage.Goals as goal
 
 pub returns : goal.returns

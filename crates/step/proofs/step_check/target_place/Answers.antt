@@ -1,7 +1,6 @@
 -- `step::step_check::target_place`: the targets of the rows above it, and its own column.
 use native.Mathlib.Omega.{arith}
 use Rattle.step.proofs.step_check.Laws.{row_product, place_at}
-use borrow.Author.Rules.{rules}
 use Rattle.step.proofs.step_check.target_place.Goals as goal
 
 pub overflow_mul-result : goal.overflow_mul-result

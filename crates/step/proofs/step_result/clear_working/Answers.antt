@@ -1,10 +1,9 @@
-use Prim.Native.Nat.{◌-◌}
 use borrow.Author.Rules.{rules}
 use Rattle.rules.specs.Arithmetic.{ieee}
 use mathlib.Core.Path.{refl}
 use native.Mathlib.Omega.{arith}
 use Rattle.step.proofs.step_result.Laws.{theta_before, working_fit, all_cleared}
-use Rattle.storage.proofs.Filling.{Filling, filling_none, filling_more, filling_done}
+use Rattle.storage.proofs.Filling.{filling_none, filling_more, filling_done}
 use Rattle.step.proofs.step_result.clear_working.Goals as goal
 
 pub overflow_sub-n : goal.overflow_sub-n

@@ -1,7 +1,6 @@
 -- `step_blocks::factor_block::factor`: the block, then the logarithms unless a pivot is refused.
 use native.Mathlib.Omega.{arith}
 use Rattle.step_blocks.proofs.factor_block.Laws.{limited, first_diagonal, block_fits, still_fits, refused_left, accepted_left}
-use borrow.Author.Rules.{rules}
 use Rattle.step_blocks.proofs.factor_block.factor.Goals as goal
 
 pub block-b-requires : goal.block-b-requires

@@ -1,6 +1,5 @@
 -- `step_blocks::factor_block::factor_block`: the kernel of its kind.
 use Rattle.update.specs.Working.{refused_row}
-use borrow.Author.Rules.{rules}
 use Rattle.step_blocks.proofs.factor_block.factor_block.Goals as goal
 
 pub chol_diagonal-requires : goal.chol_diagonal-requires

@@ -1,7 +1,6 @@
 -- `step_blocks::factor_logs::add_logs`: the sum written, or left to block k.
 use borrow.Author.Tests.{eqb-true}
 use Rattle.step_blocks.proofs.factor_logs.Sums.{sum_kept, sum_written}
-use borrow.Author.Rules.{rules}
 use Rattle.step_blocks.proofs.factor_logs.add_logs.Goals as goal
 
 pub returns-then-j-layout : goal.returns-then-j-layout

@@ -1,5 +1,4 @@
 -- `step_blocks::factor_logs::logs`: the kernel of its kind.
-use borrow.Author.Rules.{rules}
 use Rattle.step_blocks.proofs.factor_logs.logs.Goals as goal
 
 pub log_diagonal-requires : goal.log_diagonal-requires

@@ -1,5 +1,4 @@
 -- `step_blocks::solve_block::divide`: a dense block with a diagonal.
-use borrow.Author.Rules.{rules}
 use Rattle.step_blocks.proofs.solve_block.Ready.{divide_ready}
 use Rattle.step_blocks.proofs.solve_block.divide.Goals as goal
 

@@ -1,5 +1,4 @@
 -- `step_blocks::solve_block::divide_entries`: the entries of the sparse pair with the first diagonal.
-use borrow.Author.Rules.{rules}
 use Rattle.step_blocks.proofs.solve_block.Ready.{entries_ready}
 use Rattle.step_blocks.proofs.solve_block.divide_entries.Goals as goal
 

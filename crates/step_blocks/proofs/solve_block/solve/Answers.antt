@@ -1,10 +1,9 @@
 -- `step_blocks::solve_block::solve`: by the kind of the block and of the factor.
 use mathlib.Core.Path.{sym, ◌∙◌}
-use mathlib.Core.Logic.{inl, inr, ⊎_elim}
+use mathlib.Core.Logic.{inl, inr}
 use Rattle.heading_format.proofs.Fits.{room_of_lem}
 use Rattle.block_places.proofs.block_kinds.Workspace.{fits_two}
 use Rattle.step_blocks.proofs.solve_block.Rules.{made_divided, made_entries, made_solved}
-use borrow.Author.Rules.{rules}
 use Rattle.step_blocks.proofs.solve_block.solve.Goals as goal
 use Rattle.step_blocks.proofs.solve_block.solve.Goals.{then-layout+else-i-layout, else-layout}
 

@@ -1,5 +1,4 @@
 -- `step_blocks::solve_block::substitute`: a dense block with a triangle.
-use borrow.Author.Rules.{rules}
 use Rattle.step_blocks.proofs.solve_block.Ready.{solve_ready}
 use Rattle.step_blocks.proofs.solve_block.substitute.Goals as goal
 

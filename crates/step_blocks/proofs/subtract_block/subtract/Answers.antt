@@ -6,7 +6,6 @@ use Rattle.layout.proofs.Factors.{diagonal_second}
 use Rattle.block_places.proofs.block_sizes.Sizes.{below}
 use Rattle.block_places.proofs.block_kinds.Workspace.{fits_two, fits_numbers, fits_rows}
 use Rattle.step_blocks.proofs.subtract_block.Rules.{made_last, made_triangle, made_dense, made_diagonal, made_entries, made_sparse}
-use borrow.Author.Rules.{rules}
 use Rattle.heading_format.proofs.Fits.{room_of_lem}
 use Rattle.step_blocks.proofs.subtract_block.subtract.Goals as goal
 

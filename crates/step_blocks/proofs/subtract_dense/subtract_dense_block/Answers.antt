@@ -1,5 +1,4 @@
 -- `step_blocks::subtract_dense::subtract_dense_block`: a dense block with two dense sources.
-use borrow.Author.Rules.{rules}
 use Rattle.step_blocks.proofs.subtract_dense.Ready.{dense_ready}
 use Rattle.step_blocks.proofs.subtract_dense.subtract_dense_block.Goals as goal
 

@@ -1,5 +1,4 @@
 -- `step_blocks::subtract_dense::subtract_last_block`: the last triangle with the fixed rows of one factor.
-use borrow.Author.Rules.{rules}
 use Rattle.step_blocks.proofs.subtract_dense.Ready.{last_ready}
 use Rattle.step_blocks.proofs.subtract_dense.subtract_last_block.Goals as goal
 

@@ -1,5 +1,4 @@
 -- `step_blocks::subtract_square::subtract_diagonal_block`: the diagonal with its dense pair.
-use borrow.Author.Rules.{rules}
 use Rattle.step_blocks.proofs.subtract_dense.Ready.{diagonal_ready}
 use Rattle.step_blocks.proofs.subtract_square.subtract_diagonal_block.Goals as goal
 

@@ -1,6 +1,5 @@
 -- `step_blocks::subtract_square::subtract_diagonal_sparse_block`: the diagonal with its sparse pair.
 use Rattle.block_runs.specs.blocks.Blocks.{row_from}
-use borrow.Author.Rules.{rules}
 use Rattle.step_blocks.proofs.subtract_dense.Ready.{entries_ready}
 use Rattle.heading_format.specs.Parts.{heading_length}
 use Rattle.step_blocks.proofs.subtract_square.subtract_diagonal_sparse_block.Goals as goal

@@ -1,5 +1,4 @@
 -- `step_blocks::subtract_square::subtract_triangle_block`: a triangle with one of its pairs.
-use borrow.Author.Rules.{rules}
 use Rattle.step_blocks.proofs.subtract_dense.Ready.{triangle_ready}
 use Rattle.step_blocks.proofs.subtract_square.subtract_triangle_block.Goals as goal
 

@@ -1,5 +1,4 @@
 -- `triangular_solves::backsolve::backsolve_a_inv`: forward, then backward.
-use borrow.Author.Rules.{rules}
 use Rattle.solution_vectors.proofs.solve_laws.Solves.{backsolved}
 use Rattle.triangular_solves.proofs.backsolve.backsolve_a_inv.Goals as goal
 

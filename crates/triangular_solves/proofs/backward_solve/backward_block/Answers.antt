@@ -1,8 +1,6 @@
-use borrow.Author.Rules.{rules}
-use Prim.Native.Nat.{◌-◌}
 use mathlib.Core.Path.{refl}
 use native.Mathlib.Omega.{arith}
-use Rattle.solution_vectors.proofs.solve_laws.Folds.{Backward, backward_start, backward_more, backward_end}
+use Rattle.solution_vectors.proofs.solve_laws.Folds.{backward_start, backward_more, backward_end}
 use Rattle.triangular_solves.proofs.backward_solve.backward_block.Goals as goal
 
 pub loop-j-init : goal.loop-j-init

@@ -1,9 +1,6 @@
 -- `triangular_solves::backward_solve::backward_block`: the blocks behind i and before j have been taken.
-use borrow.Author.Rules.{rules}
 use Prim.Native.Nat.{◌-◌}
-use mathlib.Core.Path.{refl}
-use native.Mathlib.Omega.{arith}
-use Rattle.solution_vectors.proofs.solve_laws.Folds.{Backward, backward_start, backward_more, backward_end}
+use Rattle.solution_vectors.proofs.solve_laws.Folds.{Backward}
 use Rattle.triangular_solves.proofs.backward_solve.backward_block.Given as goal
 
 abbrev pub invariant-loop-j : goal.invariant-loop-j

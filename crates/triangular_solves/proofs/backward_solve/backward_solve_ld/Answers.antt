@@ -1,6 +1,5 @@
-use borrow.Author.Rules.{rules}
 use native.Mathlib.Omega.{arith}
-use Rattle.solution_vectors.proofs.solve_laws.Solves.{BackwardTurns, backward_begin, backward_turn, backward_result}
+use Rattle.solution_vectors.proofs.solve_laws.Solves.{backward_begin, backward_turn, backward_result}
 use Rattle.triangular_solves.proofs.backward_solve.backward_solve_ld.Goals as goal
 
 pub loop-i-init : goal.loop-i-init

@@ -1,7 +1,5 @@
 -- `triangular_solves::backward_solve::backward_solve_ld`: the blocks from i on are solved.
-use borrow.Author.Rules.{rules}
-use native.Mathlib.Omega.{arith}
-use Rattle.solution_vectors.proofs.solve_laws.Solves.{BackwardTurns, backward_begin, backward_turn, backward_result}
+use Rattle.solution_vectors.proofs.solve_laws.Solves.{BackwardTurns}
 use Rattle.triangular_solves.proofs.backward_solve.backward_solve_ld.Given as goal
 
 abbrev pub invariant-loop-i : goal.invariant-loop-i

@@ -4,7 +4,6 @@ use native.Mathlib.Omega.{arith}
 use Rattle.profile.specs.Solves.{backward_in}
 use Rattle.block_places.proofs.sheet_rows.AllRows.{rows_within}
 use Rattle.triangular_solves.proofs.block_solves.Within.{divide_ready, solve_ready, solved_by}
-use borrow.Author.Rules.{rules}
 use Rattle.triangular_solves.proofs.block_solves.backward_in.Goals as goal
 
 pub first_row-requires : goal.first_row-requires

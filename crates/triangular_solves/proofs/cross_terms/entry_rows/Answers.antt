@@ -1,5 +1,4 @@
 -- `triangular_solves::cross_terms::entry_rows`: the whole rest of the heading.
-use borrow.Author.Rules.{rules}
 use Prim.Native.Nat.{◌-◌}
 use native.Mathlib.Omega.{arith}
 use lib.ListN.{length, drop, length-drop}

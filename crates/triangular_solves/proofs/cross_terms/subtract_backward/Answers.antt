@@ -1,5 +1,4 @@
 -- `triangular_solves::cross_terms::subtract_backward`: the sparse pair, or a dense one.
-use borrow.Author.Rules.{rules}
 use Rattle.triangular_solves.proofs.cross_terms.Subtracted.{sparse_ready, sparse_backward_made, dense_ready, backward_made_lem}
 use Rattle.triangular_solves.proofs.cross_terms.subtract_backward.Goals as goal
 

@@ -1,7 +1,5 @@
-use borrow.Author.Rules.{rules}
-use Prim.Native.Nat.{◌-◌}
 use native.Mathlib.Omega.{arith}
-use Rattle.solution_vectors.proofs.solve_laws.Folds.{Forward, forward_start, forward_more, forward_end}
+use Rattle.solution_vectors.proofs.solve_laws.Folds.{forward_start, forward_more, forward_end}
 use Rattle.triangular_solves.proofs.forward_solve.forward_block.Goals as goal
 
 pub loop-j-init : goal.loop-j-init

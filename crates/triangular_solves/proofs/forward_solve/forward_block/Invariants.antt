@@ -1,8 +1,6 @@
 -- `triangular_solves::forward_solve::forward_block`: the first j blocks have been taken.
-use borrow.Author.Rules.{rules}
 use Prim.Native.Nat.{◌-◌}
-use native.Mathlib.Omega.{arith}
-use Rattle.solution_vectors.proofs.solve_laws.Folds.{Forward, forward_start, forward_more, forward_end}
+use Rattle.solution_vectors.proofs.solve_laws.Folds.{Forward}
 use Rattle.triangular_solves.proofs.forward_solve.forward_block.Given as goal
 
 abbrev pub invariant-loop-j : goal.invariant-loop-j

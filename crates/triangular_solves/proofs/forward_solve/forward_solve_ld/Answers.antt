@@ -1,7 +1,5 @@
-use borrow.Author.Rules.{rules}
-use Prim.Native.Nat.{◌-◌}
 use native.Mathlib.Omega.{arith}
-use Rattle.solution_vectors.proofs.solve_laws.Solves.{ForwardTurns, forward_begin, forward_turn, forward_result}
+use Rattle.solution_vectors.proofs.solve_laws.Solves.{forward_begin, forward_turn, forward_result}
 use Rattle.triangular_solves.proofs.forward_solve.forward_solve_ld.Goals as goal
 
 pub loop-i-init : goal.loop-i-init

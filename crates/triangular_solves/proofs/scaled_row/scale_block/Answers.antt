@@ -3,7 +3,6 @@ use mathlib.Core.Path.{refl}
 use native.Mathlib.Omega.{arith}
 use Rattle.block_places.proofs.block_kinds.Shapes.{rows_last}
 use Rattle.triangular_solves.proofs.scaled_row.Scaled.{rows_room, fixed_lies, block_scaled}
-use borrow.Author.Rules.{rules}
 use Rattle.triangular_solves.proofs.scaled_row.scale_block.Goals as goal
 
 pub block_start-to-requires : goal.block_start-to-requires

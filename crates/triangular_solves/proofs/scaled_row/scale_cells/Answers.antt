@@ -1,11 +1,9 @@
-use borrow.Author.Rules.{rules}
-use Prim.Native.Nat.{◌+◌, ◌-◌}
-use mathlib.Core.Path.{◌≡◌, ap}
+use Prim.Native.Nat.{◌+◌}
+use mathlib.Core.Path.{ap}
 use native.Mathlib.Omega.{arith}
-use Rattle.storage.specs.Runs.{start, dense}
-use Rattle.storage.specs.Placed.{as_columns, read}
+use Rattle.storage.specs.Runs.{start}
 use Rattle.storage.proofs.Starts.{start_dense}
-use Rattle.storage.proofs.Filling.{Filling, filling_none, filling_more, filling_done}
+use Rattle.storage.proofs.Filling.{filling_none, filling_more, filling_done}
 use Rattle.rules.specs.Arithmetic.{ieee}
 use Rattle.rules.specs.Begin.{fixed_cell}
 use Rattle.triangular_solves.proofs.scaled_row.Scaled.{column_room, column_cell}

@@ -1,15 +1,11 @@
 -- `triangular_solves::scaled_row::scale_cells`: the first c cells are written, and `column` is the start of column c.
-use borrow.Author.Rules.{rules}
 use Prim.Native.Nat.{◌+◌, ◌-◌}
-use mathlib.Core.Path.{◌≡◌, ap}
-use native.Mathlib.Omega.{arith}
+use mathlib.Core.Path.{◌≡◌}
 use Rattle.storage.specs.Runs.{start, dense}
 use Rattle.storage.specs.Placed.{as_columns, read}
-use Rattle.storage.proofs.Starts.{start_dense}
-use Rattle.storage.proofs.Filling.{Filling, filling_none, filling_more, filling_done}
+use Rattle.storage.proofs.Filling.{Filling}
 use Rattle.rules.specs.Arithmetic.{ieee}
 use Rattle.rules.specs.Begin.{fixed_cell}
-use Rattle.triangular_solves.proofs.scaled_row.Scaled.{column_room, column_cell}
 use Rattle.triangular_solves.proofs.scaled_row.scale_cells.Given as goal
 
 abbrev pub invariant-loop-c : goal.invariant-loop-c

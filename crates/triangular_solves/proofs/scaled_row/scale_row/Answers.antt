@@ -1,8 +1,6 @@
-use borrow.Author.Rules.{rules}
-use Prim.Native.Nat.{◌-◌, ◌<◌}
+use Prim.Native.Nat.{◌<◌}
 use native.Mathlib.Omega.{arith}
-use Rattle.profile.specs.Solves.{scaled_row, block_in}
-use Rattle.solution_vectors.proofs.Vectors.{Blockwise, blockwise_none, blockwise_more, blockwise_list}
+use Rattle.solution_vectors.proofs.Vectors.{blockwise_none, blockwise_more, blockwise_list}
 use Rattle.triangular_solves.proofs.scaled_row.Scaled.{row_sized}
 use Rattle.triangular_solves.proofs.scaled_row.scale_row.Goals as goal
 

@@ -1,10 +1,7 @@
 -- `triangular_solves::scaled_row::scale_row`: the first j blocks are written.
-use borrow.Author.Rules.{rules}
-use Prim.Native.Nat.{◌-◌, ◌<◌}
-use native.Mathlib.Omega.{arith}
+use Prim.Native.Nat.{◌-◌}
 use Rattle.profile.specs.Solves.{scaled_row, block_in}
-use Rattle.solution_vectors.proofs.Vectors.{Blockwise, blockwise_none, blockwise_more, blockwise_list}
-use Rattle.triangular_solves.proofs.scaled_row.Scaled.{row_sized}
+use Rattle.solution_vectors.proofs.Vectors.{Blockwise}
 use Rattle.triangular_solves.proofs.scaled_row.scale_row.Given as goal
 
 abbrev pub invariant-loop-j : goal.invariant-loop-j
