@@ -1,5 +1,5 @@
 -- The finish, step by step: what C asks and gives, and the two ways out.
-use Prim.Native.Nat.{ℕ, zero, ◌+◌, ◌≤◌}
+use Prim.Native.Nat.{ℕ, ◌+◌, ◌≤◌}
 use mathlib.Core.Path.{◌≡◌, sym, ap, ap₂, subst, ◌∙◌}
 use mathlib.Core.Bool.{Bool, true}
 use mathlib.Core.List.{List}

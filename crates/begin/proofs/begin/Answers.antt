@@ -2,7 +2,6 @@
 use Rattle.workspace.proofs.Meaning.{outcome_means}
 use mathlib.Core.Path.{sym, ◌∙◌}
 use Rattle.begin.proofs.Outcome.{not_valid_heading}
-use borrow.Author.Rules.{rules}
 use Rattle.begin.proofs.begin.Goals as goal
 
 pub begin_valid-requires : goal.begin_valid-requires

@@ -2,7 +2,6 @@
 use mathlib.Core.Path.{sym, ◌∙◌}
 use Rattle.heading_format.proofs.Fits.{fits}
 use Rattle.begin.proofs.Outcome.{wrong_length, not_finite, ready, accepted}
-use borrow.Author.Rules.{rules}
 use Rattle.begin.proofs.begin_valid.Goals as goal
 
 pub layout-layout-requires : goal.layout-layout-requires

@@ -4,7 +4,6 @@ use Rattle.block_places.proofs.block_sizes.Sizes.{few_blocks}
 use Rattle.heading.specs.writer.Small.{SmallProgress}
 use Rattle.workspace.specs.Memory.{heading_with}
 use Rattle.begin.proofs.Outcome.{under_way_small}
-use borrow.Author.Rules.{rules}
 use Rattle.begin.proofs.write.Goals as goal
 
 pub under_way-requires : goal.under_way-requires

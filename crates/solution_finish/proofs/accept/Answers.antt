@@ -1,7 +1,6 @@
 -- `solution_finish::accept`: the parts, and the scalars with the residual.
 use native.Mathlib.Omega.{arith}
 use Rattle.solution_finish.proofs.Finish.{solution_is}
-use borrow.Author.Rules.{rules}
 use Rattle.solution_finish.proofs.accept.Goals as goal
 
 pub scalars-requires : goal.scalars-requires

@@ -26,7 +26,7 @@ use Rattle.cross_matvec.proofs.Vectors.{run_else}
 use Rattle.layout.specs.declared.Layout.{Layout}
 use Rattle.layout.specs.Shapes.{loaded_shape, loaded_at, last_rows}
 use Rattle.layout.proofs.Places.{size_loaded, loaded_inside, theta_inside}
-use Rattle.heading_format.specs.Heading.{layout_of, entry_row}
+use Rattle.heading_format.specs.Heading.{entry_row}
 use Rattle.heading_format.specs.Fits.{Fits}
 use Rattle.replace_response.proofs.write_rows.Cells.{last_cells}
 use Rattle.profile.specs.Finish.{v_of, w_of, cross_product, fixed_triangle, fixed_rhs}

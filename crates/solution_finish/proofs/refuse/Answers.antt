@@ -1,7 +1,6 @@
 -- `solution_finish::refuse`: the list cleared whole.
 use mathlib.Core.Path.{refl}
 use Rattle.solution_finish.proofs.Finish.{cleared}
-use borrow.Author.Rules.{rules}
 use Rattle.solution_finish.proofs.refuse.Goals as goal
 
 pub returns : goal.returns

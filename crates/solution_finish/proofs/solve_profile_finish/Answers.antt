@@ -2,7 +2,6 @@
 use native.Mathlib.Omega.{arith}
 use Rattle.solution_vectors.specs.result_places.Places.{result_length_of}
 use Rattle.solution_finish.proofs.Finish.{chol_ready, accept_ready, none_refused, outcome_solved, finish_refused}
-use borrow.Author.Rules.{rules}
 use Rattle.solution_finish.proofs.solve_profile_finish.Goals as goal
 
 pub l_x_at-factor-requires : goal.l_x_at-factor-requires

@@ -5,7 +5,6 @@ use mathlib.Core.List.{List}
 use lib.ListN.{length}
 use lib.Ieee.{Float}
 use Rattle.layout.specs.declared.Layout.{Layout}
-use Rattle.heading_format.specs.Heading.{layout_of}
 use Rattle.heading_format.specs.Fits.{Fits}
 use Rattle.profile.specs.Solves.{scaled_row}
 use Rattle.profile.specs.Finish.{in_sheet_order, v_of}

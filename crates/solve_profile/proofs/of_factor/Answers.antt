@@ -1,6 +1,5 @@
 -- `solve_profile::of_factor`: w of every row, then the finish.
 use native.Mathlib.Omega.{arith}
-use borrow.Author.Rules.{rules}
 use Rattle.solve_profile.proofs.of_factor.Goals as goal
 
 pub solve_profile_finish-requires : goal.solve_profile_finish-requires

@@ -4,7 +4,6 @@ use Rattle.heading_format.specs.declared.Progress.{Progress}
 use Rattle.heading_format.proofs.Fits.{fits, read_fits}
 use Rattle.profile.specs.Deviance.{is_finished}
 use Rattle.solve_profile.proofs.Call.{is_valid_layout, finishes, other_length, not_finished}
-use borrow.Author.Rules.{rules}
 use Rattle.solve_profile.proofs.of_workspace.Goals as goal
 
 pub layout-layout-requires : goal.layout-layout-requires

@@ -2,7 +2,6 @@
 use mathlib.Core.Path.{sym, ap, ◌∙◌}
 use Rattle.profile.specs.Finish.{solve_meaning}
 use Rattle.solve_profile.proofs.Call.{not_valid_heading}
-use borrow.Author.Rules.{rules}
 use Rattle.solve_profile.proofs.solve_profile_blocked.Goals as goal
 
 pub of_workspace-requires : goal.of_workspace-requires

@@ -2,7 +2,6 @@
 use mathlib.Core.Path.{ap, ◌∙◌}
 use Rattle.heading_format.specs.declared.Progress.{Progress}
 use Rattle.profile.specs.Deviance.{is_finished}
-use borrow.Author.Rules.{rules}
 use Rattle.views.proofs.has_factor.Goals as goal
 
 pub returns : goal.returns

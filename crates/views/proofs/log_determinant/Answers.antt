@@ -8,7 +8,6 @@ use Rattle.profile.specs.Deviance.{log_determinant}
 use Rattle.deviance.proofs.deviance_tail.Tails.{workspace_fits}
 use Rattle.views.specs.declared.View.TheVariants.{Value}
 use Rattle.views.proofs.Looks.{not_valid_heading, not_finished, finished, determinant}
-use borrow.Author.Rules.{rules}
 use Rattle.views.proofs.log_determinant.Goals as goal
 
 pub has_factor-requires : goal.has_factor-requires

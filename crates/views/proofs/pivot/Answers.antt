@@ -11,7 +11,6 @@ use Rattle.deviance.proofs.deviance_tail.Tails.{workspace_fits}
 use Rattle.views.specs.declared.View.TheVariants.{Value, Absent}
 use Rattle.views.specs.pivot_places.Pivots.{is_pivot}
 use Rattle.views.proofs.Looks.{not_valid_heading, not_finished, finished, pivot_same}
-use borrow.Author.Rules.{rules}
 use Rattle.views.proofs.pivot.Goals as goal
 
 pub has_factor-requires : goal.has_factor-requires

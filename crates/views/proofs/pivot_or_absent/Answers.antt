@@ -1,6 +1,5 @@
 -- `views::pivot_or_absent`: no block, no row, or a pivot.
 use Rattle.views.proofs.Looks.{no_block, no_row, a_pivot}
-use borrow.Author.Rules.{rules}
 use Rattle.views.proofs.pivot_or_absent.Goals as goal
 
 pub returns-then-r-rows_of : goal.returns-then-r-rows_of

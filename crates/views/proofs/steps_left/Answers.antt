@@ -3,7 +3,6 @@ use mathlib.Core.Path.{sym, ap, ◌∙◌}
 use Rattle.views.specs.Views.{steps_meaning}
 use Rattle.heading_format.proofs.Fits.{fits}
 use Rattle.views.proofs.Looks.{no_heading, steps}
-use borrow.Author.Rules.{rules}
 use Rattle.views.proofs.steps_left.Goals as goal
 
 pub progress-progress-requires : goal.progress-progress-requires

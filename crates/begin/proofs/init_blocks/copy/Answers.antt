@@ -1,13 +1,10 @@
-use borrow.Author.Rules.{rules}
-use Prim.Native.Nat.{◌+◌, ◌-◌}
 use mathlib.Core.Path.{ap, ◌∙◌}
 use mathlib.Core.List.{List}
 use mathlib.Core.Logic.{inr}
 use native.Mathlib.Omega.{arith}
 use lib.Ieee.{Float, nan}
-use Rattle.storage.proofs.Filling.{Filling, filling_none, filling_apart, filling_more, filling_done}
+use Rattle.storage.proofs.Filling.{filling_none, filling_apart, filling_more, filling_done}
 use Rattle.storage.specs.Part.{store}
-use Rattle.block_runs.specs.axpy.Axpy.{at}
 use Rattle.begin.proofs.scaled_blocks.Blocks.{copied}
 use Rattle.begin.proofs.init_blocks.copy.Goals as goal
 

@@ -1,7 +1,6 @@
 -- `begin::init_blocks::init_blocks`: kind by kind.
 use Rattle.begin.proofs.scaled_blocks.Blocks.{targets_done}
 use native.Mathlib.Omega.{arith}
-use borrow.Author.Rules.{rules}
 use Rattle.begin.proofs.init_blocks.init_blocks.Goals as goal
 
 pub init_row-requires : goal.init_row-requires

@@ -1,7 +1,6 @@
 -- `begin::init_blocks::init_factor`: a diagonal or a triangle.
 use mathlib.Core.Path.{sym, ◌∙◌}
 use Rattle.begin.proofs.scaled_blocks.Blocks.{factor_ready, factor_done}
-use borrow.Author.Rules.{rules}
 use Rattle.begin.proofs.init_blocks.init_factor.Goals as goal
 
 pub init_diagonal-requires : goal.init_diagonal-requires

@@ -1,12 +1,8 @@
 -- `begin::init_blocks::init_factors`: the first j factors are scaled.
 use Prim.Native.Nat.{◌-◌}
-use mathlib.Core.Path.{refl}
 use mathlib.Core.List.{[], ◌∷◌}
-use native.Mathlib.Omega.{arith}
 use Rattle.layout.specs.Shapes.{target, factors}
-use Rattle.block_places.proofs.block_sizes.Growing.{factors_grow}
-use Rattle.block_places.proofs.block_sizes.Sizes.{few_blocks}
-use Rattle.begin.proofs.scaled_blocks.Blocks.{Scaling, scaling_none, scaling_block, scaling_all}
+use Rattle.begin.proofs.scaled_blocks.Blocks.{Scaling}
 use Rattle.begin.proofs.init_blocks.init_factors.Given as goal
 
 abbrev pub invariant-loop-j : goal.invariant-loop-j

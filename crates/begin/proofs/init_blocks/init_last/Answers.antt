@@ -1,6 +1,5 @@
 -- `begin::init_blocks::init_last`: one copy.
 use Rattle.begin.proofs.scaled_blocks.Blocks.{last_fits, last_done}
-use borrow.Author.Rules.{rules}
 use Rattle.begin.proofs.init_blocks.init_last.Goals as goal
 
 pub copy-requires : goal.copy-requires

@@ -1,9 +1,7 @@
-use Prim.Native.Nat.{◌-◌}
 use native.Mathlib.Omega.{arith}
-use Rattle.layout.specs.Shapes.{across, pairs}
 use Rattle.block_places.proofs.block_sizes.Growing.{pairs_grow}
 use Rattle.block_places.proofs.block_sizes.Sizes.{few_blocks}
-use Rattle.begin.proofs.scaled_blocks.Blocks.{Scaling, scaling_none, scaling_more, scaling_all}
+use Rattle.begin.proofs.scaled_blocks.Blocks.{scaling_none, scaling_more, scaling_all}
 use Rattle.begin.proofs.init_blocks.init_pairs.Goals as goal
 
 pub loop-i-init : goal.loop-i-init

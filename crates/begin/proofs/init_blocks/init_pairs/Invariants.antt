@@ -1,10 +1,7 @@
 -- `begin::init_blocks::init_pairs`: the pairs of the first i factors are begun.
 use Prim.Native.Nat.{◌-◌}
-use native.Mathlib.Omega.{arith}
 use Rattle.layout.specs.Shapes.{across, pairs}
-use Rattle.block_places.proofs.block_sizes.Growing.{pairs_grow}
-use Rattle.block_places.proofs.block_sizes.Sizes.{few_blocks}
-use Rattle.begin.proofs.scaled_blocks.Blocks.{Scaling, scaling_none, scaling_more, scaling_all}
+use Rattle.begin.proofs.scaled_blocks.Blocks.{Scaling}
 use Rattle.begin.proofs.init_blocks.init_pairs.Given as goal
 
 abbrev pub invariant-loop-i : goal.invariant-loop-i

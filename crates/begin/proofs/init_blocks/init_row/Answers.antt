@@ -1,11 +1,8 @@
-use Prim.Native.Nat.{◌-◌}
 use mathlib.Core.Path.{refl}
-use mathlib.Core.List.{[], ◌∷◌}
 use native.Mathlib.Omega.{arith}
-use Rattle.layout.specs.Shapes.{target, across}
 use Rattle.block_places.proofs.block_sizes.Growing.{across_grow}
 use Rattle.block_places.proofs.block_sizes.Sizes.{few_blocks}
-use Rattle.begin.proofs.scaled_blocks.Blocks.{Scaling, scaling_none, scaling_block, scaling_all}
+use Rattle.begin.proofs.scaled_blocks.Blocks.{scaling_none, scaling_block, scaling_all}
 use Rattle.begin.proofs.init_blocks.init_row.Goals as goal
 
 pub loop-j-init : goal.loop-j-init

@@ -1,12 +1,8 @@
 -- `begin::init_blocks::init_row`: the first j blocks of the row are begun.
 use Prim.Native.Nat.{◌-◌}
-use mathlib.Core.Path.{refl}
 use mathlib.Core.List.{[], ◌∷◌}
-use native.Mathlib.Omega.{arith}
 use Rattle.layout.specs.Shapes.{target, across}
-use Rattle.block_places.proofs.block_sizes.Growing.{across_grow}
-use Rattle.block_places.proofs.block_sizes.Sizes.{few_blocks}
-use Rattle.begin.proofs.scaled_blocks.Blocks.{Scaling, scaling_none, scaling_block, scaling_all}
+use Rattle.begin.proofs.scaled_blocks.Blocks.{Scaling}
 use Rattle.begin.proofs.init_blocks.init_row.Given as goal
 
 abbrev pub invariant-loop-j : goal.invariant-loop-j

@@ -1,6 +1,5 @@
 -- `begin::scaled_blocks::init_off_diagonal`: fixed rows or a pair.
 use Rattle.begin.proofs.scaled_blocks.Blocks.{off_diagonal_fits, fixed_done, pair_done}
-use borrow.Author.Rules.{rules}
 use Rattle.begin.proofs.scaled_blocks.init_off_diagonal.Goals as goal
 
 pub scale_once-requires : goal.scale_once-requires

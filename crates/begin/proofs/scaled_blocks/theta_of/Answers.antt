@@ -4,7 +4,6 @@ use lib.Ieee.{nan}
 use Rattle.rules.specs.Arithmetic.{ieee}
 use Rattle.block_places.proofs.block_sizes.Sizes.{few_blocks}
 use Rattle.heading_format.proofs.Sorted.{order_below}
-use borrow.Author.Rules.{rules}
 use Rattle.storage.proofs.Cells.{any_default}
 use Rattle.begin.proofs.scaled_blocks.theta_of.Goals as goal
 

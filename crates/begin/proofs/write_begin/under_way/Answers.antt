@@ -1,7 +1,6 @@
 -- `begin::write_begin::under_way`: every step is left.
 use mathlib.Core.Path.{ap, ◌∙◌}
 use Rattle.heading_format.specs.declared.State.TheVariants.{UnderWay}
-use borrow.Author.Rules.{rules}
 use Rattle.heading_format.specs.Heading.{undone}
 use Rattle.begin.proofs.write_begin.under_way.Goals as goal
 

@@ -2,7 +2,6 @@
 use mathlib.Core.Path.{refl}
 use native.Mathlib.Omega.{arith}
 use Rattle.solution_finish.proofs.b_vector.Scaled.{block_fits, block_apart, block_scaled}
-use borrow.Author.Rules.{rules}
 use Rattle.solution_finish.proofs.b_vector.scale_block.Goals as goal
 
 pub first_row-requires : goal.first_row-requires

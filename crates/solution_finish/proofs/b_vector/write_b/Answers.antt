@@ -1,9 +1,7 @@
-use Prim.Native.Nat.{◌-◌, ◌<◌}
-use borrow.Author.Rules.{rules}
+use Prim.Native.Nat.{◌<◌}
 use native.Mathlib.Omega.{arith}
-use Rattle.solution_vectors.proofs.Vectors.{Blockwise, blockwise_none, blockwise_all}
-use Rattle.solution_vectors.specs.result_places.Places.{b_at}
-use Rattle.solution_finish.specs.b_vector.Effects.{effect_block, effect_blocks}
+use Rattle.solution_vectors.proofs.Vectors.{blockwise_none, blockwise_all}
+use Rattle.solution_finish.specs.b_vector.Effects.{effect_blocks}
 use Rattle.solution_finish.proofs.b_vector.Scaled.{b_more}
 use Rattle.solution_finish.proofs.b_vector.write_b.Goals as goal
 

@@ -1,11 +1,8 @@
 -- `solution_finish::b_vector::write_b`: the first j blocks of b are written.
-use Prim.Native.Nat.{◌-◌, ◌<◌}
-use borrow.Author.Rules.{rules}
-use native.Mathlib.Omega.{arith}
-use Rattle.solution_vectors.proofs.Vectors.{Blockwise, blockwise_none, blockwise_all}
+use Prim.Native.Nat.{◌-◌}
+use Rattle.solution_vectors.proofs.Vectors.{Blockwise}
 use Rattle.solution_vectors.specs.result_places.Places.{b_at}
-use Rattle.solution_finish.specs.b_vector.Effects.{effect_block, effect_blocks}
-use Rattle.solution_finish.proofs.b_vector.Scaled.{b_more}
+use Rattle.solution_finish.specs.b_vector.Effects.{effect_block}
 use Rattle.solution_finish.proofs.b_vector.write_b.Given as goal
 
 abbrev pub invariant-loop-j : goal.invariant-loop-j

@@ -1,7 +1,6 @@
 -- `solution_finish::beta::solve_beta`: a copy, the two substitutions, the sum, and the copy put back.
 use native.Mathlib.Omega.{arith}
 use Rattle.solution_finish.proofs.beta.Solved.{solved}
-use borrow.Author.Rules.{rules}
 use Rattle.solution_finish.proofs.beta.solve_beta.Goals as goal
 
 pub returns : goal.returns

@@ -1,5 +1,4 @@
 -- `solution_finish::fixed_rows::copy`: the part is lent.
-use borrow.Author.Rules.{rules}
 use mathlib.Core.Path.{refl, ap, ◌∙◌}
 use native.Mathlib.Nat.{add-zero}
 use native.Mathlib.Omega.{arith}

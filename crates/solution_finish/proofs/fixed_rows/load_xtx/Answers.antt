@@ -1,5 +1,4 @@
 -- `solution_finish::fixed_rows::load_xtx`: two copies.
-use borrow.Author.Rules.{rules}
 use native.Mathlib.Omega.{arith}
 use Rattle.solution_vectors.proofs.result_places.Bounds.{few_effects}
 use Rattle.solution_finish.proofs.fixed_rows.Rows.{copies_room, all_loaded}

@@ -1,7 +1,6 @@
 -- `solution_finish::l_x::chol_fixed`: C, then the scan.
 use native.Mathlib.Omega.{arith}
 use Rattle.solution_finish.proofs.l_x.Finish.{accepted, refused, refused_room}
-use borrow.Author.Rules.{rules}
 use Rattle.solution_finish.proofs.l_x.chol_fixed.Goals as goal
 
 pub first_not_above-requires-in-Refused : goal.first_not_above-requires-in-Refused

@@ -1,7 +1,5 @@
-use Prim.Native.Nat.{◌-◌}
-use borrow.Author.Rules.{rules}
 use native.Mathlib.Omega.{arith}
-use Rattle.solution_finish.proofs.l_x.Finish.{Scanning, scanning_none, scanning_all, scanning_inside, scanning_found, scanning_more}
+use Rattle.solution_finish.proofs.l_x.Finish.{scanning_none, scanning_all, scanning_inside, scanning_found, scanning_more}
 use Rattle.solution_finish.proofs.l_x.first_not_above.Goals as goal
 
 pub loop-r-init : goal.loop-r-init

@@ -1,8 +1,6 @@
 -- `solution_finish::l_x::first_not_above`: none of the first r pivots is bad.
 use Prim.Native.Nat.{◌-◌}
-use borrow.Author.Rules.{rules}
-use native.Mathlib.Omega.{arith}
-use Rattle.solution_finish.proofs.l_x.Finish.{Scanning, scanning_none, scanning_all, scanning_inside, scanning_found, scanning_more}
+use Rattle.solution_finish.proofs.l_x.Finish.{Scanning}
 use Rattle.solution_finish.proofs.l_x.first_not_above.Given as goal
 
 abbrev pub invariant-loop-r : goal.invariant-loop-r

@@ -2,7 +2,6 @@
 use mathlib.Core.Path.{sym, ap}
 use Rattle.re_lower.specs.declared.Pivots.{Pivots}
 use Rattle.solution_finish.specs.l_x.Factor.{or_row}
-use borrow.Author.Rules.{rules}
 use Rattle.solution_finish.proofs.l_x.or_row.Goals as goal
 
 pub returns-in-Accepted : goal.returns-in-Accepted

@@ -1,7 +1,6 @@
 -- `solution_finish::result_parts::make_parts`: beta, u and b.
 use native.Mathlib.Omega.{arith}
 use Rattle.solution_finish.proofs.result_parts.Made.{beta_ready, u_ready, finished}
-use borrow.Author.Rules.{rules}
 use Rattle.solution_finish.proofs.result_parts.make_parts.Goals as goal
 
 pub l_x_at-factor-requires : goal.l_x_at-factor-requires

@@ -1,6 +1,5 @@
-use Prim.Native.Nat.{◌-◌}
 use native.Mathlib.Omega.{arith}
-use Rattle.solution_finish.proofs.u_vector.Sums.{Adding, adding_none, adding_all, adding_inside, adding_more}
+use Rattle.solution_finish.proofs.u_vector.Sums.{adding_none, adding_all, adding_inside, adding_more}
 use Rattle.solution_finish.proofs.u_vector.row_sum.Goals as goal
 
 pub loop-j-init : goal.loop-j-init

@@ -1,7 +1,6 @@
 -- `solution_finish::u_vector::row_sum`: j products are summed.
 use Prim.Native.Nat.{◌-◌}
-use native.Mathlib.Omega.{arith}
-use Rattle.solution_finish.proofs.u_vector.Sums.{Adding, adding_none, adding_all, adding_inside, adding_more}
+use Rattle.solution_finish.proofs.u_vector.Sums.{Adding}
 use Rattle.solution_finish.proofs.u_vector.row_sum.Given as goal
 
 abbrev pub invariant-loop-j : goal.invariant-loop-j

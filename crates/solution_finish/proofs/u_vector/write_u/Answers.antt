@@ -1,7 +1,6 @@
-use Prim.Native.Nat.{◌-◌}
 use native.Mathlib.Omega.{arith}
-use Rattle.storage.proofs.Filling.{Filling, filling_none, filling_more, filling_done}
-use Rattle.solution_finish.proofs.u_vector.Sums.{offset, next_offset}
+use Rattle.storage.proofs.Filling.{filling_none, filling_more, filling_done}
+use Rattle.solution_finish.proofs.u_vector.Sums.{next_offset}
 use Rattle.solution_finish.proofs.u_vector.write_u.Goals as goal
 
 pub loop-i-init : goal.loop-i-init

@@ -1,8 +1,7 @@
 -- `solution_finish::u_vector::write_u`: the first i rows of u are written.
 use Prim.Native.Nat.{◌-◌}
-use native.Mathlib.Omega.{arith}
-use Rattle.storage.proofs.Filling.{Filling, filling_none, filling_more, filling_done}
-use Rattle.solution_finish.proofs.u_vector.Sums.{offset, next_offset}
+use Rattle.storage.proofs.Filling.{Filling}
+use Rattle.solution_finish.proofs.u_vector.Sums.{offset}
 use Rattle.solution_finish.proofs.u_vector.write_u.Given as goal
 
 abbrev pub invariant-loop-i : goal.invariant-loop-i

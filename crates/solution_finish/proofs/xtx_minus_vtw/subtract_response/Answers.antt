@@ -1,5 +1,4 @@
 -- `solution_finish::xtx_minus_vtw::subtract_response`: v of the response, then its product.
-use borrow.Author.Rules.{rules}
 use mathlib.Core.Path.{ap}
 use native.Mathlib.Omega.{arith}
 use Rattle.rules.specs.Arithmetic.{ieee}

@@ -1,5 +1,4 @@
 -- `solution_finish::xtx_minus_vtw::subtract_row`: v of the row, then two products.
-use borrow.Author.Rules.{rules}
 use native.Mathlib.Omega.{arith}
 use Rattle.storage.specs.Runs.{triangle}
 use Rattle.storage.proofs.Starts.{start_below}

@@ -1,8 +1,5 @@
 use mathlib.Core.Path.{◌≡◌, refl}
-use Prim.Native.Nat.{◌-◌}
 use native.Mathlib.Omega.{arith}
-use lib.ListN.{length}
-use Rattle.solution_finish.specs.fixed_rows.Fixing.{Fixing}
 use Rattle.solution_finish.proofs.xtx_minus_vtw.subtract_rows.Goals as goal
 
 pub loop-i-init : goal.loop-i-init

@@ -1,7 +1,6 @@
 -- `solution_finish::xtx_minus_vtw::subtract_rows`: i rows are made.
-use mathlib.Core.Path.{◌≡◌, refl}
+use mathlib.Core.Path.{◌≡◌}
 use Prim.Native.Nat.{◌-◌}
-use native.Mathlib.Omega.{arith}
 use lib.ListN.{length}
 use Rattle.solution_finish.specs.fixed_rows.Fixing.{Fixing}
 use Rattle.solution_finish.proofs.xtx_minus_vtw.subtract_rows.Given as goal

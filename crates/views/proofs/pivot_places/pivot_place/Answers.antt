@@ -1,7 +1,6 @@
 -- `views::pivot_places::pivot_place`: by the kind of the factor.
 use mathlib.Core.Path.{sym, ◌∙◌}
 use native.Mathlib.Omega.{arith}
-use borrow.Author.Rules.{rules}
 use Rattle.block_places.proofs.block_kinds.Shapes.{packed_limit}
 use Rattle.views.proofs.pivot_places.Places.{start_small, in_diagonal, in_packed}
 use Rattle.views.proofs.pivot_places.pivot_place.Goals as goal

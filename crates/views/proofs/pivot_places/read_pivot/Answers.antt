@@ -1,7 +1,6 @@
 -- `views::pivot_places::read_pivot`: the double at its place.
 use native.Mathlib.Omega.{arith}
 use Rattle.views.proofs.pivot_places.Places.{pivot_place, pivot_read}
-use borrow.Author.Rules.{rules}
 use Rattle.views.proofs.pivot_places.read_pivot.Goals as goal
 
 pub overflow_add-result : goal.overflow_add-result
