@@ -1,5 +1,7 @@
 // Sheets that are too long for a list, made by a rule. load looks for faulty zz lines in groups of 65,536 columns, so these have more rows than
 // that: a block of 65,535 levels and one of 5. The list has their zz entries, and every other word is 1.0.
+use std::io;
+use std::io::Read;
 use test_words::read_word;
 
 // Room for the bytes of a sheet, which has some 3,520,000.
@@ -79,17 +81,17 @@ fn put_pair(s: &mut [u8], at: usize, tag: &[u8], first: u64, second: u64, word: 
 }
 
 // The zz lines. The list has how many, then column, row and word of each.
-fn put_zz(s: &mut [u8], at: usize) -> usize {
-    let n = test_words::size(read_word().word, 1000);
+fn put_zz(list: &mut impl Read, s: &mut [u8], at: usize) -> io::Result<usize> {
+    let n = test_words::size(read_word(list)?.word, 1000);
     let mut end = at;
     let mut i: usize = 0;
     while i < n {
-        let column = read_word().word;
-        let row = read_word().word;
-        end = put_pair(s, end, b"zz", column, row, read_word().word);
+        let column = read_word(list)?.word;
+        let row = read_word(list)?.word;
+        end = put_pair(s, end, b"zz", column, row, read_word(list)?.word);
         i += 1;
     }
-    end
+    Ok(end)
 }
 
 // The zx lines.
@@ -115,17 +117,17 @@ fn put_zy(s: &mut [u8], at: usize) -> usize {
 }
 
 // The sheet whose zz entries the list has next, and how many bytes it has.
-pub fn put_sheet(s: &mut [u8]) -> usize {
+pub fn put_sheet(list: &mut impl Read, s: &mut [u8]) -> io::Result<usize> {
     let end = put_text(
         s,
         0,
         b"size\t9\t1\t65540\t2\t1\nblock\t65535\t1\nblock\t5\t1\n",
     );
-    let end = put_zz(s, end);
+    let end = put_zz(list, s, end)?;
     let end = put_zx(s, end);
     let end = put_zy(s, end);
     let end = put_pair(s, end, b"xx", 0, 0, ONE);
     let end = put_single(s, end, b"xy", 0, ONE);
     let end = put_text(s, end, b"yy");
-    put_word(s, end, ONE)
+    Ok(put_word(s, end, ONE))
 }

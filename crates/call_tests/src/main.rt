@@ -10,6 +10,8 @@ mod long_sheets;
 
 use call_list::report::Reported;
 use call_list::{memory, report};
+use std::io;
+use std::io::{BufReader, BufWriter, Read, Write};
 use test_words::size;
 use update::StepName;
 
@@ -80,7 +82,13 @@ fn lent(m: &[u64; 65536], heading: &mut [u32], doubles: &mut [f64]) -> Reported 
 }
 
 // solve_profile_blocked on the first numbers and doubles and the first of a result list, and the lines of its answer.
-fn solved(m: &[u64; 65536], heading: &[u32], doubles: &[f64], v: &mut [f64]) {
+fn solved(
+    out: &mut impl Write,
+    m: &[u64; 65536],
+    heading: &[u32],
+    doubles: &[f64],
+    v: &mut [f64],
+) -> io::Result<()> {
     let n = size(m[7], heading.len());
     let d = size(m[8], doubles.len());
     let r = size(m[4], v.len());
@@ -90,116 +98,170 @@ fn solved(m: &[u64; 65536], heading: &[u32], doubles: &[f64], v: &mut [f64]) {
         m[1] == 1,
         &mut v[..r],
     );
-    report::print_solve(m, s);
+    report::print_solve(out, m, s)
 }
 
 // The same with the lines of the result list, which stands in m.
-fn result_lines(m: &mut [u64; 65536], heading: &[u32; 1024], doubles: &[f64; 8192]) {
+fn result_lines(
+    out: &mut impl Write,
+    m: &mut [u64; 65536],
+    heading: &[u32; 1024],
+    doubles: &[f64; 8192],
+) -> io::Result<()> {
     let mut v = [0f64; 4096];
     memory::fill_results(&mut v, m);
-    solved(m, heading, doubles, &mut v);
-    memory::print_results(m, &v);
+    solved(out, m, heading, doubles, &mut v)?;
+    memory::print_results(out, m, &v)
 }
 
 // A call, or an alteration, and its lines. load begins anew on memory that no call has written.
-fn line(m: &mut [u64; 65536], heading: &mut [u32; 1024], doubles: &mut [f64; 8192]) {
+fn line(
+    out: &mut impl Write,
+    m: &mut [u64; 65536],
+    heading: &mut [u32; 1024],
+    doubles: &mut [f64; 8192],
+) -> io::Result<()> {
     if m[0] == 8 {
         memory::reset(m, heading, doubles);
     }
     if m[0] == 0 {
         memory::alter(m, heading, doubles);
     } else if m[0] == 9 {
-        result_lines(m, heading, doubles);
+        result_lines(out, m, heading, doubles)?;
     } else {
-        report::print(m, lent(m, heading, doubles));
+        report::print(out, m, lent(m, heading, doubles))?;
     }
-    memory::print_changes(m, heading, doubles);
+    memory::print_changes(out, m, heading, doubles)
 }
 
 // Reads a call into m. Whether there is one more; a kind above 9 ends a part of the list.
-fn read_call(m: &mut [u64; 65536]) -> bool {
-    let first = test_words::read_word();
+fn read_call(list: &mut impl Read, m: &mut [u64; 65536]) -> io::Result<bool> {
+    let first = test_words::read_word(list)?;
     if !first.more | (first.word > 9) {
-        return false;
+        return Ok(false);
     }
     m[0] = first.word;
-    test_words::read_words(m, 1, memory::HEAD);
+    test_words::read_words(list, m, 1, memory::HEAD)?;
     let end = memory::HEAD + size(m[9], 40960);
-    test_words::read_words(m, memory::HEAD, end);
-    true
+    test_words::read_words(list, m, memory::HEAD, end)?;
+    Ok(true)
 }
 
-// The list's first part. A proved loop has to end, and nothing says that a file does, so it takes a million calls at most.
-fn replay(m: &mut [u64; 65536]) {
+// The list's first part. A proved loop has to end, and nothing says that a file does, so it takes a million calls at most. No part is inlined: what
+// the parts keep would be too much for one frame.
+#[inline(never)]
+fn replay(list: &mut impl Read, out: &mut impl Write, m: &mut [u64; 65536]) -> io::Result<()> {
     let mut h = [0u32; 1024];
     let mut w = [0f64; 8192];
     let mut n: u64 = 0;
-    while n < 1000000 && read_call(m) {
-        line(m, &mut h, &mut w);
+    while n < 1000000 && read_call(list, m)? {
+        line(out, m, &mut h, &mut w)?;
         n += 1;
     }
+    Ok(())
 }
 
 // solve_profile_blocked on the large workspace: its answer, and a sum over the heading and the result list.
-fn large_solved(m: &[u64; 65536], heading: &[u32], doubles: &[f64]) {
+#[inline(never)]
+fn large_solved(
+    out: &mut impl Write,
+    m: &[u64; 65536],
+    heading: &[u32],
+    doubles: &[f64],
+) -> io::Result<()> {
     let mut v = [0f64; 133350];
-    solved(m, heading, doubles, &mut v);
-    test_words::print_word(large_list::sum_words(heading, &v));
+    solved(out, m, heading, doubles, &mut v)?;
+    test_words::print_word(out, large_list::sum_words(heading, &v))
 }
 
 // A call on the large workspace, and a sum over every number and double.
-fn large_line(m: &[u64; 65536], heading: &mut [u32], doubles: &mut [f64]) {
+fn large_line(
+    out: &mut impl Write,
+    m: &[u64; 65536],
+    heading: &mut [u32],
+    doubles: &mut [f64],
+) -> io::Result<()> {
     if m[0] == 9 {
-        large_solved(m, heading, doubles);
-        return;
+        return large_solved(out, m, heading, doubles);
     }
-    report::print(m, called(m, heading, doubles));
-    test_words::print_word(large_list::sum_words(heading, doubles));
+    report::print(out, m, called(m, heading, doubles))?;
+    test_words::print_word(out, large_list::sum_words(heading, doubles))
 }
 
 // The list's second part, on the large workspace.
-fn large_lines(m: &mut [u64; 65536], heading: &mut [u32], doubles: &mut [f64]) {
+fn large_lines(
+    list: &mut impl Read,
+    out: &mut impl Write,
+    m: &mut [u64; 65536],
+    heading: &mut [u32],
+    doubles: &mut [f64],
+) -> io::Result<()> {
     let mut n: u64 = 0;
-    while n < 1000000 && read_call(m) {
-        large_line(m, heading, doubles);
+    while n < 1000000 && read_call(list, m)? {
+        large_line(out, m, heading, doubles)?;
         n += 1;
     }
+    Ok(())
 }
 
-fn replay_large(m: &mut [u64; 65536]) {
+#[inline(never)]
+fn replay_large(
+    list: &mut impl Read,
+    out: &mut impl Write,
+    m: &mut [u64; 65536],
+) -> io::Result<()> {
     let mut h = [0u32; 33462];
     let mut w = [0f64; 266699];
     large_list::fill_heading(&mut h);
     large_list::fill_doubles(&mut w);
-    large_lines(m, &mut h, &mut w);
+    large_lines(list, out, m, &mut h, &mut w)
 }
 
 // load of the long sheet that the list has next. What is lent is too short for it, so that nothing is loaded.
-fn long_line(m: &[u64; 65536], s: &mut [u8]) {
+fn long_line(
+    list: &mut impl Read,
+    out: &mut impl Write,
+    m: &[u64; 65536],
+    s: &mut [u8],
+) -> io::Result<()> {
     let mut h = [0u32; 130];
     let mut w = [0f64; 60];
-    let n = size(long_sheets::put_sheet(s) as u64, s.len());
-    report::print(m, report::of_answer(load::load(&s[..n], &mut h, &mut w)));
+    let n = size(long_sheets::put_sheet(list, s)? as u64, s.len());
+    report::print(
+        out,
+        m,
+        report::of_answer(load::load(&s[..n], &mut h, &mut w)),
+    )
 }
 
 // The list's third part, in which the word 1 stands before each sheet.
-fn long_lines(m: &[u64; 65536], s: &mut [u8; long_sheets::ROOM]) {
+fn long_lines(
+    list: &mut impl Read,
+    out: &mut impl Write,
+    m: &[u64; 65536],
+    s: &mut [u8; long_sheets::ROOM],
+) -> io::Result<()> {
     let mut n: u64 = 0;
-    while n < 1000000 && test_words::read_word().word == 1 {
-        long_line(m, s);
+    while n < 1000000 && test_words::read_word(list)?.word == 1 {
+        long_line(list, out, m, s)?;
         n += 1;
     }
+    Ok(())
 }
 
-fn replay_long(m: &mut [u64; 65536]) {
+#[inline(never)]
+fn replay_long(list: &mut impl Read, out: &mut impl Write, m: &mut [u64; 65536]) -> io::Result<()> {
     let mut s = [0u8; long_sheets::ROOM];
     m[0] = 8;
-    long_lines(m, &mut s);
+    long_lines(list, out, m, &mut s)
 }
 
-fn main() {
+fn main(rt: HostRuntime) -> io::Result<()> {
+    let mut list = BufReader::new(rt.alloc(), rt.reader())?;
+    let mut out = BufWriter::new(rt.alloc(), io::writer(&rt))?;
     let mut m = [0u64; 65536];
-    replay(&mut m);
-    replay_large(&mut m);
-    replay_long(&mut m);
+    replay(&mut list, &mut out, &mut m)?;
+    replay_large(&mut list, &mut out, &mut m)?;
+    replay_long(&mut list, &mut out, &mut m)?;
+    out.flush()
 }

@@ -2,13 +2,31 @@
 // that it does with the bytes is in the crate factor_text.
 #![tactic(auto)]
 
-use libc::{STDIN_FILENO, STDOUT_FILENO};
+ghost use Rattle.std.specs.Prelude.{◌≤◌, length, IfOk};
 
-// It reads one byte more than it holds, so that an input beyond that is seen.
-fn main() {
+use std::io;
+use std::io::{Read, Write};
+
+// Reads until the input is full or nothing more comes, and says how many bytes it read.
+fn read_full(source: &mut impl Read, input: &mut [u8]) -> io::Result<usize>
+    ensures { IfOk result (λ n. n ≤ length input.old) }
+{
+    let mut n = 0;
+    while n < input.len() {
+        let more = source.read(&mut input[n..])?;
+        if more == 0 {
+            return Ok(n);
+        }
+        n += more;
+    }
+    Ok(n)
+}
+
+// It reads one byte more than an input may have, so that one beyond that is seen.
+fn main(rt: HostRuntime) -> io::Result<()> {
     let mut input = [0u8; 32769];
     let mut out = [0u8; 131072];
-    let n = io::read_full(STDIN_FILENO, &mut input);
+    let n = read_full(&mut rt.reader(), &mut input)?;
     let m = factor_text::factor(&input[..n], &mut out);
-    io::write_all(STDOUT_FILENO, &out[..m]);
+    io::writer(&rt).write_all(&out[..m])
 }

@@ -19,7 +19,8 @@ ghost use Rattle.kernel_tests.specs.Cases.{Small};
 use answer::OUT_OF_FORM;
 use case::Case;
 use float_bits::words;
-use libc::STDOUT_FILENO;
+use std::io;
+use std::io::{BufReader, BufWriter, Read, Write};
 
 // How many words a case has before its lists, and how many doubles, row numbers and words these have at most.
 const HEAD: usize = 19;
@@ -31,12 +32,13 @@ const ROWS: usize = 1024;
 const WORDS: usize = 2 * DOUBLES + ROWS;
 
 // The next case's words, and whether there was one.
-fn read_case(m: &mut [u64; 65536]) -> bool {
-    let first = test_words::read_word();
+fn read_case(list: &mut impl Read, m: &mut [u64; 65536]) -> io::Result<bool> {
+    let first = test_words::read_word(list)?;
     m[0] = first.word;
-    test_words::read_words(m, 1, HEAD);
-    test_words::read_words(m, HEAD, HEAD + size_at(m, 18, WORDS));
-    first.more
+    test_words::read_words(list, m, 1, HEAD)?;
+    let end = HEAD + size_at(m, 18, WORDS);
+    test_words::read_words(list, m, HEAD, end)?;
+    Ok(first.more)
 }
 
 // The word at i as a size, and `most` where it is larger.
@@ -92,18 +94,22 @@ fn rows(m: &[u64; 65536], from: usize) -> [u32; 1024]
 }
 
 // A line with the case's number, the kernel's, and the answer.
-fn print_answer(m: &[u64; 65536], answer: u64) {
-    test_words::print_number(m[0]);
-    test_words::print_number(m[1]);
+fn print_answer(out: &mut impl Write, m: &[u64; 65536], answer: u64) -> io::Result<()> {
+    test_words::print_number(out, m[0])?;
+    test_words::print_number(out, m[1])?;
     if answer == OUT_OF_FORM {
-        io::write_all(STDOUT_FILENO, b" out of form\n");
-        return;
+        return writeln!(out, " out of form");
     }
-    test_words::print_word(answer);
+    test_words::print_word(out, answer)
 }
 
 // The first n of the doubles, but those that the kernel may leave as it likes.
-fn print_list(m: &[u64; 65536], doubles: &[f64; 8704], n: usize)
+fn print_list(
+    out: &mut impl Write,
+    m: &[u64; 65536],
+    doubles: &[f64; 8704],
+    n: usize,
+) -> io::Result<()>
     requires { n ≤ 8704 }
 {
     let free = size_at(m, 13, DOUBLES);
@@ -111,10 +117,11 @@ fn print_list(m: &[u64; 65536], doubles: &[f64; 8704], n: usize)
     let mut i: usize = 0;
     while i < n {
         if (i < free) | (i >= end) {
-            test_words::print_word(words::word_of(doubles[i]));
+            test_words::print_word(out, words::word_of(doubles[i]))?;
         }
         i += 1;
     }
+    Ok(())
 }
 
 // What the case's kernel answers on `doubles`, which begins with what it is lent, and on lists v and h of the case's own lengths.
@@ -129,21 +136,24 @@ fn answered(m: &[u64; 65536], doubles: &mut [f64], from: usize) -> u64
     numbered::run(case_of(m), doubles, &v[a..n], &h[..r])
 }
 
-fn run_case(m: &[u64; 65536]) {
+fn run_case(out: &mut impl Write, m: &[u64; 65536]) -> io::Result<()> {
     let n = size_at(m, 15, DOUBLES);
     let a = size_at(m, 11, n);
     let mut w = doubles_of(m, HEAD);
     let answer = answered(m, &mut w[a..n], HEAD + n);
-    print_answer(m, answer);
-    print_list(m, &w, n);
+    print_answer(out, m, answer)?;
+    print_list(out, m, &w, n)
 }
 
 // A proved loop has to end, and nothing says that a list does, so it takes a million cases at most.
-fn main() {
+fn main(rt: HostRuntime) -> io::Result<()> {
+    let mut list = BufReader::new(rt.alloc(), rt.reader())?;
+    let mut out = BufWriter::new(rt.alloc(), io::writer(&rt))?;
     let mut m = [0u64; 65536];
     let mut left: u64 = 1000000;
-    while left > 0 && read_case(&mut m) {
-        run_case(&m);
+    while left > 0 && read_case(&mut list, &mut m)? {
+        run_case(&mut out, &m)?;
         left -= 1;
     }
+    out.flush()
 }

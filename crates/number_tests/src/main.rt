@@ -5,7 +5,8 @@
 mod agreement;
 
 use float_bits::words;
-use libc::STDOUT_FILENO;
+use std::io;
+use std::io::{BufReader, BufWriter, Read, Write};
 use test_words::print_number;
 
 // The groups of the square root, then those of the logarithm.
@@ -20,56 +21,62 @@ fn result(group: u64, x: f64) -> f64 {
 }
 
 // A line: the vector's first three words and the result's word.
-fn print_vector(m: &[u64; 65536], r: f64) {
-    io::print_decimal(STDOUT_FILENO, m[0]);
-    print_number(m[1]);
-    print_number(m[2]);
-    test_words::print_word(words::word_of(r));
+fn print_vector(out: &mut impl Write, m: &[u64; 65536], r: f64) -> io::Result<()> {
+    let group = m[0];
+    write!(out, "{group}")?;
+    print_number(out, m[1])?;
+    print_number(out, m[2])?;
+    test_words::print_word(out, words::word_of(r))
 }
 
 // Holds the vector in the first four words of m; from 4 on, those of each group that agree are counted.
-fn hold(m: &mut [u64; 65536]) {
+fn hold(out: &mut impl Write, m: &mut [u64; 65536]) -> io::Result<()> {
     let r = result(m[0], words::double(m[1]));
     let at = 4 + test_words::size(m[0], GROUPS);
     if agreement::agrees(m[2], m[3], r) {
         m[at] = m[at] % 0x100000000 + 1;
     } else {
-        print_vector(m, r);
+        print_vector(out, m, r)?;
     }
+    Ok(())
 }
 
 // The next vector, into the first four words. Whether there is one.
-fn read_vector(m: &mut [u64; 65536]) -> bool {
-    let first = test_words::read_word();
+fn read_vector(list: &mut impl Read, m: &mut [u64; 65536]) -> io::Result<bool> {
+    let first = test_words::read_word(list)?;
     m[0] = first.word;
     if first.more {
-        test_words::read_words(m, 1, 4);
+        test_words::read_words(list, m, 1, 4)?;
     }
-    first.more
+    Ok(first.more)
 }
 
 // A line: a group's number and how many of its vectors agree.
-fn print_group(g: usize, agreed: u64) {
-    io::print_decimal(STDOUT_FILENO, g as u64);
-    print_number(agreed);
-    io::write_all(STDOUT_FILENO, b"\n");
+fn print_group(out: &mut impl Write, g: usize, agreed: u64) -> io::Result<()> {
+    write!(out, "{g}")?;
+    print_number(out, agreed)?;
+    writeln!(out)
 }
 
-fn print_groups(m: &[u64; 65536]) {
+fn print_groups(out: &mut impl Write, m: &[u64; 65536]) -> io::Result<()> {
     let mut g: usize = 0;
     while g < GROUPS {
-        print_group(g, m[4 + g]);
+        print_group(out, g, m[4 + g])?;
         g += 1;
     }
+    Ok(())
 }
 
 // A proved loop has to end, and nothing says that a file does, so it takes a million vectors at most.
-fn main() {
+fn main(rt: HostRuntime) -> io::Result<()> {
+    let mut list = BufReader::new(rt.alloc(), rt.reader())?;
+    let mut out = BufWriter::new(rt.alloc(), io::writer(&rt))?;
     let mut m = [0u64; 65536];
     let mut n: u64 = 0;
-    while n < 1000000 && read_vector(&mut m) {
-        hold(&mut m);
+    while n < 1000000 && read_vector(&mut list, &mut m)? {
+        hold(&mut out, &mut m)?;
         n += 1;
     }
-    print_groups(&m);
+    print_groups(&mut out, &m)?;
+    out.flush()
 }

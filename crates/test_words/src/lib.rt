@@ -1,11 +1,13 @@
 // Reads the list of words that a test program is given on standard input: lines of sixteen lower-case hexadecimal digits and a line feed, a word
-// each. What the program prints of them is held to its file stdout, which a script made. Nothing is tested here: a list out of form shows in what is
+// each. The program hands its reader and its writer along, so that both may be buffered, and a read or a write that fails ends it with that error.
+// What the program prints of the words is held to its file stdout, which a script made. Nothing is tested here: a list out of form shows in what is
 // printed.
 #![tactic(auto)]
 
 ghost use Rattle.std.specs.Prelude.{◌≤◌};
 
-use libc::{STDIN_FILENO, STDOUT_FILENO};
+use std::io;
+use std::io::{ErrorKind, Read, Write};
 
 // A line's word; more is false behind the last line.
 #[derive(Clone, Copy)]
@@ -31,25 +33,35 @@ fn spelt(line: &[u8; 17]) -> u64 {
     w
 }
 
-// The next line.
-pub fn read_word() -> Word {
+// The next line. Where the list ends before or within it, what is missing counts as bytes 0.
+pub fn read_word(list: &mut impl Read) -> io::Result<Word> {
     let mut line = [0u8; 17];
-    let n = io::read_full(STDIN_FILENO, &mut line);
-    Word {
-        more: n == 17,
+    let more = match list.read_exact(&mut line) {
+        Ok(()) => true,
+        Err(e) if e.kind() == ErrorKind::UnexpectedEof => false,
+        Err(e) => return Err(e),
+    };
+    Ok(Word {
+        more,
         word: spelt(&line),
-    }
+    })
 }
 
 // Fills m from its word `from` to before `end` by lines.
-pub fn read_words(m: &mut [u64; 65536], from: usize, end: usize)
+pub fn read_words(
+    list: &mut impl Read,
+    m: &mut [u64; 65536],
+    from: usize,
+    end: usize,
+) -> io::Result<()>
     requires { end ≤ 65536 }
 {
     let mut i = from;
     while i < end {
-        m[i] = read_word().word;
+        m[i] = read_word(list)?.word;
         i += 1;
     }
+    Ok(())
 }
 
 // A word as a size, and `most` where it is larger.
@@ -63,14 +75,11 @@ pub fn size(x: u64, most: usize) -> usize
 }
 
 // A blank and a number.
-pub fn print_number(x: u64) {
-    io::write_all(STDOUT_FILENO, b" ");
-    io::print_decimal(STDOUT_FILENO, x);
+pub fn print_number(out: &mut impl Write, x: u64) -> io::Result<()> {
+    write!(out, " {x}")
 }
 
 // A blank, a word's digits and a line feed.
-pub fn print_word(x: u64) {
-    io::write_all(STDOUT_FILENO, b" ");
-    io::print_hex(STDOUT_FILENO, x, 16);
-    io::write_all(STDOUT_FILENO, b"\n");
+pub fn print_word(out: &mut impl Write, x: u64) -> io::Result<()> {
+    writeln!(out, " {x:016x}")
 }

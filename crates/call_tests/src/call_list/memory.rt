@@ -2,7 +2,8 @@
 ghost use Rattle.std.specs.Prelude.{◌<◌};
 
 use float_bits::words;
-use libc::STDOUT_FILENO;
+use std::io;
+use std::io::Write;
 
 // The words of a call's head. Its body stands behind it.
 pub const HEAD: usize = 10;
@@ -68,23 +69,30 @@ pub fn alter(m: &[u64; 65536], heading: &mut [u32; 1024], doubles: &mut [f64; 81
 }
 
 // A line for number or double i where it is other than before: its place and its word.
-fn print_change(m: &mut [u64; 65536], i: usize, x: u64)
+fn print_change(out: &mut impl Write, m: &mut [u64; 65536], i: usize, x: u64) -> io::Result<()>
     requires { i < 13312 }
 {
     if m[BEFORE + i] != x {
-        io::print_decimal(STDOUT_FILENO, i as u64);
-        test_words::print_word(x);
+        write!(out, "{i}")?;
+        test_words::print_word(out, x)?;
     }
     m[BEFORE + i] = x;
+    Ok(())
 }
 
 // The lines of numbers and doubles.
-pub fn print_changes(m: &mut [u64; 65536], heading: &[u32; 1024], doubles: &[f64; 8192]) {
+pub fn print_changes(
+    out: &mut impl Write,
+    m: &mut [u64; 65536],
+    heading: &[u32; 1024],
+    doubles: &[f64; 8192],
+) -> io::Result<()> {
     let mut i: usize = 0;
     while i < 9216 {
-        print_change(m, i, word_at(heading, doubles, i));
+        print_change(out, m, i, word_at(heading, doubles, i))?;
         i += 1;
     }
+    Ok(())
 }
 
 // The result list as it was.
@@ -97,12 +105,17 @@ pub fn fill_results(v: &mut [f64], m: &[u64; 65536]) {
 }
 
 // The lines of the result list.
-pub fn print_results(m: &mut [u64; 65536], v: &[f64; 4096]) {
+pub fn print_results(
+    out: &mut impl Write,
+    m: &mut [u64; 65536],
+    v: &[f64; 4096],
+) -> io::Result<()> {
     let mut i: usize = 0;
     while i < 4096 {
-        print_change(m, 9216 + i, words::word_of(v[i]));
+        print_change(out, m, 9216 + i, words::word_of(v[i]))?;
         i += 1;
     }
+    Ok(())
 }
 
 // Word i of the body.

@@ -1,8 +1,9 @@
 // What a call answers, as the program prints it.
 use float_bits::words;
-use libc::STDOUT_FILENO;
 use profile::{Deviance, DevianceAnswer, Solve};
 use refusal::{Answer, Refusal};
+use std::io;
+use std::io::Write;
 
 // How the answer stands: 0 accepted, 1 refused, 2 a value, 3 a refused pivot, which stands as number 26, 4 no scale, 5 a solution.
 #[derive(Clone, Copy)]
@@ -75,18 +76,19 @@ fn of_deviance(d: Deviance) -> Reported {
 }
 
 // A line: the call's number in the list's order of kinds, how the answer stands, number and places, the value's word.
-pub fn print(m: &[u64; 65536], t: Reported) {
+pub fn print(out: &mut impl Write, m: &[u64; 65536], t: Reported) -> io::Result<()> {
     let r = t.refusal;
-    io::print_decimal(STDOUT_FILENO, m[0]);
-    test_words::print_number(t.how);
-    test_words::print_number(r.number);
-    test_words::print_number(r.first);
-    test_words::print_number(r.second);
-    test_words::print_word(words::word_of(t.value));
+    let kind = m[0];
+    write!(out, "{kind}")?;
+    test_words::print_number(out, t.how)?;
+    test_words::print_number(out, r.number)?;
+    test_words::print_number(out, r.first)?;
+    test_words::print_number(out, r.second)?;
+    test_words::print_word(out, words::word_of(t.value))
 }
 
 // What a solve answers: a line with the deviance, and one with sigma2 behind it.
-pub fn print_solve(m: &[u64; 65536], s: Solve) {
+pub fn print_solve(out: &mut impl Write, m: &[u64; 65536], s: Solve) -> io::Result<()> {
     match s {
         Solve::Solved(x) => {
             let t = Reported {
@@ -94,9 +96,9 @@ pub fn print_solve(m: &[u64; 65536], s: Solve) {
                 refusal: none(),
                 value: x.deviance,
             };
-            print(m, t);
-            test_words::print_word(words::word_of(x.sigma2));
+            print(out, m, t)?;
+            test_words::print_word(out, words::word_of(x.sigma2))
         }
-        Solve::Refused(r) => print(m, of_answer(Answer::Refused(r))),
+        Solve::Refused(r) => print(out, m, of_answer(Answer::Refused(r))),
     }
 }

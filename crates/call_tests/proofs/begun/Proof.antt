@@ -1,9 +1,0 @@
-use lib.ListN.{length-take}
-use native.Mathlib.Omega.{arith}
-use borrow.Author.Rules.{rules}
-use Rattle.call_tests.proofs.begun.Statement.{statement}
-use Rattle.call_tests.proofs.begun.Tie as tie
-
-pub begun-spec : {M : Type 1} → statement M
-begun-spec = tie.close (tie.spec (λ c. search rules) (λ c κs. search rules) (λ c. simp length-take (omega arith))
-    (λ c κs. search rules) (λ c κs. search rules) (λ c. search rules) (λ c. search rules) (λ c. search rules))
