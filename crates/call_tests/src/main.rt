@@ -11,7 +11,7 @@ mod long_sheets;
 use call_list::report::Reported;
 use call_list::{memory, report};
 use std::io;
-use std::io::{BufReader, BufWriter, Read, Write};
+use std::io::{Read, Write};
 use test_words::size;
 use update::StepName;
 
@@ -257,11 +257,10 @@ fn replay_long(list: &mut impl Read, out: &mut impl Write, m: &mut [u64; 65536])
 }
 
 fn main(rt: HostRuntime) -> io::Result<()> {
-    let mut list = BufReader::new(rt.alloc(), rt.reader())?;
-    let mut out = BufWriter::new(rt.alloc(), io::writer(&rt))?;
+    let mut list = rt.reader();
+    let mut out = io::writer(&rt);
     let mut m = [0u64; 65536];
     replay(&mut list, &mut out, &mut m)?;
     replay_large(&mut list, &mut out, &mut m)?;
-    replay_long(&mut list, &mut out, &mut m)?;
-    out.flush()
+    replay_long(&mut list, &mut out, &mut m)
 }

@@ -5,7 +5,7 @@
 ghost use Rattle.std.specs.Prelude.{◌≤◌, length, IfOk};
 
 use std::io;
-use std::io::{BufReader, BufWriter, Read, Write};
+use std::io::{Read, Write};
 
 // The word whose highest byte is byte j of a text that has so many words in the list: the next one, or the one before rotated by a byte, so that the
 // last word goes on to the end.
@@ -62,9 +62,8 @@ fn replay(list: &mut impl Read, out: &mut impl Write, s: &mut [u8]) -> io::Resul
 }
 
 fn main(rt: HostRuntime) -> io::Result<()> {
-    let mut list = BufReader::new(rt.alloc(), rt.reader())?;
-    let mut out = BufWriter::new(rt.alloc(), io::writer(&rt))?;
+    let mut list = rt.reader();
+    let mut out = io::writer(&rt);
     let mut s = [0u8; 65536];
-    replay(&mut list, &mut out, &mut s)?;
-    out.flush()
+    replay(&mut list, &mut out, &mut s)
 }

@@ -6,7 +6,7 @@ mod agreement;
 
 use float_bits::words;
 use std::io;
-use std::io::{BufReader, BufWriter, Read, Write};
+use std::io::{Read, Write};
 use test_words::print_number;
 
 // The groups of the square root, then those of the logarithm.
@@ -69,14 +69,13 @@ fn print_groups(out: &mut impl Write, m: &[u64; 65536]) -> io::Result<()> {
 
 // A proved loop has to end, and nothing says that a file does, so it takes a million vectors at most.
 fn main(rt: HostRuntime) -> io::Result<()> {
-    let mut list = BufReader::new(rt.alloc(), rt.reader())?;
-    let mut out = BufWriter::new(rt.alloc(), io::writer(&rt))?;
+    let mut list = rt.reader();
+    let mut out = io::writer(&rt);
     let mut m = [0u64; 65536];
     let mut n: u64 = 0;
     while n < 1000000 && read_vector(&mut list, &mut m)? {
         hold(&mut out, &mut m)?;
         n += 1;
     }
-    print_groups(&mut out, &m)?;
-    out.flush()
+    print_groups(&mut out, &m)
 }

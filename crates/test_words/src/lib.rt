@@ -1,5 +1,5 @@
 // Reads the list of words that a test program is given on standard input: lines of sixteen lower-case hexadecimal digits and a line feed, a word
-// each. The program hands its reader and its writer along, so that both may be buffered, and a read or a write that fails ends it with that error.
+// each. The program hands its reader and its writer along, and a read or a write that fails ends it with that error.
 // What the program prints of the words is held to its file stdout, which a script made. Nothing is tested here: a list out of form shows in what is
 // printed.
 #![tactic(auto)]
