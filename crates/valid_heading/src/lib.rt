@@ -2,4 +2,3 @@
 // some sheet in form that 5 to 11 do not refuse (its length aside), its progress is none or some order of ready steps reaches it, the rows of a sparse pair are
 // block 1's, and both lists are long enough.
 #![tactic(auto)]
-
