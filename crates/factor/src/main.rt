@@ -2,14 +2,15 @@
 // that it does with the bytes is in the crate factor_text.
 #![tactic(auto)]
 
-ghost use Rattle.std.specs.Prelude.{◌≤◌, length, IfOk};
+ghost use Rattle.std.specs.Prelude.{◌≡◌, ◌≤◌, length, IfOk};
 
 use std::io;
 use std::io::{Read, Write};
 
-// Reads until the input is full or nothing more comes, and says how many bytes it read.
+// Reads until the input is full or nothing more comes, and says how many bytes it read. An error is one of a read; the input is as long as it was.
 fn read_full(source: &mut impl Read, input: &mut [u8]) -> io::Result<usize>
-    ensures { IfOk result (λ n. n ≤ length input.old) }
+    ensures within { IfOk result (λ n. n ≤ length input.old) }
+    ensures kept { length input.new ≡ length input.old }
 {
     let mut n = 0;
     while n < input.len() {

@@ -2,7 +2,7 @@
 // tools/factor_list.py made both.
 #![tactic(auto)]
 
-ghost use Rattle.std.specs.Prelude.{◌≤◌, length, IfOk};
+ghost use Rattle.std.specs.Prelude.{◌≡◌, ◌≤◌, length, IfOk};
 
 use std::io;
 use std::io::{Read, Write};
@@ -16,9 +16,11 @@ fn next_word(list: &mut impl Read, x: u64, j: usize, words: u64) -> io::Result<u
     Ok(x % 0x100000000000000 * 256 + x / 0x100000000000000 % 256)
 }
 
-// The next text of the list, to the bytes of s from `from` on: where it ends, how many words it has, and the words. Answers where it ends.
+// The next text of the list, to the bytes of s from `from` on: where it ends, how many words it has, and the words. Answers where it ends. An error is one
+// of a read of the list; s is as long as it was, and holds what was read before.
 fn read_text(list: &mut impl Read, s: &mut [u8], from: usize) -> io::Result<usize>
-    ensures { IfOk result (λ end. end ≤ length s.new) }
+    ensures within { IfOk result (λ end. end ≤ length s.new) }
+    ensures kept { length s.new ≡ length s.old }
 {
     let end = test_words::size(test_words::read_word(list)?.word, s.len());
     let words = test_words::read_word(list)?.word;
