@@ -125,8 +125,13 @@ def main(arguments):
         parts = re.split(r"(`[^`]*`)", text)
         return "".join(turned(p) if p.startswith("`") else turned(p, True) for p in parts)
 
-    # a lemma that gets _lem has today's spelling already, so a second run would turn its definition
-    if not any(WORD.search(t) and any(turns(w) and w in rows for w in WORD.findall(t)) for t in (re.sub(r"--[^\n]*|//[^\n]*", "", open(p, encoding="utf-8").read()) for p in files(root) if "/specs/" in p)):
+    # a lemma that gets _lem may have today's spelling already, so a second run would turn its definition
+    def has_old_names(path):
+        with open(path, encoding="utf-8") as f:
+            code = re.sub(r"(--|//)[^\n]*", "", f.read())
+        return any(turns(word) and word in rows for word in WORD.findall(code))
+
+    if not any(has_old_names(path) for path in files(root) if "/specs/" in path):
         sys.exit("the names are turned already")
     changed = 0
     pages = glob.glob(os.path.join(root, "docs", "*.md")) + [os.path.join(root, "README.md")]

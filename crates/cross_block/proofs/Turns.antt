@@ -11,7 +11,7 @@ use Rattle.storage.specs.Part.{store, part}
 use Rattle.storage.specs.declared.Block.{Block}
 use Rattle.storage.specs.Placed.{block_of, as_columns, as_triangle, as_diagonal, as_entries, read, put}
 use Rattle.storage.proofs.Starts.{start_below, start_le, start_dense, start_single}
-use Rattle.storage.proofs.Cells.{length_tab, get_d_tab, tab_ext, cells_ext, any_default}
+use Rattle.storage.proofs.Cells.{length_tab, get_or_tab, tab_ext, cells_ext, any_default}
 use Rattle.storage.proofs.Places.{place_below}
 use Rattle.storage.proofs.Blocks.{is_fill, cell_part}
 use Rattle.rules.specs.Arithmetic.{ieee}
@@ -33,7 +33,7 @@ pub as_block : (n src : ℕ) (a : List Float) (h : Float → Float) (s : Shape) 
 as_block n src a h s e =
     let g : ℕ → Float = λ i. h (get_or a (src + i) ieee.zero) in
     is_fill ieee.zero s (λ r c. h (block src s a r c)) (tab n g) (omega (arith, length_tab n g))
-    (λ r c k. get_d_tab n g (place_of s r c) ieee.zero (omega (arith, place_below s r c k)) ∙ ap h (sym (cell_part ieee.zero s src a r c k)))
+    (λ r c k. get_or_tab n g (place_of s r c) ieee.zero (omega (arith, place_below s r c k)) ∙ ap h (sym (cell_part ieee.zero s src a r c k)))
 
 pub as_shape : (off n src : ℕ) (w₀ : List Float) (h : Float → Float) → src + n ≤ length w₀ → (w : List Float) → w ≡ run off n (λ i. h (at w₀ (src + i))) w₀
     → EachShape n (λ s. w ≡ store off (fill s (λ r c. h (block src s w₀ r c))) w₀)

@@ -8,7 +8,7 @@ use lib.ListN.{length, set}
 use lib.Ieee.{Float, nan}
 use Rattle.storage.specs.Runs.{tab}
 use Rattle.storage.proofs.Cells.{length_tab, any_default}
-use Rattle.storage.proofs.Parts.{get_d_part, store_else}
+use Rattle.storage.proofs.Parts.{get_or_part, store_else}
 use Rattle.storage.proofs.Filling.{Filling, filling_apart, filling_next}
 use Rattle.rules.specs.Arithmetic.{ieee}
 use Rattle.rules.specs.Solves.{sparse_matvec_t_sub}
@@ -19,7 +19,7 @@ use Rattle.cross_matvec.specs.Products.{Sides}
 
 -- a double read at its place is the vector's entry
 pub read_entry : (off n : ℕ) (w : List Float) (i : ℕ) → i < n → off + n ≤ length w → at w (off + i) ≡ entry off n w i
-read_entry off n w i h fits = any_default w (off + i) nan ieee.zero (omega arith) ∙ sym (get_d_part off n w i ieee.zero h)
+read_entry off n w i h fits = any_default w (off + i) nan ieee.zero (omega arith) ∙ sym (get_or_part off n w i ieee.zero h)
 
 -- a double before or behind a run that is written
 pub run_else : (to n : ℕ) (g : ℕ → Float) (w : List Float) → to + n ≤ length w → (k : ℕ) → (k < to) ⊎ (to + n ≤ k) → at (run to n g w) k ≡ at w k

@@ -29,7 +29,7 @@ holds sheet h w v here s calls =
       never_20 = λ c. call_other u.heading u.doubles (valid_heading_of sheet h w here b u t) c;
       agrees = agrees sheet h w here b u t;
       rust_answers = λ d e. rust_answers sheet h w here b u t d e;
-      under_way_lem = λ d e. under_way_lem sheet h w here b u t d e;
+      while_under_way = λ d e. under_way_lem sheet h w here b u t d e;
       divisors = divisors sheet h w here b u t;
       finished = finished sheet h w here b u t;
     }

@@ -88,7 +88,7 @@ module _ (sheet : Sheet) (h : List ℕ) (w : List Float) (here : Site sheet h w)
           factor =
               λ i j m n. finished_factor sheet h w loaded theta d v s left i j m n
               ∙ sym (rust_factor sheet h w here loaded theta many g.theta_many g.theta_finite not_refused i j m n);
-          log_determinant_lem =
+          determinant =
               ap (ieee.times ieee.two)
               (finished_sum sheet h w loaded theta d v s left ∙ sym (rust_sum sheet h w here loaded theta many g.theta_many g.theta_finite not_refused));
           scale =

@@ -38,7 +38,7 @@ use Rattle.update.specs.Working.{logged}
 use Rattle.update.specs.Calls.{advanced, step_of, stepped, made_by, sum_by, refused_by, on_pivot}
 use Rattle.book.specs.Book.{Book, book, layout, last, rust, in_step, book_state, with_done}
 use Rattle.book.specs.Values.{rules_here, start_here, refused_pivot}
-use Rattle.demand3.specs.Demand.{ReadyBy, TakesLogs, in_block_lem, in_sum, Writes, AcceptedOr26, accepts, refuses, UnderWayClaim}
+use Rattle.demand3.specs.Demand.{ReadyBy, TakesLogs, in_own_block, in_sum, Writes, AcceptedOr26, accepts, refuses, UnderWayClaim}
 use Rattle.update.proofs.progress_laws.Kept.{numbers_many}
 use Rattle.update.proofs.progress_laws.Moves.{length_advanced}
 use Rattle.demand3.proofs.frame.Step.{with_block, with_length, with_own, with_sum, with_elsewhere}
@@ -136,7 +136,7 @@ module _ (sheet : Sheet) (h : List ℕ) (w : List Float) (here : Site sheet h w)
             (λ e. ap (λ (m : ℕ). get_or u m ieee.zero) e ∙ sums
             ∙ keeps_sum v.heading v.doubles s named_here (λ t. other (in_sum t e))
             ∙ ap (λ (m : ℕ). get_or v.doubles m ieee.zero) (sym e))
-            (λ e. with_elsewhere y v.doubles room (row s) (col s) inside.0 inside.1 made size sum i (λ l m. other (in_block_lem l m)) e);
+            (λ e. with_elsewhere y v.doubles room (row s) (col s) inside.0 inside.1 made size sum i (λ l m. other (in_own_block l m)) e);
         before_progress = take_store progress_at (progress_numbers g) v.heading (long g);
         behind_progress = drop_store progress_at (progress_numbers g) v.heading (long g) progress_end (omega (arith, numbers_many g));
         progress =

@@ -163,7 +163,7 @@ module _ (sheet : Sheet) (loaded theta : List Float) where
   result : (d : Option (Step → Bool)) (v : Workspace) → Ended v → SameResult sheet (book loaded theta d) v
   result d v e =
       let s = same v (rust sheet loaded theta).left e (ours_ended v e) in
-      record { answered = answer_is v e; solved = solve_is v e; deviance = same_deviance s; solution = same_solution s; no_scale_lem = scale_is v e; fixed_pivots = pivot_is v e }
+      record { answered = answer_is v e; solved = solve_is v e; deviance = same_deviance s; solution = same_solution s; no_scale_exactly = scale_is v e; fixed_pivots = pivot_is v e }
 
 -- a finished page has a set, and no step left
 finished_result : (sheet : Sheet) (h : List ℕ) (w : List Float) → Site sheet h w → (loaded theta : List Float) (o : Option (Step → Bool)) (v : Workspace)

@@ -37,7 +37,7 @@ TakesLogs k (T i j) = ⊥
 
 -- the places of a step's own block, and of the logarithms' sum where it takes logarithms
 pub data Own (v : Workspace) (s : Step) (i : ℕ) : Type 0 where
-  in_block_lem :
+  in_own_block :
       working_at (layout_of v.heading) (row s) (col s) ≤ i
       → i < working_at (layout_of v.heading) (row s) (col s) + sizes (layout_of v.heading) (row s) (col s) → Own v s i
   in_sum : TakesLogs (layout_of v.heading).k s → i ≡ sum_at (layout_of v.heading) → Own v s i
@@ -105,7 +105,7 @@ module _ (sheet : Sheet) where
     pub factor :
         (i j : ℕ) → j ≤ i → i ≤ last sheet
         → working_block v.heading v.doubles i j ≡ working_block (rust sheet b.loaded b.theta).left.heading (rust sheet b.loaded b.theta).left.doubles i j
-    pub log_determinant_lem :
+    pub determinant :
         log_determinant v.heading v.doubles ≡ log_determinant (rust sheet b.loaded b.theta).left.heading (rust sheet b.loaded b.theta).left.doubles
     -- Record 6: on a factor made by the steps r2 is above 0 or NaN
     pub scale : ieee.refused (ieee.times (residual_pivot v) (residual_pivot v)) ≡ false
@@ -124,7 +124,7 @@ module _ (sheet : Sheet) where
     pub rust_answers :
         (d : Step → Bool) → (book_after sheet calls (opened sheet)).done ≡ some d
         → AcceptedOr26 (last sheet) (rust sheet (book_after sheet calls (opened sheet)).loaded (book_after sheet calls (opened sheet)).theta).answer
-    pub under_way_lem :
+    pub while_under_way :
         (d : Step → Bool) → (book_after sheet calls (opened sheet)).done ≡ some d → book_state sheet (some d) ≡ UnderWay
         → UnderWayClaim (book_after sheet calls (opened sheet)) (left_by calls v) d
     -- no divisor is 0: the pivots of a factor whose C is done ("The zero-divisor errors in steps and solves cannot occur")

@@ -34,7 +34,7 @@ module _ (sheet : Sheet) where
     -- `solve_profile_blocked`, ML and REML, into any result list: the answer, 13 and 27 among them, and every number of the list
     pub solution : (reml : Bool) (out : List Float) → solve_of v.heading v.doubles reml out ≡ solve_of (ours b).heading (ours b).doubles reml out
     -- "On a factor made by the steps r2 is above 0 or NaN, so there only d ≤ 0 brings "no scale"": it comes exactly then
-    pub no_scale_lem : (reml : Bool) → (deviance_from_factor v.heading v.doubles reml ≡ Given NoScale) ↔ (ieee.refused (freedom (layout sheet) reml) ≡ true)
+    pub no_scale_exactly : (reml : Bool) → (deviance_from_factor v.heading v.doubles reml ≡ Given NoScale) ↔ (ieee.refused (freedom (layout sheet) reml) ≡ true)
     -- no pivot whose logarithm REML adds is at most 0
     pub fixed_pivots : (r : ℕ) → r < (layout sheet).p → ieee.refused (last_block_pivot v.heading v.doubles true r) ≡ false
 

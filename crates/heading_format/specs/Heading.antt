@@ -124,9 +124,9 @@ forerunners_done g [] = true
 forerunners_done g (s ∷ l) = (not (done g s) || all (done g) (forerunners s)) && forerunners_done g l
 
 abbrev pub valid_state : State → ℕ → ℕ → Bool
-valid_state Idle left every-step = eqb left every-step
-valid_state UnderWay left every-step = ltb 0 left
-valid_state Finished left every-step = eqb left 0
+valid_state Idle left every_step = eqb left every_step
+valid_state UnderWay left every_step = ltb 0 left
+valid_state Finished left every_step = eqb left 0
 
 unfoldable pub valid_progress : ℕ → Progress → Bool
 unfolding every rust_order

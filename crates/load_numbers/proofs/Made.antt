@@ -12,7 +12,7 @@ use lib.Seq.{ext_get_or, set_out}
 use borrow.Author.Tests.{eqb-true, eq-eqb}
 use Rattle.storage.specs.Runs.{tab}
 use Rattle.storage.specs.Part.{store}
-use Rattle.storage.proofs.Cells.{length_tab, get_d_tab}
+use Rattle.storage.proofs.Cells.{length_tab, get_or_tab}
 use Rattle.storage.proofs.Parts.{length_store, store_nil, store_in, store_before, store_behind}
 use Rattle.sheet.specs.declared.Line.{Line}
 use Rattle.sheet.specs.declared.Starts.{Starts}
@@ -99,7 +99,7 @@ module _ (s : List ℕ) (sheet : Sheet) (z : Starts) (y : Layout) (k : Known she
   row_value c b =
       let P : ℕ = heading_length + c in
       let test : Entry → Bool = of_column y 1 0 c in
-      let one = k.one_each_lem thin c b in
+      let one = k.each_once thin c b in
       entry_put (row_place y) (λ c r v. r - row_start y 1) (pair_line zz_tag s) P 0 (of_column y 1 0 c) (get_or w P 0) (length sheet.zz) 0 (sheet.counts.k + 2) z.zz w
       (subst (Only (of_column y 1 0 c)) h.placed.zz (count_only (of_column y 1 0 c) sheet.zz (omega arith)))
       (anything (λ e. (row_place y e.col e.row ≡ P → of_column y 1 0 c e ≡ true) × (of_column y 1 0 c e ≡ true → row_place y e.col e.row ≡ P))
@@ -138,7 +138,7 @@ module _ (s : List ℕ) (sheet : Sheet) (z : Starts) (y : Layout) (k : Known she
       (λ m. let x : ℕ = P - heading_length in
       let e : P ≡ heading_length + x = omega arith in
       ap (λ (i : ℕ). get_or rowed i 0) e ∙ row_value x (omega arith)
-      ∙ sym (ap (λ (i : ℕ). get_or (store heading_length t w) i 0) e ∙ store_in heading_length t w rows_fit 0 x (omega (arith, length_tab (levels y 0) (entry_row_in sheet y))) ∙ get_d_tab (levels y 0) (entry_row_in sheet y) x 0 (omega arith)))
+      ∙ sym (ap (λ (i : ℕ). get_or (store heading_length t w) i 0) e ∙ store_in heading_length t w rows_fit 0 x (omega (arith, length_tab (levels y 0) (entry_row_in sheet y))) ∙ get_or_tab (levels y 0) (entry_row_in sheet y) x 0 (omega arith)))
       (λ m. row_missed P c (λ x g e. omega arith) ∙ sym (store_behind heading_length t w rows_fit 0 P (omega (arith, length_tab (levels y 0) (entry_row_in sheet y)))))))
     where
       t : List ℕ

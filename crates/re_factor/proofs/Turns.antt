@@ -15,7 +15,7 @@ use Rattle.storage.specs.Placed.{Placed, as_diagonal, Lies, Apart, read}
 use Rattle.storage.proofs.Starts.{start_below, start_single}
 use Rattle.storage.proofs.Cells.{length_cells, tab_ext, any_default}
 use Rattle.storage.proofs.Places.{lies}
-use Rattle.storage.proofs.Parts.{get_d_part, store_more}
+use Rattle.storage.proofs.Parts.{get_or_part, store_more}
 use Rattle.storage.proofs.Filling.{Filling, filling_next}
 use Rattle.rules.specs.Arithmetic.{ieee}
 use Rattle.rules.specs.Begin.{diagonal_cell}
@@ -91,4 +91,4 @@ pub divide_turn : {z : ℕ} {v₀ v : List Float} {i : ℕ} (b : Block) (w : Lis
     → Filling (quotient z b w v₀) z b.rows v₀ (set v (z + i) (div binary64 (get_or v (z + i) nan) (get_or w (b.at + i) nan))) (i + 1)
 divide_turn {z} {v₀} {v} {i} b w from so more =
     filling_next so (λ (x : Float). div binary64 x (get_or w (b.at + i) nan)) nan refl more
-    (ap₂ ieee.over (any_default v₀ (z + i) nan ieee.zero (omega arith) ∙ sym (get_d_part z b.rows v₀ i ieee.zero more)) (read_pivot b w i more from))
+    (ap₂ ieee.over (any_default v₀ (z + i) nan ieee.zero (omega arith) ∙ sym (get_or_part z b.rows v₀ i ieee.zero more)) (read_pivot b w i more from))

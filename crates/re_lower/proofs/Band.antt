@@ -11,7 +11,7 @@ use lib.Ieee.{Float, nan, sub, mul, div, binary64}
 use Rattle.storage.specs.Runs.{start, triangle, tab, cells}
 use Rattle.storage.specs.Part.{store}
 use Rattle.storage.proofs.Starts.{start_below, start_le}
-use Rattle.storage.proofs.Cells.{length_tab, get_d_tab, take_tab, length_cells, get_d_cells, any_default}
+use Rattle.storage.proofs.Cells.{length_tab, get_or_tab, take_tab, length_cells, get_or_cells, any_default}
 use Rattle.storage.proofs.Parts.{store_before, store_in, store_behind, store_one}
 use Rattle.rules.specs.Arithmetic.{ieee}
 use Rattle.rules.specs.Sums.{chain, subtract_from}
@@ -101,7 +101,7 @@ module _ (x₀ l x : List Float) (from c : ℕ) (e : from ≡ start triangle c) 
       (λ m. let q : y ≡ c = omega arith in
       rw q
       (store_in (4 * c) (tab 4 (next_cell x l from c)) x (omega (arith, four)) ieee.zero i (omega (arith, four))
-      ∙ get_d_tab 4 (next_cell x l from c) i ieee.zero h ∙ new i h
+      ∙ get_or_tab 4 (next_cell x l from c) i ieee.zero h ∙ new i h
       ∙ sym (get_or_at (row i) (cell_of i) [] ieee.zero c (length_forward ieee (lane x₀ i) (lower l) c))))
 
 -- ---- rows that go to a band
@@ -166,7 +166,7 @@ module _ (w : List Float) (n : ℕ) (fits : start triangle n ≤ length w) (t : 
       ∙ first_behind w made room ieee.zero (start triangle p + x) (omega (arith, tall, start_le triangle r p k)))
       (λ x y l m. ap (λ (v : List Float). at ieee v (start triangle x + y)) q
       ∙ first_in w made room ieee.zero (start triangle x + y) (omega (arith, tall, start_below triangle x r (omega arith)))
-      ∙ get_d_cells triangle r (factor ieee (lower w) r) x y ieee.zero (omega arith) (omega arith)
+      ∙ get_or_cells triangle r (factor ieee (lower w) r) x y ieee.zero (omega arith) (omega arith)
       ∙ ap (λ (v : List Float). at ieee v y) (rows_stay ieee (lower w) x base r l h))
 
   -- the next band, gathered and solved

@@ -10,7 +10,7 @@ use native.Mathlib.Omega.{arith}
 use lib.ListN.{length, length-append}
 use lib.Seq.{ext_get_or}
 use Rattle.storage.specs.Runs.{triangle, tab, cells}
-use Rattle.storage.proofs.Cells.{length_tab, get_d_tab, tab_ext, cells_ext}
+use Rattle.storage.proofs.Cells.{length_tab, get_or_tab, tab_ext, cells_ext}
 use Rattle.rules.specs.Arithmetic.{Arithmetic}
 use Rattle.rules.specs.Cholesky.{at, forward, left_of_pivot, row_of, factor, next, first_bad, pivots}
 use Rattle.rules.proofs.Rows.{chain_ext, length_forward, row_stays, row_made}
@@ -41,7 +41,7 @@ module _ (A : Arithmetic) where
         (cells_ext triangle r (factor A b (suc r)) (factor A b r) (λ j i p q. ap (λ (z : List A.Num). at A z i) (row_stays A b j r p)))
         (tab_ext (suc r) (factor A b (suc r) r) (at A m) (λ i l. ap (λ (z : List A.Num). at A z i) (row_made A b r))
         ∙ ext_get_or A.zero (tab (suc r) (at A m)) m (length_tab (suc r) (at A m) ∙ sym (length_row (factor A b r) r))
-        (λ i l. get_d_tab (suc r) (at A m) i A.zero (omega (arith, length_tab (suc r) (at A m)))))
+        (λ i l. get_or_tab (suc r) (at A m) i A.zero (omega (arith, length_tab (suc r) (at A m)))))
 
   -- ---- which pivot is refused
   module _ (g : ℕ → A.Num) where

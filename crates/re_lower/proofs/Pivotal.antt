@@ -10,7 +10,7 @@ use Rattle.square_root.specs.Root.{sqrt_of}
 use Rattle.storage.specs.Runs.{start, triangle, single, tab, cells}
 use Rattle.storage.specs.Part.{store}
 use Rattle.storage.proofs.Starts.{start_below, start_single}
-use Rattle.storage.proofs.Cells.{length_cells, get_d_cells, length_tab, get_d_tab}
+use Rattle.storage.proofs.Cells.{length_cells, get_or_cells, length_tab, get_or_tab}
 use Rattle.storage.proofs.Blocks.{fill_packed, fill_diagonal}
 use Rattle.rules.specs.Arithmetic.{ieee}
 use Rattle.rules.specs.Cholesky.{at, left_of_pivot, factor, radicand, pivots}
@@ -31,7 +31,7 @@ triangle_pivots t t' n fits' doubles c r h =
     let e : lower t' r r ≡ sqrt_of (radicand ieee (lower t) r) =
     ap (λ (y : List Float). at ieee y (start triangle r + r)) (c.left ∙ ap (λ (y : List Float). store 0 y t) (fill_packed n (factor ieee (lower t) n)))
     ∙ first_in t l (omega arith) ieee.zero (start triangle r + r) (omega (arith, start_below triangle r n h))
-    ∙ get_d_cells triangle n (factor ieee (lower t) n) r r ieee.zero h (omega arith)
+    ∙ get_or_cells triangle n (factor ieee (lower t) n) r r ieee.zero h (omega arith)
     ∙ pivot_root ieee (lower t) r n h in
     subst AboveOrNaN (sym e)
     (root_of_accepted (radicand ieee (lower t) r)
@@ -49,7 +49,7 @@ diagonal_pivots t t' n fits' doubles c r h =
     let e : pivot t' r ≡ sqrt_of (pivot t r) =
     ap₂ (at ieee) (c.left ∙ ap (λ (y : List Float). store 0 y t) (fill_diagonal n (λ q x. sqrt_of (pivot t q)))) j
     ∙ first_in t l (omega arith) ieee.zero r (omega arith)
-    ∙ get_d_tab n (λ q. sqrt_of (pivot t q)) r ieee.zero h in
+    ∙ get_or_tab n (λ q. sqrt_of (pivot t q)) r ieee.zero h in
     subst AboveOrNaN (sym e)
     (root_of_accepted (pivot t r) (doubles r h) (accepted_at ieee (pivot t) r n h (accepted_none (pivots ieee (pivot t) n) c.answer)))
 

@@ -12,7 +12,7 @@ use Rattle.logarithm.specs.Ln.{ln_of}
 use Rattle.storage.specs.Runs.{start, triangle, single, tab, cells}
 use Rattle.storage.specs.Part.{store}
 use Rattle.storage.proofs.Starts.{start_below, start_single}
-use Rattle.storage.proofs.Cells.{length_tab, length_cells, get_d_cells, any_default}
+use Rattle.storage.proofs.Cells.{length_tab, length_cells, get_or_cells, any_default}
 use Rattle.storage.proofs.Parts.{store_before, store_in, store_behind, store_one, store_more}
 use Rattle.rules.specs.Arithmetic.{ieee}
 use Rattle.rules.specs.Sums.{chain, subtract_from, logs_from}
@@ -97,7 +97,7 @@ module _ (w₀ : List Float) (n : ℕ) (fits : start triangle n ≤ length w₀)
       ∙ first_behind w₀ made (omega (arith, tall, room)) ieee.zero (start triangle r + x) (omega (arith, tall)))
       (λ x y l m. ap (λ (v : List Float). at ieee v (start triangle x + y)) q
       ∙ first_in w₀ made (omega (arith, tall, room)) ieee.zero (start triangle x + y) (omega (arith, tall, start_below triangle x r l))
-      ∙ get_d_cells triangle r (factor ieee (lower w₀) r) x y ieee.zero l (omega arith))
+      ∙ get_or_cells triangle r (factor ieee (lower w₀) r) x y ieee.zero l (omega arith))
 
   -- the row is solved behind those above it
   pub row_done : t' ≡ store 0 (made ++ side) w₀

@@ -17,7 +17,7 @@ use Rattle.sheet.specs.Line.{zz_tag, pair_line}
 use Rattle.sheet.specs.Run.{Entry, entry_in, kept_from}
 use Rattle.sheet.specs.Sheet.{Sheet, accepted, read_sheet}
 use Rattle.sheet.specs.Whole.{Each}
-use Rattle.sheet.specs.Fault.{any_of, block_of_row, Mirror, Fault, zero_word_lem, inside_block, no_mirror, Faulty, is_mirror, is_inside, is_fault, any_faulty, has_slope, covers_rows, fault_number, named_line, first_line, faulty_line, FirstFaulty}
+use Rattle.sheet.specs.Fault.{any_of, block_of_row, Mirror, Fault, word_is_zero, inside_block, no_mirror, Faulty, is_mirror, is_inside, is_fault, any_faulty, has_slope, covers_rows, fault_number, named_line, first_line, faulty_line, FirstFaulty}
 use Rattle.sheet.proofs.Lines.{both}
 use Rattle.sheet.proofs.Whole.{read_whole}
 
@@ -64,7 +64,7 @@ module _ (sheet : Sheet) (e : Entry) where
     where
       go : (z b d m : Bool) → is_zero e.word ≡ z → eqb (block_of_row sheet.blocks e.col) (block_of_row sheet.blocks e.row) ≡ b → eqb e.col e.row ≡ d
           → any_of (is_mirror e) sheet.zz ≡ m → (z || (b && not d) || not m) ≡ true → Fault sheet e
-      go true b d m zz bb dd mm g = zero_word_lem zz
+      go true b d m zz bb dd mm g = word_is_zero zz
       go false true false m zz bb dd mm g = inside_block (eqb-true _ _ bb) (eqb-false _ _ dd)
       go false true true false zz bb dd mm g = no_mirror (λ x n r. false≢true (sym mm ∙ found_any (is_mirror e) x sheet.zz n (true_mirror e x r)))
       go false true true true zz bb dd mm g = absurd (false≢true g)
@@ -72,7 +72,7 @@ module _ (sheet : Sheet) (e : Entry) where
       go false false d true zz bb dd mm g = absurd (false≢true g)
 
   pub true_fault : Fault sheet e → is_fault sheet e ≡ true
-  true_fault (zero_word_lem z) = or_left _ _ (or_left _ _ z)
+  true_fault (word_is_zero z) = or_left _ _ (or_left _ _ z)
   true_fault (inside_block b d) = or_left _ _ (or_right (is_zero e.word) _ (simp (eq-eqb _ _ b, ne_eqb _ _ d)))
   true_fault (no_mirror m) = or_right (is_zero e.word || is_inside sheet e) (not (any_of (is_mirror e) sheet.zz)) (go (any_of (is_mirror e) sheet.zz) refl)
     where

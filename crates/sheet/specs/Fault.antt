@@ -34,7 +34,7 @@ pub record Mirror (e m : Entry) : Type 0 where
 
 -- the three faults of an entry: its word is +0 or -0; it is off the diagonal, inside a block; it has no mirror
 pub data Fault (sheet : Sheet) (e : Entry) : Type 0 where
-  zero_word_lem : is_zero e.word ≡ true → Fault sheet e
+  word_is_zero : is_zero e.word ≡ true → Fault sheet e
   inside_block : block_of_row sheet.blocks e.col ≡ block_of_row sheet.blocks e.row → (e.col ≡ e.row → ⊥) → Fault sheet e
   no_mirror : ((m : Entry) → Memᴰ m sheet.zz → Mirror e m → ⊥) → Fault sheet e
 

@@ -26,7 +26,7 @@ cap = 10000000000
 abbrev pub on_digit : Bool → Bool → Field → Field → Field
 on_digit true true more done = unfound
 on_digit true false more done = more
-on_digit false lone-zero more done = done
+on_digit false lone_zero more done = done
 
 -- the digits up to the byte `end`: v so far, and `at` the position of the list's first byte
 unfoldable pub digits_from : ℕ → ℕ → ℕ → List ℕ → Field

@@ -12,7 +12,7 @@ use lib.Seq.{take_all, take-add, drop-drop, get_or-set_same, get_or-set_other}
 use lib.Ieee.{Float}
 use Rattle.storage.specs.Runs.{tab}
 use Rattle.storage.specs.Part.{part, store}
-use Rattle.storage.proofs.Cells.{length_tab, get_d_tab, tab_ext, take_tab}
+use Rattle.storage.proofs.Cells.{length_tab, get_or_tab, tab_ext, take_tab}
 use Rattle.storage.proofs.Parts.{length_part, length_store, part_in, part_same, part_else, store_in, store_part, store_inside}
 use Rattle.storage.proofs.Filling.{Filling, filling_none, filling_else, array_more, array_done}
 use Rattle.layout.specs.declared.Layout.{Layout}
@@ -40,7 +40,7 @@ module _ (y : Layout) (ok : valid_layout y ≡ true) where
       sym (take_tab [] y.k (block_in l) l (omega arith) (λ i h. refl)) ∙ take_all y.k l (omega arith)
 
   pub sized_tab : (f : ℕ → List Float) → ((j : ℕ) → j < y.k → length (f j) ≡ levels y j) → Sized y (tab y.k f)
-  sized_tab f h = record { count = length_tab y.k f; each = λ j l. ap length (get_d_tab y.k f j [] l) ∙ h j l }
+  sized_tab f h = record { count = length_tab y.k f; each = λ j l. ap length (get_or_tab y.k f j [] l) ∙ h j l }
 
   -- another block for block i
   pub sized_set : (l : List (List Float)) → Sized y l → (i : ℕ) (b : List Float) → i < y.k → length b ≡ levels y i → Sized y (set l i b)
@@ -66,7 +66,7 @@ module _ (y : Layout) (ok : valid_layout y ≡ true) where
 
     pub block_in_lem : (j : ℕ) → j < y.k → block_in (blocks_at y from v) j ≡ block_at y from v j
     unfolding blocks_at
-    block_in_lem j h = get_d_tab y.k (block_at y from v) j [] h
+    block_in_lem j h = get_or_tab y.k (block_at y from v) j [] h
 
     pub sized_blocks : Sized y (blocks_at y from v)
     unfolding blocks_at
@@ -258,7 +258,7 @@ module _ {y : Layout} {from : ℕ} {f : ℕ → List Float} {v : List Float} whe
         let long = length_tab j f in
         block_is i (omega arith)
         ∙ ap₂ (λ (l : List (List Float)) (x : ℕ). get_or l x []) e.filling.same (sym (zero-add i))
-        ∙ store_in 0 (tab j f) (blocks_at y from v) (omega arith) [] i (omega arith) ∙ get_d_tab j f i [] h
+        ∙ store_in 0 (tab j f) (blocks_at y from v) (omega arith) [] i (omega arith) ∙ get_or_tab j f i [] h
 
     -- what lies apart from the vector is as it was
     pub blockwise_else : (off n : ℕ) → (off + n ≤ from) ⊎ (from + y.q ≤ off) → part off n r ≡ part off n v

@@ -43,7 +43,7 @@ all_passed true false d f e = absurd (omega arith)
 all_passed false n d f e = absurd (omega arith)
 
 -- under way, a step is left
-some_left : (s : State) (left every-step : ℕ) → is_under_way s ≡ true → valid_state s left every-step ≡ true → 1 ≤ left
+some_left : (s : State) (left every_step : ℕ) → is_under_way s ≡ true → valid_state s left every_step ≡ true → 1 ≤ left
 some_left Idle left n e t = absurd (let z : ◌≡◌ {A = ℕ} 0 1 = cc in omega arith)
 some_left UnderWay left n e t = let l = ltb-true 0 left t in omega arith
 some_left Finished left n e t = absurd (let z : ◌≡◌ {A = ℕ} 0 1 = cc in omega arith)

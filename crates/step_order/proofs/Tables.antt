@@ -7,7 +7,7 @@ use native.Mathlib.Decide.{ℕ_discrete}
 use native.Mathlib.Omega.{arith}
 use lib.Dec.{eqb}
 use borrow.Author.Tests.{eq-eqb, eqb-true, eqb-false}
-use Rattle.step_order.specs.Steps.{Step, S, C, T, step-discrete, row, col, index, IsStep}
+use Rattle.step_order.specs.Steps.{Step, S, C, T, step_discrete, row, col, index, IsStep}
 use Rattle.step_order.specs.Progress.{put, join}
 
 -- a place is the changed one, or another
@@ -33,9 +33,9 @@ put_all P f i j v a b p q = ⊎_elim (λ w. rw (w.0, w.1, eq-eqb i i refl, eq-eq
 
 -- of the set with s, t is s or an element from before
 pub join_all_lem : (P : Bool → Type 0) (d : Step → Bool) (s t : Step) → (t ≡ s → P true) → ((t ≡ s → ⊥) → P (d t)) → P (join d s t)
-join_all_lem P d s t a b = go (step-discrete ℕ_discrete t s) refl
+join_all_lem P d s t a b = go (step_discrete ℕ_discrete t s) refl
   where
-    go : (c : Dec (t ≡ s)) → step-discrete ℕ_discrete t s ≡ c → P (join d s t)
+    go : (c : Dec (t ≡ s)) → step_discrete ℕ_discrete t s ≡ c → P (join d s t)
     go (yes e) q = rw (q, join) (a e)
     go (no e) q = rw (q, join) (b e)
 

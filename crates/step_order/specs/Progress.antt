@@ -2,7 +2,7 @@
 use Rattle.std.specs.Prelude.{ℕ, suc, ◌≤◌, ◌<◌, ◌≡◌, Bool, true, false, cond, ◌&&◌, List, [], ◌∷◌, ltb, eqb}
 use Rattle.std.proofs.Math.Option.{Option, none, some}
 use Rattle.std.proofs.Math.Decide.{ℕ_discrete}
-use Rattle.step_order.specs.Steps.{Step, S, C, T, step-discrete, row, col, index, IsStep, forerunners, rust_order}
+use Rattle.step_order.specs.Steps.{Step, S, C, T, step_discrete, row, col, index, IsStep, forerunners, rust_order}
 use Rattle.step_order.specs.Elimination.{Rules, refused_at}
 
 -- ---- the set of done steps, as Record 5's book has it
@@ -14,7 +14,7 @@ all d (s ∷ l) = d s && all d l
 
 -- the set with s in it
 abbrev pub join : (Step → Bool) → Step → Step → Bool
-join d s t = elim (step-discrete ℕ_discrete t s) [ yes e ↦ true | no e ↦ d t ]
+join d s t = elim (step_discrete ℕ_discrete t s) [ yes e ↦ true | no e ↦ d t ]
 
 -- the set with all steps of the list in it
 abbrev pub join_all : (Step → Bool) → List Step → Step → Bool

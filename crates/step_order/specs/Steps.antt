@@ -7,7 +7,7 @@ pub data Step : Type 0 where
   S : ℕ → ℕ → ℕ → Step
   C : ℕ → Step
   T : ℕ → ℕ → Step
-  deriving Discrete as step-discrete
+  deriving Discrete as step_discrete
 
 -- Step s writes block (row s, col s), its target. The steps of a target are numbered from 0: its subtractions by h, then C or T.
 abbrev pub row : Step → ℕ

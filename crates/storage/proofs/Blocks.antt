@@ -26,9 +26,9 @@ use Rattle.storage.specs.Shape.{
   cell,
 }
 use Rattle.storage.specs.Part.{part, store}
-use Rattle.storage.proofs.Cells.{length_cells, get_d_cells, cells_ext, is_cells, cells_single}
+use Rattle.storage.proofs.Cells.{length_cells, get_or_cells, cells_ext, is_cells, cells_single}
 use Rattle.storage.proofs.Places.{lies, holds, place_below, place_one_to_one}
-use Rattle.storage.proofs.Parts.{get_d_part, store_in}
+use Rattle.storage.proofs.Parts.{get_or_part, store_in}
 
 module _ {A : Type 0} where
   -- the list of a block is as long as the block has cells
@@ -41,7 +41,7 @@ module _ {A : Type 0} where
   unfolding fill
   cell_fill d s f r c h =
       let k = lies s r c h in
-      get_d_cells (run_length s) (runs s) (λ j i. f (row_at s j i) (column_at s j i)) (run_of s r c) (in_run s r c) d k.run k.within
+      get_or_cells (run_length s) (runs s) (λ j i. f (row_at s j i) (column_at s j i)) (run_of s r c) (in_run s r c) d k.run k.within
       ∙ ap₂ f k.row k.column
 
   -- only the cells that the shape has count
@@ -82,7 +82,7 @@ module _ {A : Type 0} where
   -- its cells are read at its offset
   pub cell_part : (d : A) (s : Shape) (off : ℕ) (w : List A) (r c : ℕ) → has_cell s r c ≡ true
       → cell d s (part off (size_of s) w) r c ≡ get_or w (off + place_of s r c) d
-  cell_part d s off w r c h = get_d_part off (size_of s) w (place_of s r c) d (place_below s r c h)
+  cell_part d s off w r c h = get_or_part off (size_of s) w (place_of s r c) d (place_below s r c h)
 
   -- once it is stored, its cells stand there
   pub cell_stored : (d : A) (s : Shape) (f : ℕ → ℕ → A) (off : ℕ) (w : List A) → off + size_of s ≤ length w

@@ -37,12 +37,12 @@ module _ {A : Type 0} where
   tab_front (suc n) f = ap (λ (l : List A). l ++ (f (suc n) ∷ [])) (tab_front n f)
 
   -- cell i of it is f i
-  pub get_d_tab : (n : ℕ) (f : ℕ → A) (i : ℕ) (d : A) → i < n → get_or (tab n f) i d ≡ f i
+  pub get_or_tab : (n : ℕ) (f : ℕ → A) (i : ℕ) (d : A) → i < n → get_or (tab n f) i d ≡ f i
   unfolding tab
-  get_d_tab zero f i d h = absurd (omega arith)
-  get_d_tab (suc n) f i d h =
+  get_or_tab zero f i d h = absurd (omega arith)
+  get_or_tab (suc n) f i d h =
       by_cases (dec_lt i n)
-      (λ l. get_or-append (tab n f) (f n ∷ []) d i (omega (arith, length_tab n f)) ∙ get_d_tab n f i d l)
+      (λ l. get_or-append (tab n f) (f n ∷ []) d i (omega (arith, length_tab n f)) ∙ get_or_tab n f i d l)
       (λ l. let e : i ≡ length (tab n f) + 0 = omega (arith, length_tab n f) in
       let q : i ≡ n = omega arith in
       ap (λ (k : ℕ). get_or (tab n f ++ (f n ∷ [])) k d) e ∙ get_or-append-add (tab n f) (f n ∷ []) 0 d ∙ ap f (sym q))
@@ -67,16 +67,16 @@ module _ {A : Type 0} where
   length_cells len (suc j) b = length-append (cells len j b) (tab (len j) (b j)) ∙ omega (arith, length_cells len j b, length_tab (len j) (b j))
 
   -- cell i of run j lies at start len j + i
-  pub get_d_cells : (len : ℕ → ℕ) (n : ℕ) (b : ℕ → ℕ → A) (j i : ℕ) (d : A) → j < n → i < len j → get_or (cells len n b) (start len j + i) d ≡ b j i
+  pub get_or_cells : (len : ℕ → ℕ) (n : ℕ) (b : ℕ → ℕ → A) (j i : ℕ) (d : A) → j < n → i < len j → get_or (cells len n b) (start len j + i) d ≡ b j i
   unfolding cells
-  get_d_cells len zero b j i d h l = absurd (omega arith)
-  get_d_cells len (suc n) b j i d h l =
+  get_or_cells len zero b j i d h l = absurd (omega arith)
+  get_or_cells len (suc n) b j i d h l =
       by_cases (dec_lt j n)
-      (λ m. get_or-append (cells len n b) (tab (len n) (b n)) d (start len j + i) (omega (arith, length_cells len n b, start_below len j n m)) ∙ get_d_cells len n b j i d m l)
+      (λ m. get_or-append (cells len n b) (tab (len n) (b n)) d (start len j + i) (omega (arith, length_cells len n b, start_below len j n m)) ∙ get_or_cells len n b j i d m l)
       (λ m. let q : j ≡ n = omega arith in
       rw q
       (rw (← (length_cells len n b)) (get_or-append-add (cells len n b) (tab (len n) (b n)) i d)
-      ∙ get_d_tab (len n) (b n) i d (rw q at l)))
+      ∙ get_or_tab (len n) (b n) i d (rw q at l)))
 
   -- only b at the cells of the n runs counts
   pub cells_ext : (len : ℕ → ℕ) (n : ℕ) (b b' : ℕ → ℕ → A) → ((j i : ℕ) → j < n → i < len j → b j i ≡ b' j i) → cells len n b ≡ cells len n b'
@@ -105,7 +105,7 @@ module _ {A : Type 0} where
   part_cells d len n b j h =
       take_tab d (len j) (b j) (drop (start len j) (cells len n b))
       (simp length-drop (omega (arith, length_cells len n b, start_below len j n h)))
-      (λ i q. get_or-drop (start len j) (cells len n b) i d ∙ get_d_cells len n b j i d h q)
+      (λ i q. get_or-drop (start len j) (cells len n b) i d ∙ get_or_cells len n b j i d h q)
 
   -- runs of one cell are listed one by one
   pub cells_single : (n : ℕ) (b : ℕ → ℕ → A) → cells single n b ≡ tab n (λ j. b j 0)

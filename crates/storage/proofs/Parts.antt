@@ -76,8 +76,8 @@ module _ {A : Type 0} where
   -- ---- what is read
 
   -- cell i of a part
-  pub get_d_part : (off n : ℕ) (w : List A) (i : ℕ) (d : A) → i < n → get_or (part off n w) i d ≡ get_or w (off + i) d
-  get_d_part off n w i d h = get_or-take n (drop off w) i d h ∙ get_or-drop off w i d
+  pub get_or_part : (off n : ℕ) (w : List A) (i : ℕ) (d : A) → i < n → get_or (part off n w) i d ≡ get_or w (off + i) d
+  get_or_part off n w i d h = get_or-take n (drop off w) i d h ∙ get_or-drop off w i d
 
   module _ (off : ℕ) (l w : List A) (fits : off + length l ≤ length w) where
     head : length (take off w) ≡ off
@@ -137,7 +137,7 @@ module _ {A : Type 0} where
     -- a cell of what was stored
     pub store_in : (d : A) (i : ℕ) → i < length l → get_or (store off l w) (off + i) d ≡ get_or l i d
     store_in d i h =
-        sym (get_d_part off (length l) (store off l w) i d h) ∙ ap (λ (x : List A). get_or x i d) (part_same (length l) refl)
+        sym (get_or_part off (length l) (store off l w) i d h) ∙ ap (λ (x : List A). get_or x i d) (part_same (length l) refl)
 
     -- what is stored over it stands alone
     pub store_store : (l' : List A) → length l ≤ length l' → store off l' (store off l w) ≡ store off l' w

@@ -12,7 +12,7 @@ use Rattle.storage.specs.Runs.{tab}
 use Rattle.sheet.specs.Field.{is_finite, is_zero}
 use Rattle.sheet.specs.Run.{Entry}
 use Rattle.sheet.specs.Sheet.{Sheet}
-use Rattle.sheet.specs.Fault.{block_of_row, Mirror, Fault, zero_word_lem, inside_block, no_mirror}
+use Rattle.sheet.specs.Fault.{block_of_row, Mirror, Fault, word_is_zero, inside_block, no_mirror}
 use Rattle.sheet.specs.Whole.{Each, EntryInRange, Earlier, Rising}
 use Rattle.sheet_text.specs.written.Written.{Word, Numbered}
 use Rattle.workspace.specs.Loaded.{count_of}
@@ -89,7 +89,7 @@ module _ (line from n at : ℕ) where
 
     no_fault : (i : ℕ) → i < n + n → Fault sheet (joined i) → ⊥
     unfolding is_zero
-    no_fault i h (zero_word_lem z) = false≢true z
+    no_fault i h (word_is_zero z) = false≢true z
     no_fault i h (inside_block e d) = join_apart (is_column i) i (level i) (level_below i h) e
     no_fault i h (no_mirror f) =
         let m = has_mirror i h in

@@ -16,7 +16,7 @@ starred =
       worked = refl;
       loads = refl;
       four_steps = refl;
-      log_determinant_lem = refl;
+      determinant = refl;
       two_ln_2 = refl;
       solution_ml = refl;
       solution_reml = refl;
@@ -26,5 +26,5 @@ starred =
       gate = refl;
       refusals = refl;
       theta_zero = refl;
-      no_scale_lem = refl;
+      no_scale_reml = refl;
     }

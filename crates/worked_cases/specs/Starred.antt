@@ -19,7 +19,7 @@ pub record Starred : Type 0 where
   pub loads : (loaded sheet_bytes).answer ≡ Accepted
   pub four_steps : (progress_of (loaded sheet_bytes).left.heading).left ≡ 4
   -- logdet 2 ln 2
-  pub log_determinant_lem : log_determinant_bits sheet_bytes one_word ≡ two_ln2_word
+  pub determinant : log_determinant_bits sheet_bytes one_word ≡ two_ln2_word
   pub two_ln_2 : Ieee.to_bits binary64 (Ieee.mul binary64 (Ieee.of_bits binary64 two_word) (ln_of (Ieee.of_bits binary64 two_word))) ≡ two_ln2_word
   -- beta 1, u 0.5, b 0.5, sigma2 1/3 ML, 0.5 REML
   pub solution_ml : words (solving sheet_bytes one_word false).result ≡ solution_words
@@ -33,4 +33,4 @@ pub record Starred : Type 0 where
   -- theta 0: logdet +0
   pub theta_zero : log_determinant_bits sheet_bytes zero_word ≡ zero_word
   -- REML with n = p: no scale
-  pub no_scale_lem : profiled one_reading_bytes one_word true ≡ Given NoScale
+  pub no_scale_reml : profiled one_reading_bytes one_word true ≡ Given NoScale

@@ -10,7 +10,7 @@ use lib.ListN.{length, get_or, drop, length-append, length-replicate, get_or-app
 use borrow.Author.Tests.{ltb-true, leb-true, eqb-true}
 use Rattle.storage.specs.Runs.{tab}
 use Rattle.storage.specs.Part.{store}
-use Rattle.storage.proofs.Cells.{length_tab, get_d_tab}
+use Rattle.storage.proofs.Cells.{length_tab, get_or_tab}
 use Rattle.sheet.specs.Run.{Entry}
 use Rattle.sheet.specs.Sheet.{Sheet, accepted, sheet_of}
 use Rattle.sheet.specs.declared.Starts.{Starts}
@@ -76,7 +76,7 @@ rows_right sheet y rest one true e =
       omega (arith, length-append rows rest, length_tab (levels y 0) (entry_row_in sheet y)),
       λ c h.
           subst (λ (x : ℕ). x < levels y 1)
-          (sym (get_or-append rows rest 0 c (omega (arith, length_tab (levels y 0) (entry_row_in sheet y))) ∙ get_d_tab (levels y 0) (entry_row_in sheet y) c 0 h))
+          (sym (get_or-append rows rest 0 c (omega (arith, length_tab (levels y 0) (entry_row_in sheet y))) ∙ get_or_tab (levels y 0) (entry_row_in sheet y) c 0 h))
           (row_below sheet y one c h),
     )
 rows_right sheet y rest one false e = absurd (let z : ◌≡◌ {A = ℕ} 0 1 = cc in omega arith)

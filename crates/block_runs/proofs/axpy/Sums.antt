@@ -11,7 +11,7 @@ use Rattle.storage.specs.Runs.{start, dense, tab}
 use Rattle.storage.specs.Shape.{columns, size_of}
 use Rattle.storage.specs.Part.{store}
 use Rattle.storage.proofs.Starts.{start_dense, start_le}
-use Rattle.storage.proofs.Cells.{length_tab, get_d_tab, tab_ext, take_tab}
+use Rattle.storage.proofs.Cells.{length_tab, get_or_tab, tab_ext, take_tab}
 use Rattle.storage.proofs.Parts.{length_store, store_in, store_store, store_part}
 use Rattle.rules.specs.Arithmetic.{ieee}
 use Rattle.rules.specs.Sums.{all, sum_from, subtract_from}
@@ -64,7 +64,7 @@ run_run n g h w fits = store_store 0 (tab n g) w (omega (arith, length_tab n g))
 -- a double of a run that is written
 pub read_run : (to n : ℕ) (g : ℕ → Float) (w : List Float) → to + n ≤ length w → (i k : ℕ) → i < n → k ≡ to + i → at (run to n g w) k ≡ g i
 read_run to n g w fits i k l e =
-    ap (at (run to n g w)) e ∙ store_in to (tab n g) w (omega (arith, length_tab n g)) nan i (omega (arith, length_tab n g)) ∙ get_d_tab n g i nan l
+    ap (at (run to n g w)) e ∙ store_in to (tab n g) w (omega (arith, length_tab n g)) nan i (omega (arith, length_tab n g)) ∙ get_or_tab n g i nan l
 
 module _ (f : Float → Float → Float) (acc : List Float) (n : ℕ) (w : List Float) (a rows : ℕ) (v : List Float) (b step r : ℕ)
     (room : n ≤ length acc) (narrow : n ≤ rows) (one : r < step) where

@@ -12,7 +12,7 @@ use Rattle.storage.specs.Runs.{start, tab, cells}
 use Rattle.storage.specs.Shape.{Shape, packed, diagonal, columns, has_cell, size_of, place_of, cell}
 use Rattle.storage.specs.Part.{part, store}
 use Rattle.storage.proofs.Starts.{start_below, start_le}
-use Rattle.storage.proofs.Cells.{length_tab, length_cells, get_d_cells, tab_ext, any_default}
+use Rattle.storage.proofs.Cells.{length_tab, length_cells, get_or_cells, tab_ext, any_default}
 use Rattle.storage.proofs.Places.{place_below}
 use Rattle.storage.proofs.Parts.{length_store, part_else, store_else, store_one, store_nil, store_more, store_in}
 use Rattle.storage.proofs.Blocks.{cell_part}
@@ -108,4 +108,4 @@ module _ (off : ℕ) (len : ℕ → ℕ) (b : ℕ → ℕ → Float) (w₀ : Lis
       let q : length L ≡ start len j = length_cells len j b in
       ap₂ (λ (x : List Float) (z : ℕ). get_or x z nan) (so ∙ ap (λ (x : List Float). store off x w₀) (append-nil L)) e
       ∙ store_in off L w₀ (omega (arith, start_le len j n top)) nan (start len y + i) (omega (arith, start_below len y j l))
-      ∙ get_d_cells len j b y i nan l h
+      ∙ get_or_cells len j b y i nan l h

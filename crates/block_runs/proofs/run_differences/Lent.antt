@@ -9,7 +9,7 @@ use lib.Ieee.{Float, nan}
 use Rattle.storage.specs.Runs.{tab}
 use Rattle.storage.specs.Part.{store}
 use Rattle.storage.proofs.Cells.{length_tab, tab_ext}
-use Rattle.storage.proofs.Parts.{store_lent, get_d_part}
+use Rattle.storage.proofs.Parts.{store_lent, get_or_part}
 use Rattle.block_runs.specs.axpy.Axpy.{at, run}
 
 -- g is what the part's loop writes, h what the whole list's run has
@@ -23,4 +23,4 @@ lent_run w y off end to n g h room top same so =
 -- a double of the part that is lent
 pub lent_read : (w : List Float) (off end to n : ℕ) → off + (to + n) ≤ end → (i : ℕ) → i < n
     → at (take (end - off) (drop off w)) (to + i) ≡ at w (off + to + i)
-lent_read w off end to n room i l = get_d_part off (end - off) w (to + i) nan (omega arith) ∙ ap (at w) (omega arith)
+lent_read w off end to n room i l = get_or_part off (end - off) w (to + i) nan (omega arith) ∙ ap (at w) (omega arith)

@@ -13,7 +13,7 @@ use Rattle.storage.specs.declared.Block.{Block}
 use Rattle.storage.specs.Placed.{as_columns, read}
 use Rattle.storage.proofs.Starts.{start_dense}
 use Rattle.storage.proofs.Cells.{length_tab}
-use Rattle.storage.proofs.Parts.{length_store, part_else, get_d_part}
+use Rattle.storage.proofs.Parts.{length_store, part_else, get_or_part}
 use Rattle.storage.proofs.Blocks.{cell_part}
 use Rattle.rules.specs.Arithmetic.{ieee}
 use Rattle.rules.specs.Sums.{dot}
@@ -66,7 +66,7 @@ module _ (to z : ℕ) (a : Block) (v v' : List Float) (fits : to + a.cols ≤ le
       ∙ along_ext ieee.plus _ _ _ _ _ _ a.rows refl
       (λ r l. cell_part ieee.zero (columns a.rows a.cols) a.at v r c (has_dense a.rows a.cols r c l h)
       ∙ ap (λ (k : ℕ). get_or v k ieee.zero) (omega (arith, start_dense a.rows c))
-      ∙ sym (get_d_part (a.at + c * a.rows) a.rows v r ieee.zero l)
+      ∙ sym (get_or_part (a.at + c * a.rows) a.rows v r ieee.zero l)
       ∙ ap (λ (y : List Float). at ieee y r) is)
       (λ r l. ap (λ (y : List Float). at ieee y r) is')
       ∙ sum_along ieee.zero (at ieee x) (at ieee u) a.rows)

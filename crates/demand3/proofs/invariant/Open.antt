@@ -12,7 +12,7 @@ use lib.Ieee.{Float}
 use borrow.Author.Tests.{leb-true, eqb-true}
 use Rattle.storage.specs.Runs.{tab}
 use Rattle.storage.specs.Part.{store}
-use Rattle.storage.proofs.Cells.{get_d_tab}
+use Rattle.storage.proofs.Cells.{get_or_tab}
 use Rattle.storage.proofs.Parts.{length_store, drop_store, store_all}
 use Rattle.sheet.specs.declared.Starts.{Starts}
 use Rattle.sheet.specs.Sheet.{Sheet, accepted, sheet_of}
@@ -88,7 +88,7 @@ module _ (sheet : Sheet) where
       (sym
       (rows_back (layout sheet) (idle (last sheet)) (pick (layout sheet).sparse (tab (levels (layout sheet) 0) (entry_row_in sheet (layout sheet))) []) c
       ∙ ap (λ (b : Bool). get_or (pick b (tab (levels (layout sheet) 0) (entry_row_in sheet (layout sheet))) []) c 0) sparse
-      ∙ get_d_tab (levels (layout sheet) 0) (entry_row_in sheet (layout sheet)) c 0 l))
+      ∙ get_or_tab (levels (layout sheet) 0) (entry_row_in sheet (layout sheet)) c 0 l))
       (row_below sheet (layout sheet) (sparse_columns sheet sparse).1 c l)
 
   -- its parts, wherever it is written

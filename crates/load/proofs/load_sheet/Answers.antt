@@ -5,7 +5,7 @@ use Rattle.load.proofs.load_sheet.Goals as goal
 
 pub returns-then-d-ne0 : goal.returns-then-d-ne0
 returns-then-d-ne0 c = let a = c.args in let j = c.judge_sheet-j in
-    λ sheet e. sym (refused_loads sheet a.starts _ (a.heading).now (a.doubles).now (sym (j.ensures sheet e) ∙ says_refused j.result c.if-d-ne0.true))
+    λ sheet e. sym (refused_loads sheet a.starts _ a.heading.now a.doubles.now (sym (j.ensures sheet e) ∙ says_refused j.result c.if-d-ne0.true))
 
 pub load_judged-requires : goal.load_judged-requires
 load_judged-requires c = let p = c.requires in
@@ -18,4 +18,4 @@ returns c = let a = c.args in
     let j = c.judge_sheet-j in
     λ sheet e.
     let q = sheet_passed sheet _ _ _ (sym (j.ensures sheet e) ∙ says_passed j.result c.if-d-ne0.false) in
-    c.load_judged.ensures sheet e ∙ sym (passed_loads sheet _ (a.heading).now (a.doubles).now q.1 q.2)
+    c.load_judged.ensures sheet e ∙ sym (passed_loads sheet _ a.heading.now a.doubles.now q.1 q.2)

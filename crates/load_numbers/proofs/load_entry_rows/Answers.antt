@@ -10,7 +10,7 @@ use Rattle.load_numbers.proofs.load_entry_rows.Goals as goal
 
 pub map_of-m-requires : goal.map_of-m-requires
 map_of-m-requires c = let a = c.args in let r = c.requires.0 in
-    ready_valid (a.bytes).now a.starts a.layout r
+    ready_valid a.bytes.now a.starts a.layout r
 
 pub entries-requires : goal.entries-requires
 entries-requires c = let r = c.requires.0 in ((c.args.bytes).now, (r.0, r.1))
@@ -18,16 +18,16 @@ entries-requires c = let r = c.requires.0 in ((c.args.bytes).now, (r.0, r.1))
 pub put_rows-requires : goal.put_rows-requires
 put_rows-requires c = let a = c.args in let r = c.requires.0 in
     let thin = c.if-layout.true in (
-      ready_valid (a.bytes).now a.starts a.layout r,
+      ready_valid a.bytes.now a.starts a.layout r,
       c.map_of-m.ensures,
-      omega (arith, ((knows (a.bytes).now a.starts a.layout r).inner thin).0),
-      sparse_room a.layout.sparse (levels a.layout 0) (length (a.heading).now) thin c.requires.1,
+      omega (arith, ((knows a.bytes.now a.starts a.layout r).inner thin).0),
+      sparse_room a.layout.sparse (levels a.layout 0) (length a.heading.now) thin c.requires.1,
     )
 
 pub returns-then-layout : goal.returns-then-layout
 returns-then-layout c = let a = c.args in
-    rows_loaded (a.bytes).now a.starts a.layout c.requires.0 c.if-layout.true c.entries.result (c.entries.ensures.0 (a.bytes).now c.requires.0.0 c.requires.0.1) (a.heading).now _ (omega arith) c.requires.1 c.put_rows.ensures
+    rows_loaded a.bytes.now a.starts a.layout c.requires.0 c.if-layout.true c.entries.result (c.entries.ensures.0 a.bytes.now c.requires.0.0 c.requires.0.1) a.heading.now _ (omega arith) c.requires.1 c.put_rows.ensures
 
 pub returns-else-layout : goal.returns-else-layout
 returns-else-layout c = let a = c.args in
-    λ x e. unpicked a.layout.sparse (tab (levels a.layout 0) (entry_row_in x a.layout)) (a.heading).now c.if-layout.false
+    λ x e. unpicked a.layout.sparse (tab (levels a.layout 0) (entry_row_in x a.layout)) a.heading.now c.if-layout.false

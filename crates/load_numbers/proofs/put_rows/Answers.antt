@@ -14,7 +14,7 @@ pub loop-left-preserved : goal.loop-left-preserved
 loop-left-preserved c = let a = c.args in
     let l = c.loop-left in
     let line = c.entry_at-l in
-    let read = pair_line zz_tag (a.bytes).now in let made = c.put_row.ensures in (
+    let read = pair_line zz_tag a.bytes.now in let made = c.put_row.ensures in (
       ap length made ∙ length-set l.heading (row_place a.layout line.result.first line.result.second) _ ∙ l.invariant.0,
       ap (λ (t : List ℕ). spread (put_row a.layout) read (l.left - 1) 0 line.result.next t) made
           ∙ sym (spread_more (put_row a.layout) read l.left 0 l.p l.heading line.result (omega arith) line.ensures ∙ any_number a.layout read (l.left - 1) (0 + 1) line.result.next (put_row a.layout 0 line.result l.heading))
@@ -23,4 +23,4 @@ loop-left-preserved c = let a = c.args in
 
 pub returns : goal.returns
 returns c = let a = c.args in let l = c.loop-left in
-    sym (spread_none (put_row a.layout) (pair_line zz_tag (a.bytes).now) l.left 0 l.p l.heading (omega arith)) ∙ l.invariant.1
+    sym (spread_none (put_row a.layout) (pair_line zz_tag a.bytes.now) l.left 0 l.p l.heading (omega arith)) ∙ l.invariant.1

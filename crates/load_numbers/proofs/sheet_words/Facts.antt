@@ -66,7 +66,7 @@ pub record Known (sheet : Sheet) (y : Layout) : Type 0 where
   pub q_is : sheet.counts.q ≡ y.q
   pub k_is : sheet.counts.k ≡ y.k
   pub inner : y.sparse ≡ true → (y.k ≡ 2) × ((c : ℕ) → c < levels y 0 → entry_row_in sheet y c < levels y 1)
-  pub one_each_lem : y.sparse ≡ true → (c : ℕ) → c < levels y 0 → count_of (of_column y 1 0 c) sheet.zz ≡ 1
+  pub each_once : y.sparse ≡ true → (c : ℕ) → c < levels y 0 → count_of (of_column y 1 0 c) sheet.zz ≡ 1
 
 module _ (s : List ℕ) (sheet : Sheet) (z : Starts) (read : read_sheet s ≡ accepted sheet z) (fine : fault_number sheet ≡ 0)
     (gate : first_refused_pair sheet (layout_of_sheet sheet) (pairs (layout_of_sheet sheet).k) ≡ none) where
@@ -104,7 +104,7 @@ module _ (s : List ℕ) (sheet : Sheet) (z : Starts) (read : read_sheet s ≡ ac
 
   known_read : Known sheet (layout_of_sheet sheet)
   unfolding layout_of_sheet sorted_layout
-  known_read = record { ok = valid_read; rows = rows_read; p_is = refl; q_is = refl; k_is = refl; inner = inner_read; one_each_lem = one_each_read }
+  known_read = record { ok = valid_read; rows = rows_read; p_is = refl; q_is = refl; k_is = refl; inner = inner_read; each_once = one_each_read }
 
 pub known : (s : List ℕ) (sheet : Sheet) (z : Starts) (y : Layout) → read_sheet s ≡ accepted sheet z → fault_number sheet ≡ 0 → y ≡ layout_of_sheet sheet
     → first_refused_pair sheet y (pairs y.k) ≡ none → Known sheet y
@@ -130,7 +130,7 @@ soles sheet y k = go y.sparse refl
         ((and-eq-true_iff (eqb e.col (sheet_row y 0 (e.col - row_start y 0))) (in_block y 1 e.row)).1 (eq-eqb e.col (sheet_row y 0 (e.col - row_start y 0)) here, b))))
         sheet.zz
         (each_swap (λ c e. of_column y 1 0 c e ≡ true → e.row ≡ row_of (of_column y 1 0 c) sheet.zz) (levels y 0) sheet.zz
-        (λ c b. row_sole (of_column y 1 0 c) sheet.zz (omega (arith, k.one_each_lem q c b))))
+        (λ c b. row_sole (of_column y 1 0 c) sheet.zz (omega (arith, k.each_once q c b))))
     go false q = each_map (λ e. Unit {0}) (λ e. Sole y (entry_row_in sheet y) e.col e.row) (λ e t g a b. absurd (true_false g q)) sheet.zz (units sheet.zz)
       where
         units : (l : List Entry) → Each (λ e. Unit {0}) l

@@ -11,7 +11,7 @@ use lib.Ieee.{Float}
 use Rattle.storage.specs.Runs.{tab}
 use Rattle.storage.specs.Part.{part, store}
 use Rattle.storage.specs.Shape.{Shape, fill, size_of}
-use Rattle.storage.proofs.Cells.{length_tab, get_d_tab}
+use Rattle.storage.proofs.Cells.{length_tab, get_or_tab}
 use Rattle.storage.proofs.Blocks.{is_fill, cell_part}
 use Rattle.storage.proofs.Parts.{length_part, length_store, store_in, store_behind}
 use Rattle.rules.specs.Arithmetic.{ieee}
@@ -140,7 +140,7 @@ module _ (s : List ℕ) (sheet : Sheet) (z : Starts) (y : Layout) (k : Known she
     at_cleared : (P : ℕ) → P < n → get_or cleared P (double 0) ≡ double 0
     at_cleared P b =
         ap (λ (x : ℕ). get_or cleared x (double 0)) (let e : P ≡ 0 + P = omega arith in e)
-        ∙ store_in 0 (tab n (λ i. ieee.zero)) w₀ clear_fits (double 0) P (omega (arith, length_tab n (λ i. ieee.zero))) ∙ get_d_tab n (λ i. ieee.zero) P (double 0) b
+        ∙ store_in 0 (tab n (λ i. ieee.zero)) w₀ clear_fits (double 0) P (omega (arith, length_tab n (λ i. ieee.zero))) ∙ get_or_tab n (λ i. ieee.zero) P (double 0) b
 
     loaded_first_lem : loaded_length y ≤ n
     unfolding sum_at

@@ -17,7 +17,7 @@ use Rattle.storage.specs.Runs.{start, triangle}
 use Rattle.storage.specs.Shape.{Shape, packed, columns, size_of, has_cell, place_of, fill}
 use Rattle.storage.specs.Part.{part, store}
 use Rattle.storage.proofs.Places.{place_below, place_one_to_one, place_columns}
-use Rattle.storage.proofs.Parts.{length_part, length_store, get_d_part, store_before, store_behind, store_in, store_else}
+use Rattle.storage.proofs.Parts.{length_part, length_store, get_or_part, store_before, store_behind, store_in, store_else}
 use Rattle.storage.proofs.Blocks.{length_fill, is_fill, cell_part}
 use Rattle.rules.specs.Arithmetic.{ieee}
 use Rattle.layout.specs.declared.Layout.{Layout}
@@ -92,7 +92,7 @@ module _ (s : Shape) (row n base step : ℕ) (z : Row s row n base step) (some :
           let e : i ≡ off + (i - off) = omega arith in
           ap (λ (x : ℕ). get_or (store off (part off (size_of s) copied) v) x ieee.zero) e
           ∙ store_in off (part off (size_of s) copied) v long ieee.zero (i - off) (omega arith)
-          ∙ get_d_part off (size_of s) copied (i - off) ieee.zero (omega arith)
+          ∙ get_or_part off (size_of s) copied (i - off) ieee.zero (omega arith)
           ∙ ap (λ (x : ℕ). get_or copied x ieee.zero) (sym e)
 
   -- the row copied, all other cells as they were

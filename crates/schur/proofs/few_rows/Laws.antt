@@ -11,8 +11,8 @@ use Rattle.storage.specs.Runs.{start, dense, cells}
 use Rattle.storage.specs.Shape.{columns, size_of, fill}
 use Rattle.storage.specs.Part.{store}
 use Rattle.storage.proofs.Starts.{start_dense, start_below, start_le}
-use Rattle.storage.proofs.Cells.{tab_ext, length_cells, get_d_cells, cells_ext}
-use Rattle.storage.proofs.Parts.{store_in, store_lent, get_d_part}
+use Rattle.storage.proofs.Cells.{tab_ext, length_cells, get_or_cells, cells_ext}
+use Rattle.storage.proofs.Parts.{store_in, store_lent, get_or_part}
 use Rattle.rules.specs.Arithmetic.{ieee}
 use Rattle.storage.specs.declared.Block.{Block}
 use Rattle.storage.specs.Placed.{Product, as_columns, read}
@@ -71,7 +71,7 @@ sum_read rows cols rule sums t room made r c h l =
     let k : start (dense cols) r + c ≡ 0 + (start (dense cols) r + c) = omega arith in
     ap₂ (λ (x : List Float) (i : ℕ). at x i) made k
     ∙ store_in 0 L t (omega arith) nan (start (dense cols) r + c) (omega (arith, start_below (dense cols) r rows h))
-    ∙ get_d_cells (dense cols) rows rule r c nan h l
+    ∙ get_or_cells (dense cols) rows rule r c nan h l
 
 -- the block t, lent, less the sums
 pub few_subtracted : (w y sums l : List Float) (end : ℕ) (t a b : Block) → Product (length w) as_columns as_columns t a b → end ≡ t.at + size_of (columns t.rows t.cols)
@@ -94,7 +94,7 @@ few_subtracted w y sums l end t a b P e room made so =
     (λ c i h l.
     let in_block_lem : start (dense rows) c + rows ≤ start (dense rows) cols = start_below (dense rows) c cols h in
     ap₂ ieee.minus
-    (get_d_part t.at (end - t.at) w (start (dense rows) c + i) nan (omega arith)
+    (get_or_part t.at (end - t.at) w (start (dense rows) c + i) nan (omega arith)
     ∙ read_block (columns rows cols) t.at w i c (t.at + (start (dense rows) c + i)) (has_dense rows cols i c l h) (omega arith) refl)
     (sum_read rows cols (row_sums a b w) sums _ room made' i c l h
     ∙ along_swap ieee.plus ieee.zero (read (as_columns b) w c) (read (as_columns a) w i) a.cols

@@ -17,7 +17,7 @@ use Rattle.storage.specs.Shape.{Shape, columns, entries, has_cell}
 use Rattle.storage.specs.declared.Block.{Block}
 use Rattle.storage.specs.Placed.{Placed, block_of, as_columns, as_entries, Lies}
 use Rattle.storage.proofs.Starts.{start_single}
-use Rattle.storage.proofs.Cells.{length_tab, get_d_tab}
+use Rattle.storage.proofs.Cells.{length_tab, get_or_tab}
 use Rattle.storage.proofs.Parts.{store_in}
 use Rattle.storage.proofs.Filling.{Filling, filling_else, filling_done, array_more}
 use Rattle.rules.specs.Arithmetic.{ieee}
@@ -56,7 +56,7 @@ module _ (a : Block) (src : ℕ) (w : List Float) (x : ℕ) (t₀ : List Float) 
   column_added {t} e top i h =
       let g : ℕ → Float = added a src w x t₀ in
       ap₂ (λ (l : List Float) (k : ℕ). get_or l k nan) (filling_done e top) (sym (zero-add i))
-      ∙ store_in 0 (tab a.rows g) t₀ (omega (arith, length_tab a.rows g)) nan i (omega (arith, length_tab a.rows g)) ∙ get_d_tab a.rows g i nan h
+      ∙ store_in 0 (tab a.rows g) t₀ (omega (arith, length_tab a.rows g)) nan i (omega (arith, length_tab a.rows g)) ∙ get_or_tab a.rows g i nan h
 
   module _ (here : x < a.cols) (fits : Lies (length w) (as_columns a)) (fits-src : Lies (length w) (as_columns (block_of src a.rows a.cols)))
       (p q : ℕ) (e : p ≡ a.at + start (dense a.rows) x) (f : q ≡ src + start (dense a.rows) x) (r : ℕ) (h : r < a.rows) where

@@ -17,8 +17,8 @@ use Rattle.storage.specs.Part.{part, store}
 use Rattle.storage.specs.declared.Block.{Block}
 use Rattle.storage.specs.Placed.{Placed, Product, Apart, as_columns, as_entries, read, put}
 use Rattle.storage.proofs.Starts.{start_below, start_dense, start_single}
-use Rattle.storage.proofs.Cells.{length_tab, get_d_tab, tab_ext, any_default}
-use Rattle.storage.proofs.Parts.{length_part, length_store, get_d_part, part_else, store_in, store_else, store_part, store_inside}
+use Rattle.storage.proofs.Cells.{length_tab, get_or_tab, tab_ext, any_default}
+use Rattle.storage.proofs.Parts.{length_part, length_store, get_or_part, part_else, store_in, store_else, store_part, store_inside}
 use Rattle.storage.proofs.Blocks.{length_fill, cell_fill, is_fill, fill_cell, cell_stored}
 use Rattle.rules.specs.Arithmetic.{ieee}
 use Rattle.rules.specs.Sums.{subtract_from}
@@ -52,7 +52,7 @@ column_stored rows cols c f f' g here new old =
     ∙ cell_fill nan s f r x h ∙ old r x (λ e. absurd (omega arith)))
     (λ z. let e : x ≡ c = omega arith in
     subst (λ (i : ℕ). get_or (store (start (dense rows) c) l L) (start (dense rows) i + r) nan ≡ f' r i) (sym e)
-    (store_in (start (dense rows) c) l L fits nan r (omega arith) ∙ get_d_tab rows g r nan m ∙ new r m))))
+    (store_in (start (dense rows) c) l L fits nan r (omega arith) ∙ get_or_tab rows g r nan m ∙ new r m))))
 
 -- ---- the loop over the sparse block's columns: x of them are subtracted, and column x of block a starts at ax
 pub record Subtracting (row : ℕ → ℕ) (t a v : Block) (w₀ : List Float) (x ax : ℕ) (w : List Float) : Type 0 where
@@ -102,7 +102,7 @@ module _ {row : ℕ → ℕ} {t a v : Block} {w₀ : List Float} (P : Product (l
       factor_read : at w (v.at + x) ≡ entry v.at v.cols w₀ x
       factor_read =
           any_default w (v.at + x) nan ieee.zero (omega (arith, e.long, source_room))
-          ∙ sym (get_d_part v.at (size_of (as_entries row v).shape) w x ieee.zero (omega (arith, P.inner, start_single v.cols)))
+          ∙ sym (get_or_part v.at (size_of (as_entries row v).shape) w x ieee.zero (omega (arith, P.inner, start_single v.cols)))
           ∙ ap (λ (l : List Float). get_or l x ieee.zero) (other (as_entries row v) P.off_right) ∙ ap (λ (n : ℕ). entry v.at n w₀ x) (start_single v.cols)
 
       module _ (c : ℕ) (d : c ≡ row x) (below : (y : ℕ) → y < v.cols → row y < t.cols) where

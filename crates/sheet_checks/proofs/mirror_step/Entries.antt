@@ -19,7 +19,7 @@ use Rattle.sheet.specs.Field.{is_zero}
 use Rattle.sheet.specs.Run.{Entry, entry_in, kept_from, past_from}
 use Rattle.sheet.specs.Sheet.{Sheet}
 use Rattle.sheet.specs.Whole.{Each, Earlier, Rising, EntryInRange, Whole}
-use Rattle.sheet.specs.Fault.{Mirror, Fault, zero_word_lem, inside_block, no_mirror, block_of_row, is_inside, is_fault, faulty_line}
+use Rattle.sheet.specs.Fault.{Mirror, Fault, word_is_zero, inside_block, no_mirror, block_of_row, is_inside, is_fault, faulty_line}
 use Rattle.sheet.proofs.Whole.{read_whole}
 use Rattle.sheet.proofs.Faults.{fault_true, true_fault, first_at, first_none}
 use Rattle.sheet_checks.specs.mirror_cursor.Held.{held, entry_of, place_of, Given, FaultAt}
@@ -142,7 +142,7 @@ module _ (sheet : Sheet) where
     where
       go : (z b d : Bool) → is_zero e.word ≡ z → eqb (block_of_row sheet.blocks e.col) (block_of_row sheet.blocks e.row) ≡ b → eqb e.col e.row ≡ d
           → (z || (b && not d)) ≡ true → Fault sheet e
-      go true b d p q r k = zero_word_lem p
+      go true b d p q r k = word_is_zero p
       go false true false p q r k = inside_block (eqb-true _ _ q) (eqb-false _ _ r)
       go false true true p q r k = absurd (false≢true k)
       go false false d p q r k = absurd (false≢true k)
@@ -156,7 +156,7 @@ module _ (sheet : Sheet) where
       e = entry_of sheet t
 
       go : Fault sheet e → is_unfit sheet e ≡ false → ⊥
-      go (zero_word_lem z) k = false≢true (sym (simp z at k))
+      go (word_is_zero z) k = false≢true (sym (simp z at k))
       go (inside_block b d) k = inside (is_zero e.word) k
         where
           inside : (z : Bool) → (z || is_inside sheet e) ≡ false → ⊥

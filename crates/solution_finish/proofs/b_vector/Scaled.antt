@@ -11,7 +11,7 @@ use Rattle.storage.specs.Shape.{diagonal}
 use Rattle.storage.specs.Part.{store}
 use Rattle.storage.proofs.Cells.{length_tab, tab_ext}
 use Rattle.storage.proofs.Places.{size_diagonal}
-use Rattle.storage.proofs.Parts.{get_d_part}
+use Rattle.storage.proofs.Parts.{get_or_part}
 use Rattle.rules.specs.Arithmetic.{ieee}
 use Rattle.rules.specs.Begin.{fixed_cell}
 use Rattle.rules.specs.Cholesky.{at}
@@ -53,7 +53,7 @@ module _ (y : Layout) (ok : valid_layout y ≡ true) where
       ∙ rw (src, a, r, t)
       (ap (λ (l : List Float). store (y.p + row_start y j) l v)
       (tab_ext (levels y j) _ _
-      (λ c l. times_swap _ (theta_of hs w j) ∙ ap (ieee.times (theta_of hs w j)) (sym (get_d_part (u_at y + row_start y j) (levels y j) v c ieee.zero l)))))
+      (λ c l. times_swap _ (theta_of hs w j) ∙ ap (ieee.times (theta_of hs w j)) (sym (get_or_part (u_at y + row_start y j) (levels y j) v c ieee.zero l)))))
 
   -- ---- one block more
 

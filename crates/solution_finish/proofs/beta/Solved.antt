@@ -9,7 +9,7 @@ use Rattle.storage.specs.Runs.{tab}
 use Rattle.storage.specs.Shape.{packed}
 use Rattle.storage.specs.Part.{store}
 use Rattle.storage.specs.Placed.{block_of}
-use Rattle.storage.proofs.Cells.{length_tab, get_d_tab, take_tab}
+use Rattle.storage.proofs.Cells.{length_tab, get_or_tab, take_tab}
 use Rattle.storage.proofs.Parts.{length_store, part_same}
 use Rattle.rules.specs.Arithmetic.{ieee}
 use Rattle.rules.specs.Cholesky.{at, forward}
@@ -37,7 +37,7 @@ module _ (off p : ℕ) (v b₀ b₁ b₂ b₃ : List Float) (short : p ≤ lengt
   copied : (i : ℕ) → i < p → entry 0 p b₁ i ≡ entry 0 p v i
   copied i h =
       ap (λ (x : List Float). entry 0 p x i) e₁ ∙ first_entries (tab p (λ j. Axpy.at v (0 + j))) b₀ p (length_tab p _) short i
-      ∙ get_d_tab p (λ j. Axpy.at v (0 + j)) i ieee.zero h ∙ read_entry 0 p v i h (omega arith)
+      ∙ get_or_tab p (λ j. Axpy.at v (0 + j)) i ieee.zero h ∙ read_entry 0 p v i h (omega arith)
 
   long₁ : length b₁ ≡ length b₀
   long₁ = ap length e₁ ∙ length_store 0 (tab p (λ i. Axpy.at v (0 + i))) b₀ (omega (arith, length_tab p (λ i. Axpy.at v (0 + i))))

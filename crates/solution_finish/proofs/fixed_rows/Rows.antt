@@ -14,7 +14,7 @@ use Rattle.storage.specs.declared.Block.{Block}
 use Rattle.storage.specs.Placed.{block_of, as_columns, Lies}
 use Rattle.storage.proofs.Starts.{start_below, start_le, start_dense}
 use Rattle.storage.proofs.Cells.{any_default, length_tab, take_tab, is_cells}
-use Rattle.storage.proofs.Parts.{length_part, length_store, part_else, part_same, store_else, get_d_part}
+use Rattle.storage.proofs.Parts.{length_part, length_store, part_else, part_same, store_else, get_or_part}
 use Rattle.storage.proofs.Blocks.{fill_packed}
 use Rattle.rules.specs.Arithmetic.{ieee}
 use Rattle.rules.specs.Sums.{dot}
@@ -56,7 +56,7 @@ module _ (h : List ℕ) (w : List Float) (y : Layout) (fit : Fits y h (length w)
       ap (at w) d
       ∙ any_default w (loaded_at y y.k y.k + place) nan ieee.zero (omega (arith, last_room))
       ∙ sym
-      (get_d_part (loaded_at y y.k y.k) (size_of (loaded_shape y (entry_row h) y.k y.k)) w place ieee.zero
+      (get_or_part (loaded_at y y.k y.k) (size_of (loaded_shape y (entry_row h) y.k y.k)) w place ieee.zero
       (omega (arith, size_loaded y (entry_row h) y.k y.k, last_cells y)))
       ∙ ap cell fit.same
 
@@ -247,7 +247,7 @@ module _ (h : List ℕ) (w : List Float) (y : Layout) (fit : Fits y h (length w)
               ap (part (lx_at y) (start triangle y.p)) so
               ∙ part_else y.p u v room (lx_at y) (start triangle y.p) (inr (omega arith))
               ∙ is_cells nan triangle y.p (fixed_triangle h w) (part (lx_at y) (start triangle y.p) v) (length_part (lx_at y) (start triangle y.p) v (omega (arith, st.long)))
-              (λ i j l m. get_d_part (lx_at y) (start triangle y.p) v (start triangle i + j) nan (omega (arith, start_below triangle i y.p l)) ∙ st.made i j l (omega arith))
+              (λ i j l m. get_or_part (lx_at y) (start triangle y.p) v (start triangle i + j) nan (omega (arith, start_below triangle i y.p l)) ∙ st.made i j l (omega arith))
               ∙ sym (fill_packed y.p (fixed_triangle h w));
           right =
               ap (part 0 y.p) so ∙ part_else y.p u v room 0 y.p (inl (omega arith)) ∙ take_tab nan y.p (fixed_rhs h w) v (omega (arith, st.long)) st.right;

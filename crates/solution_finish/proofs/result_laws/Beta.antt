@@ -9,7 +9,7 @@ use lib.Ieee.{Float}
 use Rattle.storage.specs.Runs.{start, triangle}
 use Rattle.storage.specs.Shape.{packed, fill, cell}
 use Rattle.storage.specs.Part.{part}
-use Rattle.storage.proofs.Cells.{get_d_tab}
+use Rattle.storage.proofs.Cells.{get_or_tab}
 use Rattle.storage.proofs.Parts.{length_store, part_same, part_else}
 use Rattle.storage.proofs.Blocks.{cell_fill, fill_packed}
 use Rattle.rules.specs.Arithmetic.{ieee}
@@ -53,7 +53,7 @@ same_pivots h w y e v is r l = same_factor h w y e v is r r l (omega arith) ∙ 
 
 module _ (h : List ℕ) (w : List Float) (y : Layout) (e : y ≡ layout_of h) (v : List Float) (ready : Ready h w y v) where
   same_right : (x : ℕ) → x < y.p → entry 0 y.p v x ≡ fixed_rhs h w x
-  same_right x l = ap (λ (z : List Float). at ieee z x) ready.right ∙ get_d_tab y.p (fixed_rhs h w) x ieee.zero l
+  same_right x l = ap (λ (z : List Float). at ieee z x) ready.right ∙ get_or_tab y.p (fixed_rhs h w) x ieee.zero l
 
   abbrev cells_same : (r x : ℕ) → r < y.p → x ≤ r → block (lx_at y) (packed y.p) v r x ≡ factor ieee (fixed_triangle h w) y.p r x
   cells_same = same_factor h w y e v ready.factor

@@ -10,8 +10,8 @@ use lib.Seq.{get_or-drop}
 use lib.Ieee.{Float}
 use Rattle.storage.specs.Runs.{tab}
 use Rattle.storage.specs.Part.{part}
-use Rattle.storage.proofs.Cells.{length_tab, get_d_tab, tab_ext, take_tab}
-use Rattle.storage.proofs.Parts.{get_d_part}
+use Rattle.storage.proofs.Cells.{length_tab, get_or_tab, tab_ext, take_tab}
+use Rattle.storage.proofs.Parts.{get_or_part}
 use Rattle.rules.specs.Arithmetic.{ieee}
 use Rattle.rules.specs.Cholesky.{at}
 use Rattle.layout.specs.declared.Layout.{Layout}
@@ -32,7 +32,7 @@ use Rattle.solution_finish.specs.b_vector.Effects.{effect_block, effect_blocks}
 part_tab : (off n m : ℕ) (f : ℕ → Float) → off + n ≤ m → part off n (tab m f) ≡ tab n (λ i. f (off + i))
 part_tab off n m f fits =
     take_tab ieee.zero n (λ i. f (off + i)) (drop off (tab m f)) (simp length-drop (omega (arith, length_tab m f)))
-    (λ i l. get_or-drop off (tab m f) i ieee.zero ∙ get_d_tab m f (off + i) ieee.zero (omega arith))
+    (λ i l. get_or-drop off (tab m f) i ieee.zero ∙ get_or_tab m f (off + i) ieee.zero (omega arith))
 
 module _ (h : List ℕ) (w : List Float) (y : Layout) where
   -- theta of each row, by a layout that equals the heading's
@@ -55,10 +55,10 @@ module _ (h : List ℕ) (w : List Float) (y : Layout) where
     theta_at_lem : y ≡ layout_of h → (j : ℕ) → j < y.k → (c : ℕ) → c < levels y j → at ieee (theta_rows h w) (row_start y j + c) ≡ theta_of h w j
     theta_at_lem e j l c m =
         let sized : Sized y thetas = sized_tab y ok (λ i. replicate (levels y i) (theta_of h w i)) (λ i g. length-replicate (levels y i) (theta_of h w i)) in
-        sym (get_d_part (row_start y j) (levels y j) (theta_rows h w) c ieee.zero m)
+        sym (get_or_part (row_start y j) (levels y j) (theta_rows h w) c ieee.zero m)
         ∙ ap (λ (z : List Float). at ieee z c)
         (ap (part (row_start y j) (levels y j)) (sym (thetas_by e)) ∙ order_block y ok thetas sized j l
-        ∙ get_d_tab y.k (λ i. replicate (levels y i) (theta_of h w i)) j [] l)
+        ∙ get_or_tab y.k (λ i. replicate (levels y i) (theta_of h w i)) j [] l)
         ∙ get_or-replicate (levels y j) c (theta_of h w j) ieee.zero m
 
     module _ (v : List Float) where
@@ -83,14 +83,14 @@ module _ (h : List ℕ) (w : List Float) (y : Layout) where
         offset_at : (j : ℕ) → j < y.k → (c : ℕ) → c < levels y j → at ieee (block_at y (u_at y) v j) c ≡ at ieee (u_vector h w) (row_start y j + c)
         offset_at j l c m =
             let same : u_at y + row_start y j + c ≡ u_at y + (row_start y j + c) = omega arith in
-            get_d_part (u_at y + row_start y j) (levels y j) v c ieee.zero m ∙ ap (at ieee v) same
-            ∙ sym (get_d_part (u_at y) y.q v (row_start y j + c) ieee.zero (omega (arith, rows_within y ok j l)))
+            get_or_part (u_at y + row_start y j) (levels y j) v c ieee.zero m ∙ ap (at ieee v) same
+            ∙ sym (get_or_part (u_at y) y.q v (row_start y j + c) ieee.zero (omega (arith, rows_within y ok j l)))
             ∙ ap (λ (z : List Float). at ieee z (row_start y j + c)) u
 
         block_is : (j : ℕ) → j < y.k → block_in (effect_blocks h w y v) j ≡ part (row_start y j) (levels y j) (tab y.q effect_by)
         unfolding effect_blocks
         block_is j l =
-            get_d_tab y.k (effect_block h w y v) j [] l
+            get_or_tab y.k (effect_block h w y v) j [] l
             ∙ tab_ext (levels y j) _ (λ c. effect_by (row_start y j + c)) (λ c m. ap₂ ieee.times (sym (theta_at_lem e j l c m)) (offset_at j l c m))
             ∙ sym (part_tab (row_start y j) (levels y j) y.q effect_by (rows_within y ok j l))
 

@@ -9,7 +9,7 @@ use lib.Ieee.{Float, nan}
 use Rattle.storage.specs.Runs.{tab}
 use Rattle.storage.specs.Part.{part}
 use Rattle.storage.proofs.Cells.{any_default, length_tab, tab_ext}
-use Rattle.storage.proofs.Parts.{get_d_part, length_store, part_same, part_else}
+use Rattle.storage.proofs.Parts.{get_or_part, length_store, part_same, part_else}
 use Rattle.rules.specs.Arithmetic.{ieee}
 use Rattle.rules.specs.Cholesky.{at}
 use Rattle.rules.specs.Finish.{offset_of}
@@ -27,7 +27,7 @@ use Rattle.layout.specs.Shapes.{last_rows}
 -- double i of a part that lies inside
 read : (off n : ℕ) (v l : List Float) → off + n ≤ length v → part off n v ≡ l → (i k : ℕ) → i < n → k ≡ off + i → doubleAt v k ≡ at ieee l i
 read off n v l fits e i k h is =
-    ap (doubleAt v) is ∙ any_default v (off + i) nan ieee.zero (omega arith) ∙ sym (get_d_part off n v i ieee.zero h)
+    ap (doubleAt v) is ∙ any_default v (off + i) nan ieee.zero (omega arith) ∙ sym (get_or_part off n v i ieee.zero h)
     ∙ ap (λ (z : List Float). at ieee z i) e
 
 -- ---- what the store leaves alone

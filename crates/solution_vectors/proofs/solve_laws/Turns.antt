@@ -8,7 +8,7 @@ use lib.ListN.{length}
 use lib.Seq.{take_all}
 use lib.Ieee.{Float}
 use Rattle.storage.specs.Runs.{tab}
-use Rattle.storage.proofs.Cells.{length_tab, get_d_tab, tab_ext, take_tab}
+use Rattle.storage.proofs.Cells.{length_tab, get_or_tab, tab_ext, take_tab}
 use Rattle.storage.proofs.Parts.{store_store, store_part}
 use Rattle.rules.specs.Arithmetic.{ieee}
 use Rattle.rules.specs.Cholesky.{at}
@@ -51,7 +51,7 @@ module _ {y : Layout} {from i : ℕ} {v₀ : List Float} {g : ℕ → Float} {v 
   cell_is r l =
       ap (λ (x : List Float). at ieee (block_at y from x i) r) e.same
       ∙ ap (λ (b : List Float). at ieee b r) (block_same y e.valid_layout from i (tab (levels y i) g) v₀ e.here (length_tab (levels y i) g) e.fits)
-      ∙ get_d_tab (levels y i) g r ieee.zero l
+      ∙ get_or_tab (levels y i) g r ieee.zero l
 
   -- any other block is as it was
   pub turning_other : (j : ℕ) → j < y.k → (i ≡ j → ⊥) → block_at y from v j ≡ block_at y from v₀ j

@@ -9,7 +9,7 @@ use Rattle.update.specs.Calls.{is_under_way}
 
 -- 21, 23, 24: whether there is such a step, it is done, its forerunners are
 abbrev pub name_fault : Bool → Bool → Bool → ℕ
-name_fault known isDone forerun = pick known (pick isDone 23 (pick forerun 0 24)) 21
+name_fault known is_done forerun = pick known (pick is_done 23 (pick forerun 0 24)) 21
 
 -- 22 first; 0 where the step is ready
 abbrev pub fault_of : ℕ → Progress → Step → ℕ

@@ -11,7 +11,7 @@ use Rattle.storage.specs.Shape.{Shape, columns, size_of}
 use Rattle.storage.specs.Part.{part, store}
 use Rattle.storage.specs.declared.Block.{Block}
 use Rattle.storage.specs.Placed.{block_of, as_columns, Lies, read}
-use Rattle.storage.proofs.Cells.{any_default, length_tab, get_d_tab}
+use Rattle.storage.proofs.Cells.{any_default, length_tab, get_or_tab}
 use Rattle.storage.proofs.Starts.{start_below}
 use Rattle.rules.specs.Arithmetic.{ieee}
 use Rattle.rules.specs.Begin.{fixed_cell}
@@ -78,7 +78,7 @@ module _ (h : List ℕ) (w : List Float) (y : Layout) (fit : Fits y h (length w)
     row_block r =
         let made : Layout → Shape → ℕ → List Float =
         λ z s n. tab n (λ c. fixed_cell ieee (theta_of h w j) (cell_of s (part (loaded_at z z.k j) (size_of s) w) r c)) in
-        get_d_tab (layout_of h).k (λ i. tab (levels (layout_of h) i) (λ c. fixed_cell ieee (theta_of h w i) (cell_of (loaded_shape (layout_of h) (entry_row h) (layout_of h).k i) (loaded_block h w (layout_of h).k i) r c)))
+        get_or_tab (layout_of h).k (λ i. tab (levels (layout_of h) i) (λ c. fixed_cell ieee (theta_of h w i) (cell_of (loaded_shape (layout_of h) (entry_row h) (layout_of h).k i) (loaded_block h w (layout_of h).k i) r c)))
         j [] (rw fit.same at l)
         ∙ sym (ap (λ (z : Layout). made z (loaded_shape z (entry_row h) z.k j) (levels z j)) fit.same)
         ∙ ap₂ (made y) (fixed_shape_lem (entry_row h)) (sym (rows_level y j l))

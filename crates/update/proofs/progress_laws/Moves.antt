@@ -106,14 +106,14 @@ pub state_law : (k : ℕ) (g : Progress) → valid_progress k g ≡ true → val
 state_law k g e = (tests k g e).3
 
 -- an update that is begun is finished with no step left, and under way before
-pub begun_state : (s : State) (left every-step : ℕ) → (s ≡ Idle → ⊥) → valid_state s left every-step ≡ true → s ≡ cond (eqb left 0) Finished UnderWay
-begun_state Idle left every-step b e = absurd (b refl)
-begun_state UnderWay left every-step b e = rw (ne_eqb left 0 (λ q. omega (arith, ltb-true 0 left e)))
-begun_state Finished left every-step b e = rw e
+pub begun_state : (s : State) (left every_step : ℕ) → (s ≡ Idle → ⊥) → valid_state s left every_step ≡ true → s ≡ cond (eqb left 0) Finished UnderWay
+begun_state Idle left every_step b e = absurd (b refl)
+begun_state UnderWay left every_step b e = rw (ne_eqb left 0 (λ q. omega (arith, ltb-true 0 left e)))
+begun_state Finished left every_step b e = rw e
 
 -- so with a step left it is under way
-pub under_way_lem : (s : State) (left every-step : ℕ) → (s ≡ Idle → ⊥) → valid_state s left every-step ≡ true → 1 ≤ left → s ≡ UnderWay
-under_way_lem s left every-step b e h = begun_state s left every-step b e ∙ rw (ne_eqb left 0 (λ q. omega arith))
+pub under_way_lem : (s : State) (left every_step : ℕ) → (s ≡ Idle → ⊥) → valid_state s left every_step ≡ true → 1 ≤ left → s ≡ UnderWay
+under_way_lem s left every_step b e h = begun_state s left every_step b e ∙ rw (ne_eqb left 0 (λ q. omega arith))
 
 -- after a step it is not none
 abbrev pub is_idle : State → Bool
@@ -126,9 +126,9 @@ never_idle true e = true≢false (ap is_idle (sym e))
 never_idle false e = true≢false (ap is_idle (sym e))
 
 -- a state under way is valid after a step more: under way, or finished with the last
-state_advanced : (s : State) (left every-step : ℕ) → s ≡ UnderWay → valid_state s left every-step ≡ true
-    → (0 < left) × (valid_state (cond (eqb left 1) Finished UnderWay) (left - 1) every-step ≡ true)
-state_advanced s left every-step u e =
+state_advanced : (s : State) (left every_step : ℕ) → s ≡ UnderWay → valid_state s left every_step ≡ true
+    → (0 < left) × (valid_state (cond (eqb left 1) Finished UnderWay) (left - 1) every_step ≡ true)
+state_advanced s left every_step u e =
     let going : 0 < left = ltb-true 0 left (rw u at e) in (
       going,
       by_cases (dec_lt 1 left) (λ m. rw (ne_eqb left 1 (λ q. omega arith)) (lt-ltb 0 (left - 1) (omega arith)))

@@ -26,7 +26,7 @@ subtract_entry-requires c = let below : c.wide-r.result < c.args.a.rows = rw c.w
 pub loop-c-preserved : goal.loop-c-preserved
 loop-c-preserved c = let below : c.wide-r.result < c.args.a.rows = rw c.wide-r.ensures (c.requires.2.1 c.loop-c.c c.loop-c-test.true) in
     let l = c.loop-c in let k = c.wide-r in
-    let t = skip_more _ _ _ _ _ _ c.requires.0 l.c c.loop-c-test.true l.v l.invariant.2 k.result (below) k.ensures
+    let t = skip_more _ _ _ _ _ _ c.requires.0 l.c c.loop-c-test.true l.v l.invariant.2 k.result below k.ensures
     (omega (arith, start_single c.args.a.cols)) _ c.subtract_entry.ensures in
     (omega arith, omega arith, rw add-one t)
 

@@ -22,7 +22,7 @@ pub loop-c-preserved : goal.loop-c-preserved
 loop-c-preserved c = let below : c.wide-r.result < c.args.a.rows = rw c.wide-r.ensures (c.requires.2.1 c.loop-c.c c.loop-c-test.true) in
     let k = c.wide-r in
     rw c.value-y.ensures
-    (sparse_subtracted _ _ _ _ _ _ c.requires.0 (omega (arith, start_single c.args.a.cols)) c.loop-c.invariant c.loop-c-test.true k.result (below) k.ensures)
+    (sparse_subtracted _ _ _ _ _ _ c.requires.0 (omega (arith, start_single c.args.a.cols)) c.loop-c.invariant c.loop-c-test.true k.result below k.ensures)
 
 pub returns : goal.returns
 returns c = filling_done c.loop-c.invariant (omega arith)

@@ -14,4 +14,4 @@ put_blocks-requires c = let h = (c.args.heading).now in
 
 pub returns : goal.returns
 returns c = let a = c.args in
-    lines_put (a.heading).now (a.doubles).now _ c.layout.ensures (a.out).now _ _ c.put_blocks.ensures
+    lines_put a.heading.now a.doubles.now _ c.layout.ensures a.out.now _ _ c.put_blocks.ensures

@@ -12,8 +12,8 @@ slice_bounds-put_factor-end c = sym (length-take-le c.args.starts.counts.k _ (om
 pub returns-then-c-bytes : goal.returns-then-c-bytes
 returns-then-c-bytes c = let a = c.args in
     let r = c.read_theta-c.ensures in
-    theta_good (a.bytes).now a.starts (a.heading).now (a.doubles).now _ _ _ _ _ r.0 c.if-c-bytes.true (r.1 (theta_number _ _ c.if-c-bytes.true)) (length-take-le a.starts.counts.k _ (omega (arith, c.requires.0, r.2))) c.put_factor.ensures
+    theta_good a.bytes.now a.starts a.heading.now a.doubles.now _ _ _ _ _ r.0 c.if-c-bytes.true (r.1 (theta_number _ _ c.if-c-bytes.true)) (length-take-le a.starts.counts.k _ (omega (arith, c.requires.0, r.2))) c.put_factor.ensures
 
 pub returns : goal.returns
 returns c = let a = c.args in
-    theta_bad (a.bytes).now a.starts (a.heading).now (a.doubles).now _ _ _ _ c.read_theta-c.ensures.0 c.if-c-bytes.false c.put_refusal.ensures
+    theta_bad a.bytes.now a.starts a.heading.now a.doubles.now _ _ _ _ c.read_theta-c.ensures.0 c.if-c-bytes.false c.put_refusal.ensures

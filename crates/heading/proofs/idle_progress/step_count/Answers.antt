@@ -1,4 +1,4 @@
--- `heading::idle_progress::step_count_lem`: the closed formula.
+-- `heading::idle_progress::step_count`: the closed formula.
 use native.Mathlib.Omega.{arith}
 use Rattle.heading.proofs.idle_progress.Count.{pair_small, triple_small, step_count_lem}
 use Rattle.heading.proofs.idle_progress.step_count.Goals as goal

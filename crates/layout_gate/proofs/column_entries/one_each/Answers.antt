@@ -1,4 +1,4 @@
--- `layout_gate::column_entries::one_each_lem`: the pass over the zz lines of the held sheet, which rise.
+-- `layout_gate::column_entries::one_each`: the pass over the zz lines of the held sheet, which rise.
 use mathlib.Core.Path.{◌∙◌}
 use Rattle.sheet.proofs.Whole.{read_whole}
 use Rattle.layout_gate.proofs.column_entries.Lines.{held_turn}

@@ -8,4 +8,4 @@ use Rattle.load.proofs.room.has_room.Goals as goal
 
 pub returns : goal.returns
 returns c = let a = c.args in
-    ap (λ (room : Room). leb room.numbers (length (a.heading).now) && leb room.doubles (length (a.w).now)) c.room_of-room.ensures
+    ap (λ (room : Room). leb room.numbers (length a.heading.now) && leb room.doubles (length a.w.now)) c.room_of-room.ensures

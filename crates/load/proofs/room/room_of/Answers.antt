@@ -1,4 +1,4 @@
--- `load::room::room_of_lem`: both lengths.
+-- `load::room::room_of`: both lengths.
 use Prim.Native.Nat.{ℕ}
 use mathlib.Core.Path.{ap₂}
 use Rattle.load.specs.declared.room.Room.{Room}

@@ -8,4 +8,4 @@ use Rattle.load_numbers.proofs.clear_doubles.clear_all.Goals as goal
 
 pub returns : goal.returns
 returns c = let a = c.args in
-    c.clear.ensures ∙ ap (λ (n : ℕ). store 0 (tab n (λ i. ieee.zero)) (a.doubles).now) c.doubles_needed.ensures
+    c.clear.ensures ∙ ap (λ (n : ℕ). store 0 (tab n (λ i. ieee.zero)) a.doubles.now) c.doubles_needed.ensures

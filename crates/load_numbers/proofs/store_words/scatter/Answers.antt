@@ -17,13 +17,13 @@ place_of-requires c = (c.requires.0, refl, c.requires.1.first, c.requires.1.at, 
 pub double_of-requires : goal.double_of-requires
 double_of-requires c = let a = c.args in
     let l = c.loop-left in
-    each_now FiniteWord (line_of a.run (a.bytes).now) l.left l.p c.line_at-l.result (omega arith) c.line_at-l.ensures l.invariant.1
+    each_now FiniteWord (line_of a.run a.bytes.now) l.left l.p c.line_at-l.result (omega arith) c.line_at-l.ensures l.invariant.1
 
 pub loop-left-preserved : goal.loop-left-preserved
 loop-left-preserved c = let a = c.args in
     let l = c.loop-left in
     let line = c.line_at-l in
-    let read = line_of a.run (a.bytes).now in
+    let read = line_of a.run a.bytes.now in
     let made : c.put.new.doubles ≡ put_word a.run a.layout l.i line.result l.doubles =
     c.put.ensures
     ∙ ap₂ (λ (p : ℕ) (x : Float). set l.doubles p x) c.place_of.ensures c.double_of.ensures in (
@@ -37,4 +37,4 @@ loop-left-preserved c = let a = c.args in
 
 pub returns : goal.returns
 returns c = let a = c.args in let l = c.loop-left in
-    sym (spread_none (put_word a.run a.layout) (line_of a.run (a.bytes).now) l.left l.i l.p l.doubles (omega arith)) ∙ l.invariant.3
+    sym (spread_none (put_word a.run a.layout) (line_of a.run a.bytes.now) l.left l.i l.p l.doubles (omega arith)) ∙ l.invariant.3

@@ -23,12 +23,12 @@ bounds-counts-t c = omega (arith, (is_valid c.args.layout c.requires.0).blocks.1
 
 pub overflow_mul-result : goal.overflow_mul-result
 overflow_mul-result c = let a = c.args in
-    omega (arith, low a.layout (a.counts).now a.i a.c a.r c.requires.0 c.requires.1 c.requires.2 c.requires.3 c.requires.4)
+    omega (arith, low a.layout a.counts.now a.i a.c a.r c.requires.0 c.requires.1 c.requires.2 c.requires.3 c.requires.4)
 
 pub overflow_add-result : goal.overflow_add-result
 overflow_add-result c = let a = c.args in
-    omega (arith, low a.layout (a.counts).now a.i a.c a.r c.requires.0 c.requires.1 c.requires.2 c.requires.3 c.requires.4)
+    omega (arith, low a.layout a.counts.now a.i a.c a.r c.requires.0 c.requires.1 c.requires.2 c.requires.3 c.requires.4)
 
 pub returns : goal.returns
 returns c = let a = c.args in
-    (rw c.if-layout.false (ap (λ (t : List ℕ). a.c * get_or t a.i 0 + a.r) c.requires.1), low a.layout (a.counts).now a.i a.c a.r c.requires.0 c.requires.1 c.requires.2 c.requires.3 c.requires.4)
+    (rw c.if-layout.false (ap (λ (t : List ℕ). a.c * get_or t a.i 0 + a.r) c.requires.1), low a.layout a.counts.now a.i a.c a.r c.requires.0 c.requires.1 c.requires.2 c.requires.3 c.requires.4)

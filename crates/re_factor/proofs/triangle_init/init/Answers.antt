@@ -1,5 +1,5 @@
 use mathlib.Core.Path.{refl}
-use Prim.Native.Nat.{suc, ◌≤◌, ◌+◌}
+use Prim.Native.Nat.{◌+◌}
 use native.Mathlib.Omega.{arith}
 use native.Mathlib.Numerals.{add-one}
 use lib.ListN.{length-set}
@@ -17,24 +17,19 @@ loop-r-init c = let a = c.args in
     (omega arith, omega arith, refl, omega (arith, start_single a.b.rows), begun_none (as_triangle a.b) (loaded_of a.b a.src) a.t a.doubles.now c.requires.0)
 
 pub clear-requires : goal.clear-requires
-clear-requires c = let room : start triangle c.loop-r.r + suc c.loop-r.r ≤ start triangle c.args.b.rows = start_below triangle c.loop-r.r c.args.b.rows c.loop-r-test.true in
-    omega (arith, room)
+clear-requires c = omega (arith, start_below triangle c.loop-r.r c.args.b.rows c.loop-r-test.true)
 
 pub overflow_add-doubles-in-loop-r : goal.overflow_add-doubles-in-loop-r
-overflow_add-doubles-in-loop-r c = let room : start triangle c.loop-r.r + suc c.loop-r.r ≤ start triangle c.args.b.rows = start_below triangle c.loop-r.r c.args.b.rows c.loop-r-test.true in
-    omega (arith, room)
+overflow_add-doubles-in-loop-r c = omega (arith, start_below triangle c.loop-r.r c.args.b.rows c.loop-r-test.true)
 
 pub offset_bounds-doubles-at : goal.offset_bounds-doubles-at
-offset_bounds-doubles-at c = let room : start triangle c.loop-r.r + suc c.loop-r.r ≤ start triangle c.args.b.rows = start_below triangle c.loop-r.r c.args.b.rows c.loop-r-test.true in
-    omega (arith, room)
+offset_bounds-doubles-at c = omega (arith, start_below triangle c.loop-r.r c.args.b.rows c.loop-r-test.true)
 
 pub bounds-doubles-at : goal.bounds-doubles-at
-bounds-doubles-at c = let room : start triangle c.loop-r.r + suc c.loop-r.r ≤ start triangle c.args.b.rows = start_below triangle c.loop-r.r c.args.b.rows c.loop-r-test.true in
-    omega (arith, room)
+bounds-doubles-at c = omega (arith, start_below triangle c.loop-r.r c.args.b.rows c.loop-r-test.true)
 
 pub overflow_add-at : goal.overflow_add-at
-overflow_add-at c = let room : start triangle c.loop-r.r + suc c.loop-r.r ≤ start triangle c.args.b.rows = start_below triangle c.loop-r.r c.args.b.rows c.loop-r-test.true in
-    omega (arith, room)
+overflow_add-at c = omega (arith, start_below triangle c.loop-r.r c.args.b.rows c.loop-r-test.true)
 
 pub loop-r-preserved : goal.loop-r-preserved
 unfolding start

@@ -1,5 +1,5 @@
 use mathlib.Core.Path.{◌≡◌, ap, ◌∙◌}
-use Prim.Native.Nat.{◌≤◌, ◌-◌, ◌+◌, suc}
+use Prim.Native.Nat.{◌-◌, ◌+◌, suc}
 use native.Mathlib.Omega.{arith}
 use native.Mathlib.Numerals.{add-one}
 use Rattle.storage.specs.Runs.{start, triangle}
@@ -11,30 +11,25 @@ pub loop-q-init : goal.loop-q-init
 loop-q-init c = (omega arith, omega arith, omega arith, column_none c.args.s c.args.l.now c.args.t.now c.args.i)
 
 pub overflow_add-v : goal.overflow_add-v
-overflow_add-v c = let room : start triangle c.loop-q.q + suc c.loop-q.q ≤ start triangle c.args.n = start_below triangle c.loop-q.q c.args.n c.loop-q-test.true in
-    omega (arith, room)
+overflow_add-v c = omega (arith, start_below triangle c.loop-q.q c.args.n c.loop-q-test.true)
 
 pub offset_bounds-l-row : goal.offset_bounds-l-row
-offset_bounds-l-row c = let room : start triangle c.loop-q.q + suc c.loop-q.q ≤ start triangle c.args.n = start_below triangle c.loop-q.q c.args.n c.loop-q-test.true in
-    omega (arith, room)
+offset_bounds-l-row c = omega (arith, start_below triangle c.loop-q.q c.args.n c.loop-q-test.true)
 
 pub bounds-l-row : goal.bounds-l-row
-bounds-l-row c = let room : start triangle c.loop-q.q + suc c.loop-q.q ≤ start triangle c.args.n = start_below triangle c.loop-q.q c.args.n c.loop-q-test.true in
-    omega (arith, room)
+bounds-l-row c = omega (arith, start_below triangle c.loop-q.q c.args.n c.loop-q-test.true)
 
 pub overflow_add-row : goal.overflow_add-row
-overflow_add-row c = let room : start triangle c.loop-q.q + suc c.loop-q.q ≤ start triangle c.args.n = start_below triangle c.loop-q.q c.args.n c.loop-q-test.true in
-    omega (arith, room)
+overflow_add-row c = omega (arith, start_below triangle c.loop-q.q c.args.n c.loop-q-test.true)
 
 pub loop-q-preserved : goal.loop-q-preserved
 unfolding start
-loop-q-preserved c = let room : start triangle c.loop-q.q + suc c.loop-q.q ≤ start triangle c.args.n = start_below triangle c.loop-q.q c.args.n c.loop-q-test.true in
-    let a = c.args in let l = c.loop-q in
+loop-q-preserved c = let a = c.args in let l = c.loop-q in
     let e : suc (l.q - suc a.i) ≡ l.q + 1 - suc a.i = omega arith in (
       omega arith,
       omega arith,
       rw add-one (omega arith),
-      column_turn a.s l.v a.l.now a.t.now a.i l.q l.row (l.q - suc a.i) (omega arith) l.invariant.2 (omega (arith, room)) (omega arith) l.invariant.3
+      column_turn a.s l.v a.l.now a.t.now a.i l.q l.row (l.q - suc a.i) (omega arith) l.invariant.2 (omega (arith, start_below triangle c.loop-q.q c.args.n c.loop-q-test.true)) (omega arith) l.invariant.3
           ∙ ap (column_to a.s a.l.now a.t.now a.i) e,
     )
 

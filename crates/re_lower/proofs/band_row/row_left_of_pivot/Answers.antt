@@ -1,5 +1,4 @@
 use mathlib.Core.Path.{◌≡◌, refl}
-use Prim.Native.Nat.{◌≤◌, ◌+◌, suc}
 use native.Mathlib.Omega.{arith}
 use native.Mathlib.Numerals.{add-one}
 use lib.ListN.{length-set}
@@ -12,24 +11,19 @@ pub loop-c-init : goal.loop-c-init
 loop-c-init c = (omega arith, omega arith, refl, λ w k q. q)
 
 pub chain-requires : goal.chain-requires
-chain-requires c = let room : start triangle c.loop-c.c + suc c.loop-c.c ≤ start triangle c.args.r = start_below triangle c.loop-c.c c.args.r c.loop-c-test.true in
-    omega (arith, room)
+chain-requires c = omega (arith, start_below triangle c.loop-c.c c.args.r c.loop-c-test.true)
 
 pub overflow_add-t : goal.overflow_add-t
-overflow_add-t c = let room : start triangle c.loop-c.c + suc c.loop-c.c ≤ start triangle c.args.r = start_below triangle c.loop-c.c c.args.r c.loop-c-test.true in
-    omega (arith, room)
+overflow_add-t c = omega (arith, start_below triangle c.loop-c.c c.args.r c.loop-c-test.true)
 
 pub offset_bounds-t-at : goal.offset_bounds-t-at
-offset_bounds-t-at c = let room : start triangle c.loop-c.c + suc c.loop-c.c ≤ start triangle c.args.r = start_below triangle c.loop-c.c c.args.r c.loop-c-test.true in
-    omega (arith, room)
+offset_bounds-t-at c = omega (arith, start_below triangle c.loop-c.c c.args.r c.loop-c-test.true)
 
 pub bounds-t-at : goal.bounds-t-at
-bounds-t-at c = let room : start triangle c.loop-c.c + suc c.loop-c.c ≤ start triangle c.args.r = start_below triangle c.loop-c.c c.args.r c.loop-c-test.true in
-    omega (arith, room)
+bounds-t-at c = omega (arith, start_below triangle c.loop-c.c c.args.r c.loop-c-test.true)
 
 pub overflow_add-at : goal.overflow_add-at
-overflow_add-at c = let room : start triangle c.loop-c.c + suc c.loop-c.c ≤ start triangle c.args.r = start_below triangle c.loop-c.c c.args.r c.loop-c-test.true in
-    omega (arith, room)
+overflow_add-at c = omega (arith, start_below triangle c.loop-c.c c.args.r c.loop-c-test.true)
 
 pub loop-c-preserved : goal.loop-c-preserved
 unfolding start

@@ -1,5 +1,5 @@
 use mathlib.Core.Path.{◌≡◌, refl, sym, ap, ◌∙◌}
-use Prim.Native.Nat.{ℕ, ◌≤◌, ◌+◌, suc}
+use Prim.Native.Nat.{ℕ}
 use native.Mathlib.Omega.{arith}
 use native.Mathlib.Numerals.{add-one}
 use lib.ListN.{length-set}
@@ -25,12 +25,11 @@ next_band-base-requires c = let l = c.loop-r in
     (omega arith, omega arith, omega arith, l.invariant.1, omega arith)
 
 pub band_row-requires : goal.band_row-requires
-band_row-requires c = let room : start triangle c.loop-r.r + suc c.loop-r.r ≤ start triangle c.args.n = start_below triangle c.loop-r.r c.args.n c.loop-r-test.true in
-    let a = c.args in
+band_row-requires c = let a = c.args in
     let l = c.loop-r in
     let k = c.next_band-base in (
       l.invariant.1,
-      omega (arith, room),
+      omega (arith, start_below triangle c.loop-r.r c.args.n c.loop-r-test.true),
       k.ensures.within,
       k.ensures.short,
       k.ensures.room,
@@ -39,20 +38,16 @@ band_row-requires c = let room : start triangle c.loop-r.r + suc c.loop-r.r ≤ 
     )
 
 pub overflow_add-v : goal.overflow_add-v
-overflow_add-v c = let room : start triangle c.loop-r.r + suc c.loop-r.r ≤ start triangle c.args.n = start_below triangle c.loop-r.r c.args.n c.loop-r-test.true in
-    omega (arith, room)
+overflow_add-v c = omega (arith, start_below triangle c.loop-r.r c.args.n c.loop-r-test.true)
 
 pub offset_bounds-t-from : goal.offset_bounds-t-from
-offset_bounds-t-from c = let room : start triangle c.loop-r.r + suc c.loop-r.r ≤ start triangle c.args.n = start_below triangle c.loop-r.r c.args.n c.loop-r-test.true in
-    omega (arith, room)
+offset_bounds-t-from c = omega (arith, start_below triangle c.loop-r.r c.args.n c.loop-r-test.true)
 
 pub bounds-t-from : goal.bounds-t-from
-bounds-t-from c = let room : start triangle c.loop-r.r + suc c.loop-r.r ≤ start triangle c.args.n = start_below triangle c.loop-r.r c.args.n c.loop-r-test.true in
-    omega (arith, room)
+bounds-t-from c = omega (arith, start_below triangle c.loop-r.r c.args.n c.loop-r-test.true)
 
 pub chain-d-requires : goal.chain-d-requires
-chain-d-requires c = let room : start triangle c.loop-r.r + suc c.loop-r.r ≤ start triangle c.args.n = start_below triangle c.loop-r.r c.args.n c.loop-r-test.true in
-    omega (arith, room)
+chain-d-requires c = omega (arith, start_below triangle c.loop-r.r c.args.n c.loop-r-test.true)
 
 pub returns-then-refused : goal.returns-then-refused
 unfolding fill
@@ -62,25 +57,21 @@ returns-then-refused c = let tested : c.refused.result ≡ ieee.refused (radican
     let a = c.args in
     let l = c.loop-r in
     record {
-      answer = ap answer_of (sym (refused_at_lem ieee (radicand ieee (lower a.t.now)) l.r a.n c.loop-r-test.true l.invariant.4 (sym (tested) ∙ c.if-refused.true)));
+      answer = ap answer_of (sym (refused_at_lem ieee (radicand ieee (lower a.t.now)) l.r a.n c.loop-r-test.true l.invariant.4 (sym tested ∙ c.if-refused.true)));
       left = row_done a.t.now a.n c.requires.0 l.r c.loop-r-test.true l.t _ (omega arith) l.invariant.3 l.from l.invariant.1 c.band_row.ensures;
     }
 
 pub overflow_add-t : goal.overflow_add-t
-overflow_add-t c = let room : start triangle c.loop-r.r + suc c.loop-r.r ≤ start triangle c.args.n = start_below triangle c.loop-r.r c.args.n c.loop-r-test.true in
-    omega (arith, room)
+overflow_add-t c = omega (arith, start_below triangle c.loop-r.r c.args.n c.loop-r-test.true)
 
 pub offset_bounds-t-from-in-loop-r : goal.offset_bounds-t-from-in-loop-r
-offset_bounds-t-from-in-loop-r c = let room : start triangle c.loop-r.r + suc c.loop-r.r ≤ start triangle c.args.n = start_below triangle c.loop-r.r c.args.n c.loop-r-test.true in
-    omega (arith, room)
+offset_bounds-t-from-in-loop-r c = omega (arith, start_below triangle c.loop-r.r c.args.n c.loop-r-test.true)
 
 pub bounds-t-from-in-loop-r : goal.bounds-t-from-in-loop-r
-bounds-t-from-in-loop-r c = let room : start triangle c.loop-r.r + suc c.loop-r.r ≤ start triangle c.args.n = start_below triangle c.loop-r.r c.args.n c.loop-r-test.true in
-    omega (arith, room)
+bounds-t-from-in-loop-r c = omega (arith, start_below triangle c.loop-r.r c.args.n c.loop-r-test.true)
 
 pub overflow_add-from : goal.overflow_add-from
-overflow_add-from c = let room : start triangle c.loop-r.r + suc c.loop-r.r ≤ start triangle c.args.n = start_below triangle c.loop-r.r c.args.n c.loop-r-test.true in
-    omega (arith, room)
+overflow_add-from c = omega (arith, start_below triangle c.loop-r.r c.args.n c.loop-r-test.true)
 
 pub loop-r-preserved : goal.loop-r-preserved
 unfolding start
@@ -94,7 +85,7 @@ loop-r-preserved c = let tested : c.refused.result ≡ ieee.refused (radicand ie
       rw add-one (omega arith),
       simp length-set (omega arith),
       rw add-one (chol_turn a.t.now a.n c.requires.0 l.r c.loop-r-test.true l.t _ (omega arith) l.invariant.3 l.from l.invariant.1 c.band_row.ensures _ c.chain-d.ensures _ c.sqrt.ensures),
-      rw add-one (goes_on ieee (radicand ieee (lower a.t.now)) l.r l.invariant.4 (sym (tested) ∙ c.if-refused.false)),
+      rw add-one (goes_on ieee (radicand ieee (lower a.t.now)) l.r l.invariant.4 (sym tested ∙ c.if-refused.false)),
       omega (arith, k.ensures.within),
       omega arith,
       k.ensures.ready a.t.now c.requires.0 l.invariant.3 l.invariant.7,

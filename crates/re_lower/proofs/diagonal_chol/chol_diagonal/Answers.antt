@@ -23,7 +23,7 @@ returns-then-refused c = let tested : c.refused.result ≡ ieee.refused (pivot c
     c.refused.ensures ∙ ap ieee.refused (root_own c.args.t.now l.r (omega arith) l.t l.invariant.1 l.invariant.2) in
     let a = c.args in let l = c.loop-r in
     record {
-      answer = ap answer_of (sym (refused_at_lem ieee (pivot a.t.now) l.r a.n c.loop-r-test.true l.invariant.3 (sym (tested) ∙ c.if-refused.true)));
+      answer = ap answer_of (sym (refused_at_lem ieee (pivot a.t.now) l.r a.n c.loop-r-test.true l.invariant.3 (sym tested ∙ c.if-refused.true)));
       left = l.invariant.2 ∙ ap (λ x. store 0 x a.t.now) (sym (fill_diagonal l.r (λ r c. ieee.root (pivot a.t.now r))));
     }
 
@@ -35,7 +35,7 @@ loop-r-preserved c = let tested : c.refused.result ≡ ieee.refused (pivot c.arg
       omega arith,
       simp length-set l.invariant.1,
       rw add-one (root_turn a.t.now l.r (omega arith) l.t l.invariant.1 l.invariant.2 _ c.sqrt.ensures),
-      rw add-one (goes_on ieee (pivot a.t.now) l.r l.invariant.3 (sym (tested) ∙ c.if-refused.false)),
+      rw add-one (goes_on ieee (pivot a.t.now) l.r l.invariant.3 (sym tested ∙ c.if-refused.false)),
     )
 
 pub returns : goal.returns

@@ -1,5 +1,5 @@
 use mathlib.Core.Path.{◌≡◌, refl, sym, ap, ◌∙◌}
-use Prim.Native.Nat.{◌≤◌, ◌+◌, suc}
+use Prim.Native.Nat.{◌+◌, suc}
 use native.Mathlib.Omega.{arith}
 use native.Mathlib.Numerals.{add-one}
 use native.Mathlib.Nat.{add-zero}
@@ -13,16 +13,13 @@ loop-i-init c = let a = c.args in
     (omega arith, c.requires.1 ∙ ap (start triangle) (sym (add-zero a.base)), refl, (λ i y h k. absurd (omega arith)))
 
 pub gather_row-requires : goal.gather_row-requires
-gather_row-requires c = let room : start triangle (c.args.base + c.loop-i.i) + suc (c.args.base + c.loop-i.i) ≤ start triangle (c.args.base + c.args.rows) = start_below triangle (c.args.base + c.loop-i.i) (c.args.base + c.args.rows) (omega arith) in
-    omega (arith, room)
+gather_row-requires c = omega (arith, start_below triangle (c.args.base + c.loop-i.i) (c.args.base + c.args.rows) (omega arith))
 
 pub overflow_add-at : goal.overflow_add-at
-overflow_add-at c = let room : start triangle (c.args.base + c.loop-i.i) + suc (c.args.base + c.loop-i.i) ≤ start triangle (c.args.base + c.args.rows) = start_below triangle (c.args.base + c.loop-i.i) (c.args.base + c.args.rows) (omega arith) in
-    omega (arith, room)
+overflow_add-at c = omega (arith, start_below triangle (c.args.base + c.loop-i.i) (c.args.base + c.args.rows) (omega arith))
 
 pub overflow_add-at-in-loop-i : goal.overflow_add-at-in-loop-i
-overflow_add-at-in-loop-i c = let room : start triangle (c.args.base + c.loop-i.i) + suc (c.args.base + c.loop-i.i) ≤ start triangle (c.args.base + c.args.rows) = start_below triangle (c.args.base + c.loop-i.i) (c.args.base + c.args.rows) (omega arith) in
-    omega (arith, room)
+overflow_add-at-in-loop-i c = omega (arith, start_below triangle (c.args.base + c.loop-i.i) (c.args.base + c.args.rows) (omega arith))
 
 pub loop-i-preserved : goal.loop-i-preserved
 unfolding start

@@ -1,5 +1,4 @@
 use mathlib.Core.Path.{◌≡◌, refl, sym, ap, ◌∙◌}
-use Prim.Native.Nat.{◌<◌}
 use native.Mathlib.Omega.{arith}
 use native.Mathlib.Numerals.{add-one}
 use lib.ListN.{length-set}
@@ -14,21 +13,17 @@ unfolding tab
 loop-c-init c = (omega arith, refl, sym (store_nil c.args.from c.args.t.now))
 
 pub overflow_add-t : goal.overflow_add-t
-overflow_add-t c = let inside : c.args.i < 4 = c.requires.0 (omega arith) in
-    omega (arith, inside)
+overflow_add-t c = omega (arith, c.requires.0 (omega arith))
 
 pub offset_bounds-x-c : goal.offset_bounds-x-c
-offset_bounds-x-c c = let inside : c.args.i < 4 = c.requires.0 (omega arith) in
-    omega (arith, inside)
+offset_bounds-x-c c = omega (arith, c.requires.0 (omega arith))
 
 pub bounds-x-c : goal.bounds-x-c
-bounds-x-c c = let inside : c.args.i < 4 = c.requires.0 (omega arith) in
-    omega (arith, inside)
+bounds-x-c c = omega (arith, c.requires.0 (omega arith))
 
 pub loop-c-preserved : goal.loop-c-preserved
-loop-c-preserved c = let inside : c.args.i < 4 = c.requires.0 (omega arith) in
-    let a = c.args in let l = c.loop-c in
-    (omega arith, simp length-set l.invariant.1, rw add-one (put_turn a.t.now a.x.now l.t a.from a.i l.c _ (omega arith) refl (omega (arith, inside)) l.invariant.2))
+loop-c-preserved c = let a = c.args in let l = c.loop-c in
+    (omega arith, simp length-set l.invariant.1, rw add-one (put_turn a.t.now a.x.now l.t a.from a.i l.c _ (omega arith) refl (omega (arith, c.requires.0 (omega arith))) l.invariant.2))
 
 pub returns : goal.returns
 returns c = let a = c.args in let e : c.loop-c.c ≡ a.n = omega arith in

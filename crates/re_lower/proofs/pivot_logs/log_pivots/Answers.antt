@@ -1,5 +1,5 @@
 use mathlib.Core.Path.{◌≡◌, refl, ap}
-use Prim.Native.Nat.{ℕ, ◌≤◌, ◌+◌, suc}
+use Prim.Native.Nat.{ℕ, ◌+◌}
 use native.Mathlib.Omega.{arith}
 use native.Mathlib.Numerals.{add-one}
 use Rattle.storage.specs.Runs.{start, triangle}
@@ -16,31 +16,26 @@ unfolding start logs_from
 loop-r-init c = (omega arith, refl, refl)
 
 pub overflow_add-from : goal.overflow_add-from
-overflow_add-from c = let room : start triangle c.loop-r.r + suc c.loop-r.r ≤ start triangle c.args.n = start_below triangle c.loop-r.r c.args.n c.loop-r-test.true in
-    omega (arith, room)
+overflow_add-from c = omega (arith, start_below triangle c.loop-r.r c.args.n c.loop-r-test.true)
 
 pub offset_bounds-t-from : goal.offset_bounds-t-from
-offset_bounds-t-from c = let room : start triangle c.loop-r.r + suc c.loop-r.r ≤ start triangle c.args.n = start_below triangle c.loop-r.r c.args.n c.loop-r-test.true in
-    omega (arith, room)
+offset_bounds-t-from c = omega (arith, start_below triangle c.loop-r.r c.args.n c.loop-r-test.true)
 
 pub bounds-t-from : goal.bounds-t-from
-bounds-t-from c = let room : start triangle c.loop-r.r + suc c.loop-r.r ≤ start triangle c.args.n = start_below triangle c.loop-r.r c.args.n c.loop-r-test.true in
-    omega (arith, room)
+bounds-t-from c = omega (arith, start_below triangle c.loop-r.r c.args.n c.loop-r-test.true)
 
 pub overflow_add-from-in-loop-r : goal.overflow_add-from-in-loop-r
-overflow_add-from-in-loop-r c = let room : start triangle c.loop-r.r + suc c.loop-r.r ≤ start triangle c.args.n = start_below triangle c.loop-r.r c.args.n c.loop-r-test.true in
-    omega (arith, room)
+overflow_add-from-in-loop-r c = omega (arith, start_below triangle c.loop-r.r c.args.n c.loop-r-test.true)
 
 pub loop-r-preserved : goal.loop-r-preserved
 unfolding start
-loop-r-preserved c = let room : start triangle c.loop-r.r + suc c.loop-r.r ≤ start triangle c.args.n = start_below triangle c.loop-r.r c.args.n c.loop-r-test.true in
-    let a = c.args in let l = c.loop-r in (
-      omega arith,
-      rw add-one (omega arith),
-      rw add-one
-          (log_turn a.s l.v _ a.t.now _ l.r (λ r. lower a.t.now r r) (omega (arith, room))
-          (ap (λ (i : ℕ). at ieee a.t.now (i + l.r)) l.invariant.1) l.invariant.2 c.ln-v.ensures),
-    )
+loop-r-preserved c = let a = c.args in let l = c.loop-r in (
+  omega arith,
+  rw add-one (omega arith),
+  rw add-one
+      (log_turn a.s l.v _ a.t.now _ l.r (λ r. lower a.t.now r r) (omega (arith, start_below triangle c.loop-r.r c.args.n c.loop-r-test.true))
+      (ap (λ (i : ℕ). at ieee a.t.now (i + l.r)) l.invariant.1) l.invariant.2 c.ln-v.ensures),
+)
 
 pub returns : goal.returns
 returns c = let e : c.loop-r.r ≡ c.args.n = omega arith in cc
