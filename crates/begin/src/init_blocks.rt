@@ -15,11 +15,7 @@ fn copy(doubles: &mut [f64], off: usize, src: usize, n: usize)
     requires { (off + n ≤ length doubles.old) × (src + n ≤ off) }
     ensures { doubles.new ≡ store off (part src n doubles.old) doubles.old }
 {
-    let mut i = 0;
-    while i < n {
-        doubles[off + i] = doubles[src + i];
-        i += 1;
-    }
+    doubles.copy_within(src..src + n, off);
 }
 
 // Factor j, scaled: (t·t)·a + 1 on its diagonal, 0 off it.
@@ -53,10 +49,8 @@ fn init_factors(layout: Layout, doubles: &mut [f64], theta: &[f64])
     ensures { BlocksScaled layout theta.now (factors layout.k) doubles.old doubles.new }
 {
     let k = layout.k;
-    let mut j: u64 = 0;
-    while j < k {
+    for j in 0..k {
         init_factor(layout, doubles, theta, j);
-        j += 1;
     }
 }
 
@@ -65,10 +59,8 @@ fn init_row(layout: Layout, doubles: &mut [f64], theta: &[f64], i: u64)
     requires { Room layout (length doubles.old) × (length theta.now ≡ theta_length layout) × (i ≤ layout.k) }
     ensures { BlocksScaled layout theta.now (across i i) doubles.old doubles.new }
 {
-    let mut j: u64 = 0;
-    while j < i {
+    for j in 0..i {
         scaled_blocks::init_off_diagonal(layout, doubles, theta, i, j);
-        j += 1;
     }
 }
 
@@ -78,10 +70,8 @@ fn init_pairs(layout: Layout, doubles: &mut [f64], theta: &[f64])
     ensures { BlocksScaled layout theta.now (pairs layout.k) doubles.old doubles.new }
 {
     let k = layout.k;
-    let mut i: u64 = 0;
-    while i < k {
+    for i in 0..k {
         init_row(layout, doubles, theta, i);
-        i += 1;
     }
 }
 

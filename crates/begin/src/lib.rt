@@ -9,7 +9,7 @@ mod write_begin;
 ghost use Rattle.std.specs.Prelude.{◌≡◌, true, ◌≤◌, length};
 ghost use Rattle.layout.specs.Shapes.{theta_length};
 ghost use Rattle.heading_format.specs.Heading.{under_way, valid_heading};
-ghost use Rattle.refusal.specs.Numbers.{refusal, meaning};
+ghost use Rattle.refusal.specs.Numbers.{meaning};
 ghost use Rattle.workspace.specs.Memory.{heading_with};
 ghost use Rattle.workspace.specs.Answers.{workspace};
 ghost use Rattle.update.specs.Calls.{begin_of};
@@ -20,19 +20,8 @@ ghost use Rattle.heading_format.specs.Fits.{Room};
 use block_places::places;
 use heading::writer;
 use layout::Layout;
-use refusal::{Answer, Refusal};
-use replace_response::finite;
-
-// A number and its two places.
-fn refused(number: u64, first: u64, second: u64) -> Refusal
-    ensures { result ≡ refusal number first second }
-{
-    Refusal {
-        number,
-        first,
-        second,
-    }
-}
+use refusal::Refusal;
+use replace_response::list_faults;
 
 // The doubles, and the progress of an update just begun.
 fn write(layout: Layout, heading: &mut [u32], doubles: &mut [f64], theta: &[f64])
@@ -44,29 +33,26 @@ fn write(layout: Layout, heading: &mut [u32], doubles: &mut [f64], theta: &[f64]
 }
 
 // Begin in a workspace: 13 where theta has another length than the layout says, 14 where one is infinite or NaN; else all is written.
-fn begin_valid(heading: &mut [u32], doubles: &mut [f64], theta: &[f64]) -> Answer
+fn begin_valid(heading: &mut [u32], doubles: &mut [f64], theta: &[f64]) -> Result<(), Refusal>
     requires { valid_heading heading.old (length doubles.old) ≡ true }
     ensures { record { answer = result; left = workspace heading.new doubles.new } ≡ begin_of heading.old doubles.old theta.now }
 {
     let layout = heading::layout(heading);
     if theta.len() != places::theta_length(layout) {
-        return Answer::Refused(refused(13, 0, 0));
+        return Err(Refusal::WrongLength { list: 0 });
     }
-    let i = finite::first_infinite(theta);
-    if i < theta.len() {
-        return Answer::Refused(refused(14, 0, i as u64));
-    }
+    list_faults::check_words(0, theta)?;
     write(layout, heading, doubles, theta);
-    Answer::Accepted
+    Ok(())
 }
 
 // Begin (document 01, Record 4). Any numbers, doubles and theta may be lent; where they are refused, with 20, 13 (list 0) or 14 (list 0 and the index),
 // all is left untouched.
-pub fn begin(heading: &mut [u32], doubles: &mut [f64], theta: &[f64]) -> Answer
+pub fn begin(heading: &mut [u32], doubles: &mut [f64], theta: &[f64]) -> Result<(), Refusal>
     ensures { (meaning result ≡ meaning (begin_of heading.old doubles.old theta.now).answer) × (workspace heading.new doubles.new ≡ (begin_of heading.old doubles.old theta.now).left) }
 {
-    if heading_check::is_valid_heading(heading, doubles.len()) {
-        return begin_valid(heading, doubles, theta);
+    if !heading_check::is_valid_heading(heading, doubles.len()) {
+        return Err(Refusal::NoWorkspace);
     }
-    Answer::Refused(refused(20, 0, 0))
+    begin_valid(heading, doubles, theta)
 }

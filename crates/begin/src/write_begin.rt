@@ -7,7 +7,7 @@ ghost use Rattle.heading_format.specs.Fits.{Room};
 
 use crate::init_blocks;
 use block_places::places;
-use block_runs::run_copies;
+use block_runs::runs;
 use heading::idle_progress;
 use heading_format::{Progress, State};
 use layout::Layout;
@@ -28,7 +28,7 @@ pub fn write_doubles(layout: Layout, doubles: &mut [f64], theta: &[f64])
     let at = places::theta_at(layout);
     let sum = places::sum_at(layout);
     let k = theta.len();
-    run_copies::put(doubles, at, at + k, 0, k, theta);
+    runs::copy(doubles, at, k, theta, 0);
     init_blocks::init_blocks(layout, doubles, theta);
     doubles[sum] = 0.0;
 }

@@ -8,13 +8,14 @@ use borrow.Author.Tests.{eq-eqb, lt-ltb}
 use Rattle.storage.specs.Shape.{Shape}
 use Rattle.layout.specs.declared.Layout.{Layout}
 use Rattle.layout.specs.declared.FactorKind.{FactorKind}
-use Rattle.layout.specs.Shapes.{factor_kind, working_at, loaded_shape, loaded_at, doubles_needed}
+use Rattle.layout.specs.Shapes.{factor_kind, working_at, loaded_shape, loaded_at, loaded_length, sum_at, doubles_needed}
 use Rattle.layout.proofs.Places.{size_working, size_loaded, working_inside, working_behind, working_apart, loaded_inside}
 use Rattle.heading_format.specs.Heading.{valid_layout}
 use Rattle.storage.specs.declared.Block.{Block}
 use Rattle.storage.specs.Placed.{Placed, block_of, as_columns, as_diagonal, as_entries, Lies, Apart, Product, Squares}
 use Rattle.block_places.specs.block_kinds.Rows.{rows_of}
 use Rattle.block_places.proofs.block_kinds.Shapes.{rows_level, own_shape, dense_shape, sparse_shape, loaded_pair}
+use Rattle.block_places.proofs.block_sizes.Sizes.{doubles_small}
 use Rattle.block_places.specs.Working.{working, as_factor, placed, placed_loaded}
 
 abbrev placed_at : ℕ → Shape → Placed
@@ -85,3 +86,11 @@ module _ (y : Layout) (row : ℕ → ℕ) where
         off_left = apart room (omega arith) g t (omega arith) g a (λ e f. omega arith);
         off_source = s.1;
       }
+
+-- ---- every loaded block starts low
+loaded_few : (y : Layout) → valid_layout y ≡ true → loaded_length y < 2199023255552
+unfolding sum_at
+loaded_few y ok = omega (arith, doubles_small y ok)
+
+pub loaded_low : (y : Layout) → valid_layout y ≡ true → (i j : ℕ) → j ≤ i → i ≤ y.k → loaded_at y i j < 2199023255552
+loaded_low y ok i j h g = omega (arith, loaded_inside y i j h g, loaded_few y ok)

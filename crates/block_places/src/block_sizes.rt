@@ -74,10 +74,8 @@ fn factor_cells(layout: Layout, loaded: bool, n: u64) -> u64
     ensures { result ≡ cells_of (sizes_of layout loaded) (factors n) }
 {
     let mut cells: u64 = 0;
-    let mut j: u64 = 0;
-    while j < n {
+    for j in 0..n {
         cells += size_of(layout, loaded, j, j);
-        j += 1;
     }
     cells
 }
@@ -88,10 +86,8 @@ fn row_cells(layout: Layout, loaded: bool, i: u64, n: u64) -> u64
     ensures { result ≡ cells_of (sizes_of layout loaded) (across i n) }
 {
     let mut cells: u64 = 0;
-    let mut j: u64 = 0;
-    while j < n {
+    for j in 0..n {
         cells += size_of(layout, loaded, i, j);
-        j += 1;
     }
     cells
 }
@@ -102,10 +98,8 @@ fn pair_cells(layout: Layout, loaded: bool, n: u64) -> u64
     ensures { result ≡ cells_of (sizes_of layout loaded) (pairs n) }
 {
     let mut cells: u64 = 0;
-    let mut i: u64 = 0;
-    while i < n {
+    for i in 0..n {
         cells += row_cells(layout, loaded, i, i);
-        i += 1;
     }
     cells
 }

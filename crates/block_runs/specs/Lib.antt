@@ -1,3 +1,2 @@
 pub mod blocks
 pub mod axpy
-pub mod axpy_pair

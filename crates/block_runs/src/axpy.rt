@@ -1,9 +1,10 @@
 // The loops over one run of doubles that the steps and solves on dense blocks are made of: a vector plus or less multiples of others (axpy).
 // Neighbouring cells belong to different sums, so the loops come out packed while each sum keeps its own order.
-ghost use Rattle.std.specs.Prelude.{◌≡◌, ◌+◌, ◌≤◌, ◌<◌, length};
+ghost use Rattle.std.specs.Prelude.{◌≡◌, ℕ, ◌+◌, ◌≤◌, ◌<◌, length};
 ghost use Rattle.storage.specs.Shape.{columns, size_of};
 ghost use Rattle.rules.specs.Arithmetic.{ieee};
-ghost use Rattle.block_runs.specs.axpy.Axpy.{at, run, add_or_subtract, signed_of, one_more, four_more, Some};
+ghost use Rattle.block_runs.specs.blocks.Blocks.{block};
+ghost use Rattle.block_runs.specs.axpy.Axpy.{at, run, along, products, add_or_subtract, signed_of};
 
 // The factor whose product is added where the product with x is to be subtracted.
 fn signed(x: f64, subtract: bool) -> f64
@@ -15,76 +16,62 @@ fn signed(x: f64, subtract: bool) -> f64
     x
 }
 
-// n sums, each with one product more.
-fn add_one(acc: &mut [f64], n: usize, doubles: &[f64], p: usize, f: f64)
-    requires { (n ≤ length acc.old) × (p + n ≤ length doubles.now) }
-    ensures { acc.new ≡ run 0 n (one_more ieee.plus doubles.now p f (at acc.old)) acc.old }
-{
-    let mut i = 0;
-    while i < n {
-        acc[i] = acc[i] + doubles[p + i] * f;
-        i += 1;
-    }
-}
-
-// n sums, each with four products more, one by one.
-fn add_four(
-    acc: &mut [f64],
-    n: usize,
+// The sum s with N products more, one by one: of cell i of N columns that are `rows` apart, each with its factor.
+pub fn with_products<const N: usize>(
+    s: f64,
     doubles: &[f64],
     p: usize,
-    p1: usize,
-    p2: usize,
-    p3: usize,
-    f: f64,
-    f1: f64,
-    f2: f64,
-    f3: f64,
-)
-    requires { (n ≤ length acc.old) × (p + n ≤ length doubles.now) × (p1 + n ≤ length doubles.now) × (p2 + n ≤ length doubles.now) × (p3 + n ≤ length doubles.now) }
-    ensures { acc.new ≡ run 0 n (one_more ieee.plus doubles.now p3 f3 (one_more ieee.plus doubles.now p2 f2 (one_more ieee.plus doubles.now p1 f1 (one_more ieee.plus doubles.now p f (at acc.old))))) acc.old }
+    rows: usize,
+    i: usize,
+    factors: &[f64; N],
+) -> f64
+    requires { (i < rows) × (p + size_of (columns rows N) ≤ length doubles.now) }
+    ensures { result ≡ along ieee.plus s (block p (columns rows N) doubles.now i) (at factors.now) N }
 {
-    let mut i = 0;
-    while i < n {
-        acc[i] = acc[i]
-            + doubles[p + i] * f
-            + doubles[p1 + i] * f1
-            + doubles[p2 + i] * f2
-            + doubles[p3 + i] * f3;
-        i += 1;
+    let mut sum = s;
+    for j in 0..N {
+        sum = sum + doubles[p + j * rows + i] * factors[j];
     }
+    sum
 }
 
-// The products of four columns, which are `rows` and `step` apart.
-fn add_columns(
+// n sums with those products.
+fn add<const N: usize>(
     acc: &mut [f64],
     n: usize,
     doubles: &[f64],
     p: usize,
     rows: usize,
+    factors: &[f64; N],
+)
+    requires { (n ≤ rows) × (n ≤ length acc.old) × (p + size_of (columns rows N) ≤ length doubles.now) }
+    ensures { acc.new ≡ run 0 n (λ i. along ieee.plus (at acc.old i) (block p (columns rows N) doubles.now i) (at factors.now) N) acc.old }
+{
+    for i in 0..n {
+        acc[i] = with_products(acc[i], doubles, p, rows, i, factors);
+    }
+}
+
+// The factors of N columns: row r of the columns of v that are `step` apart.
+pub fn factors<const N: usize>(
     v: &[f64],
     q: usize,
     step: usize,
+    r: usize,
     subtract: bool,
-)
-    requires { (n ≤ rows) × (n ≤ length acc.old) × (p + rows + rows + rows + rows ≤ length doubles.now) × (q + step + step + step < length v.now) }
-    ensures { acc.new ≡ four_more (add_or_subtract subtract) acc.old n doubles.now p rows v.now q step }
+) -> [f64; N]
+    requires { (N ≤ 4) × (r < step) × (q + size_of (columns step N) ≤ length v.now) }
+    ensures { (j : ℕ) → j < N → at result j ≡ signed_of subtract (block q (columns step N) v.now r j) }
 {
-    let p1 = p + rows;
-    let p2 = p1 + rows;
-    let p3 = p2 + rows;
-    let q1 = q + step;
-    let q2 = q1 + step;
-    let q3 = q2 + step;
-    let f = signed(v[q], subtract);
-    let f1 = signed(v[q1], subtract);
-    let f2 = signed(v[q2], subtract);
-    let f3 = signed(v[q3], subtract);
-    add_four(acc, n, doubles, p, p1, p2, p3, f, f1, f2, f3);
+    let mut f = [0.0; N];
+    for j in 0..N {
+        f[j] = signed(v[q + j * step + r], subtract);
+    }
+    f
 }
 
-// Some of the products that are left, four at once or one: how many.
-pub fn add_some(
+// The products of N columns, which are `rows` and `step` apart.
+fn add_columns<const N: usize>(
     acc: &mut [f64],
     n: usize,
     doubles: &[f64],
@@ -94,18 +81,39 @@ pub fn add_some(
     q: usize,
     step: usize,
     r: usize,
-    left: usize,
+    subtract: bool,
+)
+    requires { (N ≤ 4) × (n ≤ rows) × (n ≤ length acc.old) × (r < step) × (p + size_of (columns rows N) ≤ length doubles.now) × (q + size_of (columns step N) ≤ length v.now) }
+    ensures { acc.new ≡ products (add_or_subtract subtract) acc.old n doubles.now p rows v.now q step r N }
+{
+    let f = factors::<N>(v, q, step, r, subtract);
+    add(acc, n, doubles, p, rows, &f);
+}
+
+// n sums with their products, N columns at a time, while there are as many: of how many columns.
+pub fn add_groups<const N: usize>(
+    acc: &mut [f64],
+    n: usize,
+    doubles: &[f64],
+    a: usize,
+    rows: usize,
+    v: &[f64],
+    b: usize,
+    step: usize,
+    r: usize,
+    inner: usize,
     subtract: bool,
 ) -> usize
-    requires { (0 < left) × (n ≤ rows) × (n ≤ length acc.old) × (r < step) × (p + size_of (columns rows left) ≤ length doubles.now) × (q + size_of (columns step left) ≤ length v.now) }
-    ensures { Some (add_or_subtract subtract) acc.old acc.new n doubles.now p rows v.now q step r left result }
+    requires { (0 < N) × (N ≤ 4) × (n ≤ rows) × (n ≤ length acc.old) × (r < step) × (a + size_of (columns rows inner) ≤ length doubles.now) × (b + size_of (columns step inner) ≤ length v.now) }
+    ensures result_value { (result ≤ inner) × (inner < result + N) }
+    ensures acc_after { acc.new ≡ products (add_or_subtract subtract) acc.old n doubles.now a rows v.now b step r result }
 {
-    let from = q + r;
-    if left < 4 {
-        let f = signed(v[from], subtract);
-        add_one(acc, n, doubles, p, f);
-        return 1;
+    let mut p = a;
+    let mut q = b;
+    for k in 0..inner / N {
+        add_columns::<N>(acc, n, doubles, p, rows, v, q, step, r, subtract);
+        p += N * rows;
+        q += N * step;
     }
-    add_columns(acc, n, doubles, p, rows, v, from, step, subtract);
-    4
+    inner / N * N
 }

@@ -23,15 +23,10 @@ fn apply_products(
     requires { (n ≤ rows) × (n ≤ length acc.old) × (r < step) × (a + size_of (columns rows inner) ≤ length doubles.now) × (b + size_of (columns step inner) ≤ length v.now) }
     ensures { acc.new ≡ products (add_or_subtract subtract) acc.old n doubles.now a rows v.now b step r inner }
 {
-    let mut x = 0;
-    let mut p = a;
-    let mut q = b;
-    while x < inner {
-        let k = axpy::add_some(acc, n, doubles, p, rows, v, q, step, r, inner - x, subtract);
-        p += k * rows;
-        q += k * step;
-        x += k;
-    }
+    let x = axpy::add_groups::<4>(acc, n, doubles, a, rows, v, b, step, r, inner, subtract);
+    let p = a + x * rows;
+    let q = b + x * step;
+    axpy::add_groups::<1>(acc, n, doubles, p, rows, v, q, step, r, inner - x, subtract);
 }
 
 // n sums, each with the products of row i of block a of `doubles` and row r of block b of v.

@@ -6,7 +6,4 @@ pub mod axpy;
 pub mod axpy_pair;
 pub mod axpy_products;
 pub mod blocks;
-pub mod run_copies;
-pub mod run_differences;
-pub mod run_products;
-pub mod run_quotients;
+pub mod runs;

@@ -8,7 +8,7 @@ use lib.ListN.{replicate, take, drop}
 use lib.Ieee.{Float, inf}
 use Rattle.step_order.specs.Steps.{S, C, T}
 use Rattle.sheet.specs.Sheet.{Sheet}
-use Rattle.refusal.specs.Numbers.{refusal}
+use Rattle.refusal.specs.Numbers.{numbers}
 use Rattle.heading_format.specs.declared.State.TheVariants.{Finished}
 use Rattle.heading_format.specs.Heading.{progress_of}
 use Rattle.workspace.specs.Memory.{Workspace}
@@ -16,7 +16,6 @@ use Rattle.workspace.specs.Load.{load_sheet}
 use Rattle.workspace.specs.Response.{response, replace_of}
 use Rattle.update.specs.Calls.{begin_of, step_of, run_of}
 use Rattle.profile.specs.declared.Deviance.TheVariants.{Value}
-use Rattle.profile.specs.declared.DevianceAnswer.TheVariants.{Given}
 use Rattle.profile.specs.Deviance.{profile_of}
 use Rattle.workspace.specs.Compute.{word, words}
 use Rattle.update.specs.Compute.{steps}
@@ -25,6 +24,7 @@ use Rattle.book.specs.Calls.{Call, begin, step, replace_response, profile_devian
 use Rattle.book.specs.Book.{Book, entered, opened, book_replies, book_after, book_left, book_state}
 use Rattle.heading_format.specs.Parts.{heading_length}
 use Rattle.sheet.proofs.Made.{counts_with}
+use Rattle.std.specs.Prelude.{Ok}
 
 abbrev sheet : Sheet
 sheet =
@@ -42,9 +42,9 @@ sheet =
 abbrev one : Float
 one = word 0x3ff0000000000000
 
-unfoldable numbers : List Reply → List ℕ
-numbers [] = []
-numbers (r ∷ l) = (refusal_of r).number ∷ numbers l
+unfoldable reply_numbers : List Reply → List ℕ
+reply_numbers [] = []
+reply_numbers (r ∷ l) = (refusal_of r).number ∷ reply_numbers l
 
 -- The new y'y is too small: the last pivot, block 1, row 1, is refused from there on. The last list of calls ends before it.
 abbrev calls : List Call
@@ -77,12 +77,12 @@ unfolding steps load_sheet
 loaded = (load_sheet sheet (replicate heading_length 0) (replicate 16 (inf false))).left
 
 unfoldable called : List ℕ
-unfolding steps ℕ_discrete loaded numbers replies begin_of step_of replace_of profile_of
-called = numbers (replies calls loaded)
+unfolding steps ℕ_discrete loaded reply_numbers replies begin_of step_of replace_of profile_of
+called = reply_numbers (replies calls loaded)
 
 unfoldable booked : List ℕ
-unfolding steps ℕ_discrete numbers book_replies load_sheet begin_of run_of replace_of profile_of
-booked = numbers (book_replies sheet calls (opened sheet))
+unfolding steps ℕ_discrete reply_numbers book_replies load_sheet begin_of run_of replace_of profile_of
+booked = reply_numbers (book_replies sheet calls (opened sheet))
 
 unfoldable left : Workspace
 unfolding called left_by
@@ -113,7 +113,7 @@ opened_left : book_left sheet (opened sheet).done ≡ (progress_of loaded.headin
 unfolding loaded progress_of
 opened_left = refl
 
--- the loaded numbers are the book's: 3, 2 over 4, 5 6 and the new 1
+-- the loaded reply_numbers are the book's: 3, 2 over 4, 5 6 and the new 1
 abbrev numbers_now : List ℕ
 numbers_now =
     0x4008000000000000 ∷ 0x4000000000000000 ∷ 0x4010000000000000 ∷ 0x4014000000000000 ∷ 0x4018000000000000 ∷ 0x3ff0000000000000 ∷ []
@@ -127,11 +127,11 @@ unfolding booked_after words
 booked_loaded = refl
 
 -- C(1) is ready, and refuses its pivot in both
-last_refused : refusal_of (Calls.called (step (C 1)) left).reply ≡ refusal 26 1 1
+last_refused : refusal_of (Calls.called (step (C 1)) left).reply ≡ numbers 26 1 1
 unfolding left step_of
 last_refused = refl
 
-book_refused : refusal_of (entered sheet (step (C 1)) booked_after).reply ≡ refusal 26 1 1
+book_refused : refusal_of (entered sheet (step (C 1)) booked_after).reply ≡ numbers 26 1 1
 unfolding booked_after
 book_refused = refl
 
@@ -152,11 +152,11 @@ calls_to_end =
 abbrev expected_to_end : List ℕ
 expected_to_end = 0 ∷ 0 ∷ 0 ∷ 0 ∷ 0 ∷ 22 ∷ 22 ∷ 0 ∷ 22 ∷ []
 
-calls_end : numbers (replies calls_to_end loaded) ≡ expected_to_end
+calls_end : reply_numbers (replies calls_to_end loaded) ≡ expected_to_end
 unfolding called
 calls_end = refl
 
-book_ends : numbers (book_replies sheet calls_to_end (opened sheet)) ≡ expected_to_end
+book_ends : reply_numbers (book_replies sheet calls_to_end (opened sheet)) ≡ expected_to_end
 unfolding booked
 book_ends = refl
 
@@ -178,7 +178,7 @@ unfolding booked_after words
 booked_theta = refl
 
 -- a deviance in the mode that is asked for: by ML 3 ln(2π/3) + 2 ln 2 + 3, by REML 2 ln(2π/2) + 2 ln 2 + 2 + 2 ln 2, in Python's doubles
-modes_called : ((Calls.called (profile_deviance (one ∷ []) false) loaded).reply ≡ deviance (Given (Value (word 0x401a6a963a085b3b))))
-    × ((Calls.called (profile_deviance (one ∷ []) true) loaded).reply ≡ deviance (Given (Value (word 0x401c3f89a3f0edd6))))
+modes_called : ((Calls.called (profile_deviance (one ∷ []) false) loaded).reply ≡ deviance (Ok (Value (word 0x401a6a963a085b3b))))
+    × ((Calls.called (profile_deviance (one ∷ []) true) loaded).reply ≡ deviance (Ok (Value (word 0x401c3f89a3f0edd6))))
 unfolding called
 modes_called = (refl, refl)

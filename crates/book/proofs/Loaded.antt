@@ -10,12 +10,12 @@ use lib.Ieee.{Float}
 use Rattle.step_order.specs.Steps.{Step, is_step, forerunners}
 use Rattle.step_order.specs.Progress.{all, steps_left}
 use Rattle.sheet.specs.Sheet.{Sheet}
-use Rattle.refusal.specs.declared.Answer.{Answer}
-use Rattle.refusal.specs.declared.Answer.TheVariants.{Accepted, Refused}
 use Rattle.layout.specs.Shapes.{pick, theta_length}
 use Rattle.workspace.specs.Answers.{unless_at, first_infinite}
 use Rattle.book.specs.Calls.{begin, step, profile_deviance}
 use Rattle.book.specs.Book.{Book, Entry, layout, last, rust, in_step, on_ready, on_set, entered}
+use Rattle.std.specs.Prelude.{Result, Ok, Err}
+use Rattle.refusal.specs.declared.Refusal.{Refusal}
 
 module _ (sheet : Sheet) (b : Book) where
   abbrev Keeps : Entry → Type 0
@@ -36,9 +36,9 @@ module _ (sheet : Sheet) (b : Book) where
   profile_keeps theta reml = either (eqb (length theta) (theta_length (layout sheet))) _ _ (found_or (first_infinite 0 theta) _ _ (λ i. refl) refl) refl
 
   -- a ready step, accepted or with its pivot refused
-  ready_keeps : (a : Answer) (s : Step) (d : Step → Bool) → Keeps (on_ready sheet a s d b)
-  ready_keeps Accepted s d = refl
-  ready_keeps (Refused r) s d = refl
+  ready_keeps : (a : Result Unit Refusal) (s : Step) (d : Step → Bool) → Keeps (on_ready sheet a s d b)
+  ready_keeps (Ok tt) s d = refl
+  ready_keeps (Err r) s d = refl
 
   set_keeps : (s : Step) (o : Option (Step → Bool)) → Keeps (on_set sheet s o b)
   set_keeps s none = refl

@@ -1,5 +1,5 @@
 -- Record 5's book of a loaded sheet: it is fed each call and its arguments, never the workspace or its heading.
-use Rattle.std.specs.Prelude.{ℕ, Bool, false, ◌&&◌, List, [], ◌∷◌, ◌++◌, eqb, length, Float}
+use Rattle.std.specs.Prelude.{ℕ, Bool, false, ◌&&◌, List, [], ◌∷◌, ◌++◌, eqb, length, Float, Result, Ok, Err}
 use Rattle.std.proofs.Math.Option.{Option, none, some}
 use Rattle.step_order.specs.Steps.{Step, S, C, T, is_step, forerunners, rust_order}
 use Rattle.step_order.specs.Progress.{all, join, steps_left}
@@ -7,9 +7,7 @@ use Rattle.sheet.specs.Sheet.{Sheet}
 use Rattle.layout.specs.declared.Layout.{Layout}
 use Rattle.heading_format.specs.declared.State.{State}
 use Rattle.heading_format.specs.declared.State.TheVariants.{Idle, UnderWay, Finished}
-use Rattle.refusal.specs.declared.Answer.{Answer}
-use Rattle.refusal.specs.declared.Answer.TheVariants.{Accepted, Refused}
-use Rattle.refusal.specs.Numbers.{no_refusal, refuse}
+use Rattle.refusal.specs.Numbers.{numbers_of, refusal, refuse}
 use Rattle.layout.specs.Shapes.{pick, theta_length}
 use Rattle.workspace.specs.Memory.{Workspace, zeros}
 use Rattle.workspace.specs.Answers.{Outcome, workspace, first_infinite, unless_at, list_fault, unless_refused}
@@ -18,9 +16,9 @@ use Rattle.workspace.specs.Load.{heading_of}
 use Rattle.workspace.specs.Response.{Response, lists_of, response_lengths, responded}
 use Rattle.update.specs.Calls.{begin_of, run_of}
 use Rattle.profile.specs.Deviance.{profile_of}
-use Rattle.profile.specs.declared.DevianceAnswer.{DevianceAnswer}
-use Rattle.profile.specs.declared.DevianceAnswer.TheVariants.{Refused as Denied}
 use Rattle.book.specs.Calls.{Call, begin, step, replace_response, profile_deviance, Reply, plain, deviance}
+use Rattle.refusal.specs.declared.Refusal.{Refusal}
+use Rattle.profile.specs.declared.Deviance.{Deviance}
 
 -- the loaded numbers, theta, and none or the set of done steps
 pub record Book : Type 0 where
@@ -76,37 +74,37 @@ module _ (sheet : Sheet) where
       run_of (begin_of v.heading v.doubles theta).left (rust_order last)
 
   -- what that order answers in step s: a pivot that it refuses is refused in a C
-  abbrev pub in_step : Step → Answer → Answer
-  in_step s Accepted = Accepted
-  in_step (S i j h) (Refused r) = Accepted
-  in_step (C j) (Refused r) = pick (eqb r.number 26 && eqb r.first j) (Refused r) Accepted
-  in_step (T i j) (Refused r) = Accepted
+  abbrev pub in_step : Step → Result Unit Refusal → Result Unit Refusal
+  in_step s (Ok tt) = Ok tt
+  in_step (S i j h) (Err r) = Ok tt
+  in_step (C j) (Err r) = let n = numbers_of r in pick (eqb n.number 26 && eqb n.first j) (Err r) (Ok tt)
+  in_step (T i j) (Err r) = Ok tt
 
   -- ---- load
   abbrev pub opened : Book
   opened = book_of (loaded_numbers sheet layout)
 
   -- ---- 13 and 14 change nothing
-  abbrev pub on_list : ℕ → ℕ → List Float → (Answer → Entry) → Entry → Entry
+  abbrev pub on_list : ℕ → ℕ → List Float → (Refusal → Entry) → Entry → Entry
   on_list list n l refused good =
-      pick (eqb (length l) n) (unless_at (first_infinite 0 l) (λ i. refused (refuse 14 list i)) good) (refused (refuse 13 list 0))
+      pick (eqb (length l) n) (unless_at (first_infinite 0 l) (λ i. refused (refusal 14 list i)) good) (refused (refusal 13 list 0))
 
   -- begin: its theta, the empty set
   abbrev pub on_begin : List Float → Book → Entry
-  on_begin theta b = on_list 0 (theta_length layout) theta (λ a. entry (plain a) b) (entry (plain Accepted) (with_done (some nothing) (with_theta theta b)))
+  on_begin theta b = on_list 0 (theta_length layout) theta (λ f. entry (plain (Err f)) b) (entry (plain (Ok tt)) (with_done (some nothing) (with_theta theta b)))
 
   -- `replace_response`: its response for the old, none
   abbrev pub on_response : Response → Book → Entry
   on_response r b =
       let new = (responded (heading_of sheet layout) b.loaded r).left.doubles in
-      let good = entry (plain Accepted) (with_done none (with_loaded new b)) in
-      unless_refused (list_fault (response_lengths layout) (lists_of r)) (λ f. entry (plain (Refused f)) b) good
+      let good = entry (plain (Ok tt)) (with_done none (with_loaded new b)) in
+      unless_refused (list_fault (response_lengths layout) (lists_of r)) (λ f. entry (plain (Err f)) b) good
 
   -- A step: 22 with none or all done, 21, 23 in the set, 24 where a forerunner is not. Any other is ready: it refuses the pivot that the Rust's order
   -- refuses in it, and the book has none; else it joins the set.
-  abbrev pub on_ready : Answer → Step → (Step → Bool) → Book → Entry
-  on_ready Accepted s d b = entry (plain Accepted) (with_done (some (join d s)) b)
-  on_ready (Refused r) s d b = entry (plain (Refused r)) (with_done none b)
+  abbrev pub on_ready : Result Unit Refusal → Step → (Step → Bool) → Book → Entry
+  on_ready (Ok tt) s d b = entry (plain (Ok tt)) (with_done (some (join d s)) b)
+  on_ready (Err r) s d b = entry (plain (Err r)) (with_done none b)
 
   abbrev pub on_set : Step → Option (Step → Bool) → Book → Entry
   on_set s none b = entry (plain (refuse 22 0 0)) b
@@ -118,19 +116,15 @@ module _ (sheet : Sheet) where
       (no 21))
 
   -- `profile_deviance`: begin, then the Rust's order to its end or its refused pivot
-  abbrev pub after_all : Answer → Option (Step → Bool)
-  after_all Accepted = some (is_step last)
-  after_all (Refused r) = none
+  abbrev pub after_all : Result Unit Refusal → Option (Step → Bool)
+  after_all (Ok tt) = some (is_step last)
+  after_all (Err r) = none
 
   abbrev pub on_profile : List Float → Bool → Book → Entry
   on_profile theta reml b =
       let v = fresh b.loaded in
-      on_list 0 (theta_length layout) theta (λ a. entry (deviance (refused_with a)) b)
+      on_list 0 (theta_length layout) theta (λ f. entry (deviance (Err f)) b)
       (entry (deviance (profile_of v.heading v.doubles theta reml).answer) (with_done (after_all (rust b.loaded theta).answer) (with_theta theta b)))
-    where
-      refused_with : Answer → DevianceAnswer
-      refused_with Accepted = Denied no_refusal
-      refused_with (Refused r) = Denied r
 
   abbrev pub entered : Call → Book → Entry
   entered (begin theta) b = on_begin theta b

@@ -1,16 +1,16 @@
 -- Lists of calls (mission, demand 3): each is given what the last left.
-use Rattle.std.specs.Prelude.{Bool, List, [], ◌∷◌, Float}
+use Rattle.std.specs.Prelude.{Bool, List, [], ◌∷◌, Float, Result}
 use Rattle.step_order.specs.Steps.{Step}
 use Rattle.refusal.specs.declared.Refusal.{Refusal}
-use Rattle.refusal.specs.declared.Answer.{Answer}
 use Rattle.workspace.specs.Memory.{Workspace}
-use Rattle.refusal.specs.Numbers as Numbers
+use Rattle.refusal.specs.declared.Numbers.{Numbers}
+use Rattle.refusal.specs.Numbers as Tables
 use Rattle.workspace.specs.Answers.{Outcome}
 use Rattle.workspace.specs.Response.{Response, replace_of}
 use Rattle.update.specs.Calls.{begin_of, step_of}
-use Rattle.profile.specs.declared.DevianceAnswer.{DevianceAnswer}
 use Rattle.profile.specs.Deviance as Deviances
 use Rattle.profile.specs.Deviance.{Profiled, profile_of}
+use Rattle.profile.specs.declared.Deviance.{Deviance}
 
 -- a call with its arguments, but for the workspace
 pub data Call : Type 0 where
@@ -22,12 +22,12 @@ pub data Call : Type 0 where
 
 -- what a call answers
 pub data Reply : Type 0 where
-  plain : Answer → Reply
-  deviance : DevianceAnswer → Reply
+  plain : Result Unit Refusal → Reply
+  deviance : Result Deviance Refusal → Reply
 
 -- its number and places
-abbrev pub refusal_of : Reply → Refusal
-refusal_of (plain a) = Numbers.refusal_of a
+abbrev pub refusal_of : Reply → Numbers
+refusal_of (plain a) = Tables.refusal_of a
 refusal_of (deviance d) = Deviances.refusal_of d
 
 -- a call's reply, and what it leaves

@@ -56,19 +56,15 @@ fn double(i: usize) -> f64 {
 
 // Fills the heading.
 pub fn fill_heading(heading: &mut [u32]) {
-    let mut i: usize = 0;
-    while i < heading.len() {
-        heading[i] = number(i);
-        i += 1;
+    for (i, x) in heading.iter_mut().enumerate() {
+        *x = number(i);
     }
 }
 
 // Fills the doubles.
 pub fn fill_doubles(doubles: &mut [f64]) {
-    let mut i: usize = 0;
-    while i < doubles.len() {
-        doubles[i] = double(i);
-        i += 1;
+    for (i, x) in doubles.iter_mut().enumerate() {
+        *x = double(i);
     }
 }
 
@@ -77,35 +73,11 @@ fn more(sum: u64, x: u64) -> u64 {
     sum % 0x0400000000000000 * 31 + x % 0x100000000
 }
 
-// A number of a heading as a term of a sum.
-fn wide(x: u32) -> u64 {
-    x as u64
-}
-
-// The sum over a heading.
-fn sum_numbers(heading: &[u32]) -> u64 {
-    let mut sum: u64 = 0;
-    let mut i: usize = 0;
-    while i < heading.len() {
-        sum = more(sum, wide(heading[i]));
-        i += 1;
-    }
-    sum
-}
-
-// The sum over doubles, from a sum on: the upper half of each word, then the lower.
-fn sum_doubles(doubles: &[f64], from: u64) -> u64 {
-    let mut sum = from;
-    let mut i: usize = 0;
-    while i < doubles.len() {
-        let x = words::word_of(doubles[i]);
-        sum = more(more(sum, x / 0x100000000), x);
-        i += 1;
-    }
-    sum
-}
-
-// The sum over heading and doubles.
+// The sum over heading and doubles: each number, then the upper half of each double's word and the lower.
 pub fn sum_words(heading: &[u32], doubles: &[f64]) -> u64 {
-    sum_doubles(doubles, sum_numbers(heading))
+    let numbers = heading.iter().fold(0, |sum, x| more(sum, u64::from(*x)));
+    doubles.iter().fold(numbers, |sum, x| {
+        let word = words::word_of(*x);
+        more(more(sum, word >> 32), word)
+    })
 }

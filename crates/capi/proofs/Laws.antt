@@ -1,18 +1,18 @@
 -- Words in the answer list.
-use Prim.Native.Nat.{ℕ, ◌+◌, ◌<◌, ◌≤◌}
-use mathlib.Core.Path.{◌≡◌, refl, sym, ap, ap₂, ◌∙◌}
+use Prim.Native.Nat.{ℕ, suc, ◌+◌, ◌-◌, ◌≤◌}
+use mathlib.Core.Path.{◌≡◌, refl, ap, ap₂, ◌∙◌}
 use mathlib.Core.Bool.{true, false, ◌||◌}
-use mathlib.Core.List.{List, [], ◌∷◌, ◌++◌, map}
+use mathlib.Core.List.{List, [], ◌∷◌, map}
 use native.Mathlib.Omega.{arith}
 use lib.Dec.{eqb}
 use lib.ListN.{length, set, get_or}
 use lib.Ieee.{Float, of_bits, to_bits}
+use borrow.Rule.Slice.PartMut.{put_mid}
 use Rattle.storage.specs.Part.{store}
 use Rattle.storage.specs.Runs.{tab}
-use Rattle.storage.proofs.Parts.{store_nil, store_one}
 use Rattle.storage.proofs.Cells.{tab_front}
 use Rattle.workspace.specs.Memory.{Workspace}
-use Rattle.refusal.specs.declared.Refusal.{Refusal}
+use Rattle.refusal.specs.declared.Numbers.{Numbers}
 use Rattle.profile.specs.Deviance.{largest}
 use Rattle.profile.specs.Finish.{SolveMeaning, Solving, solve_meaning}
 use Rattle.capi.specs.Told.{Told, leaves, told, told_solve, word_of}
@@ -44,23 +44,19 @@ module _ (o : Solving) (words answer : List ℕ) {n : ℕ} {answer' : List ℕ} 
   pub solve_kept : (eqb n 0 || eqb n 27) ≡ false → solved n answer' out' words ≡ of_solving o words answer
   solve_kept b = solve_told (rw b refl)
 
--- ---- the answer list
-pub two_words : (a b : ℕ) (l : List ℕ) → 2 ≤ length l → set (set l 0 a) 1 b ≡ store 0 (a ∷ b ∷ []) l
-two_words a b l h =
-    ap (λ (w : List ℕ). set (set w 0 a) 1 b) (sym (store_nil 0 l))
-    ∙ ap (λ (w : List ℕ). set w 1 b) (store_one 0 [] l (omega arith) a (omega arith))
-    ∙ store_one 0 (a ∷ []) l (omega arith) b (omega arith)
+-- ---- the answer list: two places, and the values behind them
+pub words_told : (a b n : ℕ) (values l : List ℕ) {new : List ℕ} → new ≡ values → length values ≡ n → 2 + n ≤ length l
+    → put_mid 2 (2 + n - 2) (set (set l 0 a) 1 b) new ≡ store 0 (a ∷ b ∷ values) l
+unfolding store
+words_told a b n values [] e q h = absurd (omega arith)
+words_told a b n values (x ∷ []) e q h = absurd (omega arith)
+words_told a b n values (x ∷ y ∷ l) e q h =
+    let k : 2 + n - 2 ≡ n = omega arith in
+    let m : 0 + length (a ∷ b ∷ values) ≡ suc (suc n) = omega (arith, q) in
+    rw (k, e, m) refl
 
--- one value more
-pub told_more : (r : Refusal) (values l : List ℕ) {l' : List ℕ} {n : ℕ} (k v : ℕ) → leaves n l' ≡ told r values l → k ≡ 0 + length (r.first ∷ r.second ∷ values)
-    → k < length l → leaves n (set l' k v) ≡ told r (values ++ (v ∷ [])) l
-told_more r values l k v e q h =
-    let first = r.first ∷ r.second ∷ values in
-    ap (λ (t : Told). leaves t.number (set t.answer k v)) e
-    ∙ ap (λ (w : List ℕ). leaves r.number w) (ap (λ (i : ℕ). set (store 0 first l) i v) q ∙ store_one 0 first l (omega (arith, q)) v (omega (arith, q)))
-
-pub told_same : (l : List ℕ) {r r' : Refusal} {values values' : List ℕ} → r ≡ r' → values ≡ values' → told r values l ≡ told r' values' l
-told_same l e q = ap₂ (λ (r : Refusal) (values : List ℕ). told r values l) e q
+pub told_same : (l : List ℕ) {r r' : Numbers} {values values' : List ℕ} → r ≡ r' → values ≡ values' → told r values l ≡ told r' values' l
+told_same l e q = ap₂ (λ (r : Numbers) (values : List ℕ). told r values l) e q
 
 pub largest_word : word_of largest ≡ 0x7fefffffffffffff
 unfolding of_bits to_bits

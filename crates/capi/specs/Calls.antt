@@ -12,7 +12,7 @@ use Rattle.update.specs.Calls.{begin_of, step_of}
 use Rattle.profile.specs.Deviance.{Profiled, deviance_meaning, deviance_from_factor, profile_of}
 use Rattle.profile.specs.Finish.{Solving, solve_meaning, solve_of}
 use Rattle.load.specs.room.Needs.{needs_meaning, needs_of}
-use Rattle.views.specs.Views.{steps_meaning, view_meaning, steps_left_of, determinant_of, pivot_of}
+use Rattle.views.specs.Views.{steps_meaning, value_meaning, view_meaning, steps_left_of, determinant_of, pivot_of}
 use Rattle.capi.specs.Told.{Told, leaves, word_of, told_answer, told_deviance, told_solve, told_needs, told_steps, told_view}
 
 -- ---- the boundary's tests
@@ -80,7 +80,7 @@ abbrev pub steps_call : List ℕ → List ℕ → Told
 steps_call h answer = pick (shorter answer 3) (leaves 100 answer) (told_steps (steps_meaning (steps_left_of h)) answer)
 
 abbrev pub determinant_call : List ℕ → List Float → List ℕ → Told
-determinant_call h w answer = pick (shorter answer 4) (leaves 100 answer) (told_view (view_meaning (determinant_of h w)) answer)
+determinant_call h w answer = pick (shorter answer 4) (leaves 100 answer) (told_view (value_meaning (determinant_of h w)) answer)
 
 abbrev pub pivot_call : List ℕ → List Float → ℕ → ℕ → List ℕ → Told
 pivot_call h w block row answer = pick (shorter answer 4) (leaves 100 answer) (told_view (view_meaning (pivot_of h w block row)) answer)

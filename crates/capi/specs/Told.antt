@@ -4,7 +4,7 @@ use Rattle.std.proofs.Math.Option.{Option, none, some}
 use Rattle.std.specs.Float.{binary64}
 use Rattle.std.specs.Float.Ieee.{to_bits}
 use Rattle.storage.specs.Part.{store}
-use Rattle.refusal.specs.declared.Refusal.{Refusal}
+use Rattle.refusal.specs.declared.Numbers.{Numbers}
 use Rattle.refusal.specs.Numbers.{Meaning}
 use Rattle.profile.specs.declared.Solution.{Solution}
 use Rattle.profile.specs.Deviance.{DevianceMeaning}
@@ -21,7 +21,7 @@ abbrev pub leaves : ℕ → List ℕ → Told
 leaves n l = record { number = n; answer = l }
 
 -- document 01's number; the two places and then the values in the first words of the list, the others as they were
-abbrev pub told : Refusal → List ℕ → List ℕ → Told
+abbrev pub told : Numbers → List ℕ → List ℕ → Told
 told r values l = leaves r.number (store 0 (r.first ∷ r.second ∷ values) l)
 
 -- the word of a double, of a NaN 7ff8000000000000, and 0 where there is none

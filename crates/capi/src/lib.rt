@@ -191,10 +191,8 @@ fn write_words(out: &[f64], words: &mut [u64])
     requires { length words.old ≡ length out.now }
     ensures { words.new ≡ map word_of out.now }
 {
-    let mut i: usize = 0;
-    while i < out.len() {
+    for i in 0..out.len() {
         words[i] = word_of(out[i]);
-        i += 1;
     }
 }
 
@@ -263,7 +261,7 @@ pub extern "C" fn husk_log_determinant(heading: &[u32], doubles: &[f64], answer:
     if answer.len() < 4 {
         return SHORT_ANSWER;
     }
-    tell_answers::tell_view(views::log_determinant(heading, doubles), answer)
+    tell_answers::tell_value(views::log_determinant(heading, doubles), answer)
 }
 
 // views::pivot.

@@ -42,14 +42,14 @@ as_shape off n src w₀ h from w so s e =
     ∙ ap (λ (l : List Float). store off l w₀)
     (tab_ext n _ (λ i. h (get_or w₀ (src + i) ieee.zero)) (λ i l. ap h (any_default w₀ (src + i) nan ieee.zero (omega arith))) ∙ as_block n src w₀ h s e)
 
--- ---- T by a diagonal: one column more; x is its place, the block's offset and the place within the block
+-- ---- T by a diagonal: one column more
 pub divide_turn : {t f : Block} {w₀ : List Float} {c to : ℕ} {w w' : List Float} {to' : ℕ} → ByFactor (length w₀) as_diagonal t f
     → Going (as_columns t) (divided_cell t f w₀) w₀ c to w → c < t.cols → to' ≡ to + t.rows
-    → (x : ℕ) → x ≡ to → w' ≡ run x t.rows (λ i. ieee.over (at w (x + i)) (at w (f.at + c))) w → Going (as_columns t) (divided_cell t f w₀) w₀ (c + 1) to' w'
-divide_turn {t} {f} {w₀} {c} {to} {w} P e more next x d then =
+    → w' ≡ run to t.rows (λ i. ieee.over (at w (to + i)) (at w (f.at + c))) w → Going (as_columns t) (divided_cell t f w₀) w₀ (c + 1) to' w'
+divide_turn {t} {f} {w₀} {c} {to} {w} P e more next then =
     turn e more (λ z x y. ieee.over z (y c)) (as_diagonal f) (as_diagonal f) t.rows P.apart P.apart (λ i. refl) refl next
     (then
-    ∙ ap₂ (λ (x : ℕ) (p : Float). run x t.rows (λ i. ieee.over (at w (x + i)) p) w) d
+    ∙ ap (λ (p : Float). run to t.rows (λ i. ieee.over (at w (to + i)) p) w)
     (read_block (diagonal f.rows) f.at w c c (f.at + c) (has_diagonal f.rows c (omega (arith, P.cols))) (omega (arith, P.factor, e.long)) (omega (arith, start_single c))))
 
 -- T of a sparse block by a diagonal: its entries are a dense block of one row
@@ -63,14 +63,14 @@ divided_entries v f row w =
     (λ j i p q. let e : i ≡ 0 = omega arith in
     ap (λ (k : ℕ). ieee.over (get_or (part v.at (start single v.cols) w) (start single j + k) ieee.zero) (read (as_diagonal f) w j j)) e))
 
--- ---- T by a triangle; x is the column's place, the block's offset and the place within the block
+-- ---- T by a triangle
 pub column_solved : (w w' acc acc₁ acc₂ : List Float) (t : Block) (c to row : ℕ) → t.rows ≤ length acc → acc₁ ≡ run 0 t.rows (λ i. at w (to + i)) acc
     → acc₂ ≡ products ieee.minus acc₁ t.rows w t.at t.rows w row 1 0 c
-    → (x : ℕ) → x ≡ to → w' ≡ run x t.rows (λ i. ieee.over (at acc₂ i) (at w (row + c))) w
+    → w' ≡ run to t.rows (λ i. ieee.over (at acc₂ i) (at w (row + c))) w
     → w' ≡ solved_column t c to row w
-column_solved w w' acc acc₁ acc₂ t c to row room first then x d so =
+column_solved w w' acc acc₁ acc₂ t c to row room first then so =
     so
-    ∙ ap₂ (λ (x : ℕ) (l : List Float). store x l w) d
+    ∙ ap (λ (l : List Float). store to l w)
     (tab_ext t.rows _ _
     (λ i l. ap (λ (x : Float). ieee.over x (at w (row + c)))
     (summed ieee.minus t.rows w t.at t.rows w row 1 0 c acc acc₁ acc₂ (λ j. at w (to + j)) room first then i l)))

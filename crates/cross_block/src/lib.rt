@@ -11,7 +11,7 @@ ghost use Rattle.storage.specs.Shape.{columns, size_of};
 ghost use Rattle.storage.specs.Placed.{as_triangle};
 ghost use Rattle.cross_block.specs.Blocks.{ByFactor, solved_rows, solved_column};
 
-use block_runs::{axpy_products, run_copies, run_quotients};
+use block_runs::{axpy_products, runs};
 use storage::Block;
 
 // Column c of the block t, from `to` on, solved with the columns before it and row c of the factor, which lies from `row` on.
@@ -21,10 +21,10 @@ fn solve_column(doubles: &mut [f64], acc: &mut [f64], t: Block, c: usize, to: us
     ensures { doubles.new ≡ solved_column t c to row doubles.old }
 {
     let n = t.rows;
-    run_copies::read(acc, n, doubles, to);
+    runs::copy(acc, 0, n, doubles, to);
     axpy_products::subtract_products(acc, n, doubles, t.at, n, doubles, row, 1, 0, c);
     let p = doubles[row + c];
-    run_quotients::over(doubles, t.at, to + n, to - t.at, n, acc, p);
+    runs::change(doubles, t.at, to, n, |i, _| acc[i] / p);
 }
 
 // T by the packed factor f: forward substitution in each row of the dense block t, all rows side by side.
@@ -33,13 +33,11 @@ pub fn solve_rows(doubles: &mut [f64], t: Block, f: Block)
     ensures { doubles.new ≡ solved_rows t f doubles.old }
 {
     let mut acc = [0.0; 316];
-    let mut c = 0;
     let mut to = t.at;
     let mut row = f.at;
-    while c < f.rows {
+    for c in 0..f.rows {
         solve_column(doubles, &mut acc, t, c, to, row);
-        c += 1;
         to += t.rows;
-        row += c;
+        row += c + 1;
     }
 }

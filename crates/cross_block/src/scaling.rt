@@ -9,10 +9,8 @@ pub fn scale_twice(doubles: &mut [f64], off: usize, src: usize, n: usize, column
     requires apart { (off + n ≤ src) ⊎ (src + n ≤ off) }
     ensures { EachShape n (λ s. doubles.new ≡ scaled_twice s off src column row doubles.old) }
 {
-    let mut i = 0;
-    while i < n {
+    for i in 0..n {
         doubles[off + i] = doubles[src + i] * column * row;
-        i += 1;
     }
 }
 
@@ -22,9 +20,7 @@ pub fn scale_once(doubles: &mut [f64], off: usize, src: usize, n: usize, t: f64)
     requires apart { (off + n ≤ src) ⊎ (src + n ≤ off) }
     ensures { EachShape n (λ s. doubles.new ≡ scaled_once s off src t doubles.old) }
 {
-    let mut i = 0;
-    while i < n {
+    for i in 0..n {
         doubles[off + i] = doubles[src + i] * t;
-        i += 1;
     }
 }

@@ -1,10 +1,13 @@
 -- Dense blocks times a vector: row by row the sums lie side by side, column by column each is made by itself.
-use Prim.Native.Nat.{ℕ, suc, ◌+◌, ◌≤◌, ◌<◌}
+use Prim.Native.Nat.{ℕ, ◌+◌, ◌≤◌, ◌<◌}
 use mathlib.Core.Path.{◌≡◌, refl, sym, ap, ap₂, ◌∙◌}
 use mathlib.Core.List.{List}
 use mathlib.Core.Logic.{inr, ⊎_swap}
 use native.Mathlib.Omega.{arith}
-use lib.ListN.{length, set}
+use native.Mathlib.Numerals.{add-one}
+use Rattle.std.specs.Prelude.{Option, None, Some, unwrap_or}
+use Rattle.std.specs.Borrow.{Bor}
+use lib.ListN.{length}
 use lib.Ieee.{Float, nan}
 use Rattle.storage.specs.Runs.{start, dense}
 use Rattle.storage.specs.Shape.{columns, size_of}
@@ -13,14 +16,14 @@ use Rattle.storage.specs.declared.Block.{Block}
 use Rattle.storage.specs.Placed.{Lies, as_columns, read}
 use Rattle.storage.proofs.Starts.{start_dense, start_below}
 use Rattle.storage.proofs.Cells.{tab_ext}
-use Rattle.storage.proofs.Filling.{Filling, filling_none, filling_done, filling_else, filling_apart, filling_next, filling_run}
+use Rattle.storage.proofs.Filling.{Filling, filling_else, filling_apart, filling_run}
 use Rattle.rules.specs.Arithmetic.{ieee}
 use Rattle.rules.specs.Sums.{dot}
 use Rattle.block_runs.specs.blocks.Blocks.{block, entry}
 use Rattle.block_runs.proofs.blocks.Laws.{read_block, has_dense}
 use Rattle.block_runs.specs.axpy.Axpy.{at, run, along, products}
 use Rattle.block_runs.proofs.axpy.Sums.{sum_along, along_ext, start_add, summed}
-use Rattle.cross_matvec.specs.Products.{Sides, subtracted_product, subtracted_product_t, column_sum, minus_column, subtract_columns}
+use Rattle.cross_matvec.specs.Products.{Sides, held, ClearIn, subtracted_product, subtracted_product_t, column_sum, minus_column, subtract_columns}
 use Rattle.cross_matvec.proofs.Vectors.{read_entry}
 
 -- the vector at z is the one row of a block
@@ -32,10 +35,9 @@ one_row z n v fits x l =
 -- ---- going forward
 module _ (to z : ℕ) (a : Block) (w v v' acc acc₁ acc₂ : List Float) (room : a.rows ≤ length acc) (sides : Sides (length v) to z a) where
   pub sums_subtracted : acc₁ ≡ run 0 a.rows (λ i. ieee.zero) acc → acc₂ ≡ products ieee.plus acc₁ a.rows w a.at a.rows v z 1 0 a.cols
-      → (k : ℕ) → k ≡ to → v' ≡ run k a.rows (λ i. ieee.minus (at v (k + i)) (at acc₂ i)) v → v' ≡ subtracted_product to z a w v
-  sums_subtracted first then k e so =
+      → v' ≡ run to a.rows (λ i. ieee.minus (at v (to + i)) (at acc₂ i)) v → v' ≡ subtracted_product to z a w v
+  sums_subtracted first then so =
       so
-      ∙ ap (λ (x : ℕ). run x a.rows (λ i. ieee.minus (at v (x + i)) (at acc₂ i)) v) e
       ∙ ap (λ (l : List Float). store to l v)
       (tab_ext a.rows _ _
       (λ i l.
@@ -51,38 +53,31 @@ column_sum_lem w p v z n a b f g = along_ext ieee.plus ieee.zero ieee.zero _ _ _
 
 -- ---- going backward
 -- one product more in the sum of a column
-pub sum_more : (w : List Float) (p : ℕ) (v : List Float) (z r : ℕ) (s : Float) → s ≡ column_sum w p v z r
-    → ieee.plus s (ieee.times (at w (p + r)) (at v (z + r))) ≡ column_sum w p v z (suc r)
+pub sum_more : (w : List Float) (p : ℕ) (v : List Float) (z r k : ℕ) (s : Float) → s ≡ column_sum w p v z r → k ≡ p + r
+    → ieee.plus s (ieee.times (at w k) (at v (z + r))) ≡ column_sum w p v z (r + 1)
 unfolding along
-sum_more w p v z r s so = ap (λ (x : Float). ieee.plus x (ieee.times (at w (p + r)) (at v (z + r)))) so
+sum_more w p v z r k s so e = rw (add-one, e) (ap (λ (x : Float). ieee.plus x (ieee.times (at w (p + r)) (at v (z + r)))) so)
 
--- one entry more less a number
-pub entry_subtracted : {to n : ℕ} {v v₁ : List Float} {i : ℕ} (f : ℕ → Float) → Filling (λ x. ieee.minus (at v (to + x)) (f x)) to n v v₁ i → i < n → (k : ℕ) → k ≡ to + i
-    → (s : Float) → s ≡ f i → Filling (λ x. ieee.minus (at v (to + x)) (f x)) to n v (set v₁ k (ieee.minus (at v₁ k) s)) (i + 1)
-entry_subtracted {to} {n} {v} f h more k e s is = filling_next h (λ (x : Float). ieee.minus x s) nan e more (ap₂ ieee.minus (ap (at v) e) is)
+-- entries less sums that are those of their columns
+pub columns_subtracted : (to p rows z n : ℕ) (w v v' s : List Float) → ((j : ℕ) → j < n → at s j ≡ column_sum w (p + start (dense rows) j) v z rows)
+    → v' ≡ run to n (λ i. ieee.minus (at v (to + i)) (at s i)) v → v' ≡ subtract_columns to n p rows z w v
+columns_subtracted to p rows z n w v v' s is so =
+    so ∙ ap (λ (l : List Float). store to l v) (tab_ext n _ _ (λ i l. ap (ieee.minus (at v (to + i))) (is i l)))
 
--- one entry less the product of its column
-pub column_subtracted : (to p rows z : ℕ) (w v : List Float) → to + 1 ≤ length v → (s : Float) → s ≡ column_sum w p v z rows
-    → set v to (ieee.minus (at v to) s) ≡ subtract_columns to 1 p rows z w v
-column_subtracted to p rows z w v fits s is =
-    filling_done
-    (entry_subtracted (λ i. column_sum w (p + start (dense rows) i) v z rows) (filling_none _ to 1 v fits) (omega arith) to (omega arith) s
-    (is ∙ ap (λ (x : ℕ). column_sum w x v z rows) (omega (arith, start_dense rows 0))))
-    (omega arith)
+-- a block is as it was while the vector that is clear of it is written
+pub held_same : {f : ℕ → Float} {to : ℕ} (a : Block) {v₀ v : List Float} {c : ℕ} (doubles : Option (Bor (List Float))) → ClearIn doubles to a → Filling f to a.cols v₀ v c
+    → (i : ℕ) → i < size_of (columns a.rows a.cols) → at (held doubles v) (a.at + i) ≡ at (held doubles v₀) (a.at + i)
+held_same a None clear e = filling_apart e nan _ _ clear
+held_same a (Some w) clear e = λ i l. refl
 
--- four entries less the products of four columns
-pub four_subtracted : (to p rows z : ℕ) (w v v' : List Float) (s s1 s2 s3 : Float) → s ≡ column_sum w p v z rows → s1 ≡ column_sum w (p + rows) v z rows
-    → s2 ≡ column_sum w (p + rows + rows) v z rows → s3 ≡ column_sum w (p + rows + rows + rows) v z rows
-    → ((f : ℕ → Float) → s ≡ f 0 → s1 ≡ f 1 → s2 ≡ f 2 → s3 ≡ f 3 → v' ≡ run to 4 (λ i. ieee.minus (at v (to + i)) (f i)) v) → v' ≡ subtract_columns to 4 p rows z w v
-four_subtracted to p rows z w v v' s s1 s2 s3 is is1 is2 is3 so =
-    so (λ i. column_sum w (p + start (dense rows) i) v z rows)
-    (is ∙ place (omega (arith, start_dense rows 0)))
-    (is1 ∙ place (omega (arith, start_dense rows 1)))
-    (is2 ∙ place (omega (arith, start_dense rows 2)))
-    (is3 ∙ place (omega (arith, start_dense rows 3)))
-  where
-    place : {x y : ℕ} → x ≡ y → column_sum w x v z rows ≡ column_sum w y v z rows
-    place e = ap (λ (x : ℕ). column_sum w x v z rows) e
+-- the list that is read where there may be none of its own
+pub held_read : (doubles : Option (Bor (List Float))) (v : Bor (List Float)) → (unwrap_or doubles v).now ≡ held doubles v.now
+held_read None v = refl
+held_read (Some w) v = refl
+
+pub held_long : (doubles : Option (Bor (List Float))) (v v₀ : List Float) → length v ≡ length v₀ → length (held doubles v) ≡ length (held doubles v₀)
+held_long None v v₀ e = e
+held_long (Some w) v v₀ e = refl
 
 module _ (to z : ℕ) (a : Block) (w v₀ : List Float) (sides : Sides (length v₀) z to a) where
   -- c columns and k more; the block may lie in the list that is written, if it stays as it was

@@ -1,6 +1,7 @@
 -- A vector less a block times a vector (document 01, Record 7). The vectors lie in the list v, the block a in w: the entries from `to` on become the
 -- rule's, and every other double stays.
-use Rattle.std.specs.Prelude.{ℕ, ◌+◌, ◌≤◌, ◌<◌, cond, List, ◌⊎◌, length, get_or, set, Float}
+use Rattle.std.specs.Prelude.{ℕ, ◌+◌, ◌≤◌, ◌<◌, cond, List, ◌⊎◌, ⊤, Option, None, Some, length, get_or, set, Float}
+use Rattle.std.specs.Borrow.{Bor}
 use Rattle.storage.specs.Runs.{start, dense}
 use Rattle.storage.specs.Shape.{columns, size_of}
 use Rattle.storage.specs.declared.Block.{Block}
@@ -19,6 +20,16 @@ pub record Sides (n r c : ℕ) (a : Block) : Type 0 where
 -- block a by columns, and a vector from c on with an entry for each of them: apart
 abbrev pub Clear : (c : ℕ) → Block → Type 0
 Clear c a = (c + a.cols ≤ a.at) ⊎ (a.at + size_of (columns a.rows a.cols) ≤ c)
+
+-- the list that a block lies in: one of its own, or v
+abbrev pub held : Option (Bor (List Float)) → List Float → List Float
+held None v = v
+held (Some w) v = w.now
+
+-- in v it is clear of the vector that is written
+abbrev pub ClearIn : Option (Bor (List Float)) → (c : ℕ) → Block → Type 0
+ClearIn None c a = Clear c a
+ClearIn (Some w) c a = ⊤
 
 -- the row of the entry in column c of a sparse block, by the list of these rows
 abbrev pub row_in : List ℕ → ℕ → ℕ

@@ -5,7 +5,6 @@
 
 pub mod column_sums;
 pub mod matvec_t;
-pub mod own_products;
 pub mod sparse_matvec;
 pub mod sparse_matvec_t;
 
@@ -13,7 +12,7 @@ ghost use Rattle.std.specs.Prelude.{◌≡◌, ◌≤◌, length};
 ghost use Rattle.storage.specs.Placed.{Lies, as_columns};
 ghost use Rattle.cross_matvec.specs.Products.{Sides, subtracted_product};
 
-use block_runs::{axpy_products, run_copies, run_differences};
+use block_runs::{axpy_products, runs};
 use storage::Block;
 
 // The sums of the rows, side by side in acc, then the entries at `to`.
@@ -22,9 +21,9 @@ fn subtract_sums(v: &mut [f64], acc: &mut [f64], to: usize, z: usize, doubles: &
     ensures { v.new ≡ subtracted_product to z a doubles.now v.old }
 {
     let n = a.rows;
-    run_copies::clear(acc, n);
+    runs::clear(acc, n);
     axpy_products::add_products(acc, n, doubles, a.at, n, v, z, 1, 0, a.cols);
-    run_differences::subtract(v, to, to + n, 0, n, acc);
+    runs::subtract(v, to, to, n, acc);
 }
 
 // Going forward: the vector at `to` less a dense block times the vector at z.

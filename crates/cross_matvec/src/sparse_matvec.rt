@@ -5,13 +5,6 @@ ghost use Rattle.cross_matvec.specs.Products.{HasRows, Sides, row_in, subtracted
 
 use storage::Block;
 
-// A row's number as an index.
-pub fn wide(x: u32) -> usize
-    ensures { result ≡ x }
-{
-    x as usize
-}
-
 // v[at] less x times e, unless e is ±0.
 fn subtract_entry(v: &mut [f64], at: usize, x: f64, e: f64)
     requires { at < length v.old }
@@ -35,12 +28,10 @@ pub fn sparse_matvec_sub(
     requires { Sides (length v.old) to z a × Lies (length doubles.now) (as_entries (row_in rows.now) a) × HasRows rows.now a }
     ensures { v.new ≡ subtracted_sparse_product (row_in rows.now) to z a doubles.now v.old }
 {
-    let mut c = 0;
-    while c < a.cols {
-        let r = wide(rows[c]);
+    for c in 0..a.cols {
+        let r = rows[c] as usize;
         let x = doubles[a.at + c];
         let e = v[z + c];
         subtract_entry(v, to + r, x, e);
-        c += 1;
     }
 }

@@ -4,7 +4,6 @@ ghost use Rattle.storage.specs.Placed.{Lies, as_entries};
 ghost use Rattle.block_runs.specs.axpy.Axpy.{at};
 ghost use Rattle.cross_matvec.specs.Products.{HasRows, Sides, row_in, subtracted_sparse_product_t};
 
-use crate::sparse_matvec;
 use storage::Block;
 
 // Entry r of the vector at z, read from the part that starts there: one place less to be kept in a loop.
@@ -28,12 +27,10 @@ pub fn sparse_matvec_t_sub(
     requires { Sides (length v.old) z to a × Lies (length doubles.now) (as_entries (row_in rows.now) a) × HasRows rows.now a }
     ensures { v.new ≡ subtracted_sparse_product_t (row_in rows.now) to z a doubles.now v.old }
 {
-    let mut c = 0;
-    while c < a.cols {
-        let r = sparse_matvec::wide(rows[c]);
+    for c in 0..a.cols {
+        let r = rows[c] as usize;
         let y = value(v, z, r);
         let s = 0.0 + doubles[a.at + c] * y;
         v[to + c] = v[to + c] - s;
-        c += 1;
     }
 }

@@ -21,8 +21,6 @@ use Rattle.step_order.proofs.Next.{some_next}
 use Rattle.step_order.proofs.Refusal.{refused_below}
 use Rattle.rules.specs.Arithmetic.{ieee}
 use Rattle.sheet.specs.Sheet.{Sheet}
-use Rattle.refusal.specs.declared.Answer.{Answer}
-use Rattle.refusal.specs.declared.Answer.TheVariants.{Accepted, Refused}
 use Rattle.refusal.specs.Numbers.{refuse}
 use Rattle.layout.specs.declared.Layout.{Layout}
 use Rattle.heading_format.specs.declared.Progress.{Progress}
@@ -48,17 +46,19 @@ use Rattle.demand3.proofs.invariant.Site.{layout_of_lem, progress_of_lem, alike,
 use Rattle.demand3.proofs.invariant.Step.{Comes, step_ready, step_comes}
 use Rattle.demand3.proofs.step_laws.Rust.{answer_for, answer_in, rust_answer, in_step_lem}
 use Rattle.heading_format.specs.Parts.{progress_at, progress_end}
+use Rattle.std.specs.Prelude.{Result, Ok, Err}
+use Rattle.refusal.specs.declared.Refusal.{Refusal}
 
 -- a row that is refused is no acceptance
-refused_not : {X : Type 0} (n a b : ℕ) → refuse n a b ≡ Accepted → X
+refused_not : {X : Type 0} (n a b : ℕ) → refuse n a b ≡ (Ok tt) → X
 refused_not n a b e = absurd (subst Is e tt)
   where
-    Is : Answer → Type 0
-    Is Accepted = ⊥
-    Is (Refused r) = Unit
+    Is : Result Unit Refusal → Type 0
+    Is (Ok tt) = ⊥
+    Is (Err r) = Unit
 
 -- an accepted step met no refused pivot
-pivot_none : (h : List ℕ) (w : List Float) (s : Step) (r : Option ℕ) → (on_pivot h w r s).answer ≡ Accepted → r ≡ none
+pivot_none : (h : List ℕ) (w : List Float) (s : Step) (r : Option ℕ) → (on_pivot h w r s).answer ≡ (Ok tt) → r ≡ none
 pivot_none h w s none e = refl
 pivot_none h w s (some r) e = refused_not 26 (col s) r e
 
@@ -163,7 +163,7 @@ module _ (sheet : Sheet) (h : List ℕ) (w : List Float) (here : Site sheet h w)
       (step_comes sheet h w here b.loaded b.theta d v with_set s r.exists r.undone r.forerun)
       ∙ sym (in_step_lem sheet h w here b.loaded b.theta (loaded_many sheet h w here b v stands) g.theta_many g.theta_finite s)
 
-  ready_writes : (s : Step) → ReadyBy (last sheet) d s → (step_of v.heading v.doubles s).answer ≡ Accepted → Writes v s (step_of v.heading v.doubles s).left
+  ready_writes : (s : Step) → ReadyBy (last sheet) d s → (step_of v.heading v.doubles s).answer ≡ (Ok tt) → Writes v s (step_of v.heading v.doubles s).left
   ready_writes s r a =
       let t = step_ready sheet h w here b.loaded b.theta d v with_set s r.exists r.undone r.forerun in
       let q : refused_by v.heading v.doubles s ≡ none = pivot_none v.heading v.doubles s (refused_by v.heading v.doubles s) (ap (λ (o : Outcome). o.answer) (sym t) ∙ a) in

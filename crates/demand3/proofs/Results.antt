@@ -26,10 +26,8 @@ use Rattle.heading_format.proofs.Sorted.{order_below}
 use Rattle.workspace.specs.Memory.{Workspace, theta_of, sorted_theta, zeros}
 use Rattle.workspace.specs.Load.{heading_of, load_of}
 use borrow.Author.Tests.{eq-eqb}
-use Rattle.profile.specs.declared.Solve.TheVariants.{Solved}
 use Rattle.profile.specs.Finish.{result_length, refused_row, solution_of, result_list, on_pivot, solve_of}
 use Rattle.profile.specs.declared.Deviance.TheVariants.{Value, NoScale}
-use Rattle.profile.specs.declared.DevianceAnswer.TheVariants.{Given}
 use Rattle.profile.specs.Deviance.{freedom, last_block_pivot, deviance_value, deviance_from_factor}
 use Rattle.profile.proofs.Same.{Same, same_deviance, same_solution}
 use Rattle.book.specs.Calls.{left_by}
@@ -43,9 +41,12 @@ use Rattle.demand3.proofs.step_laws.Finished.{finished_factor, finished_sum, fin
 use Rattle.demand3.proofs.step_laws.Rust.{through}
 use Rattle.demand3.proofs.Calls.{all_left}
 use Rattle.demand3.proofs.Finished.{last_pivot, claim, no_step_left}
+use Rattle.std.specs.Prelude.{Result, Ok}
+use Rattle.refusal.specs.declared.Refusal.{Refusal}
+use Rattle.profile.specs.declared.Deviance.{Deviance}
 
 -- where r2 is not refused, d alone decides on "no scale"
-scale_by : (a b : Bool) (x : Float) → a ≡ false → (Given (pick (a || b) NoScale (Value x)) ≡ Given NoScale) ↔ (b ≡ true)
+scale_by : (a b : Bool) (x : Float) → a ≡ false → (◌≡◌ {A = Result Deviance Refusal} (Ok (pick (a || b) NoScale (Value x))) (Ok NoScale)) ↔ (b ≡ true)
 scale_by true b x e = absurd (true≢false e)
 scale_by false true x e = (λ q. refl, λ q. refl)
 scale_by false false x e = (λ q. absurd (let z : ◌≡◌ {A = ℕ} 0 1 = cc in omega arith), λ q. absurd (true≢false (sym q)))
@@ -89,23 +90,23 @@ module _ (sheet : Sheet) (loaded theta : List Float) where
         ∙ ap (λ (t : List Float). get_or t at ieee.zero) e.stands.updating.1.theta_kept
 
     -- neither 20 nor 25
-    answer_is : (reml : Bool) → deviance_from_factor v.heading v.doubles reml ≡ Given (deviance_value v.heading v.doubles reml)
+    answer_is : (reml : Bool) → deviance_from_factor v.heading v.doubles reml ≡ Ok (deviance_value v.heading v.doubles reml)
     unfolding deviance_from_factor
     answer_is reml = rw (valid_is, state_is) refl
 
     solve_is : (reml : Bool) (out : List Float) → length out ≡ result_length (layout sheet)
         → solve_of v.heading v.doubles reml out
-        ≡ on_pivot (refused_row v.heading v.doubles) (length out) (record { answer = Solved (solution_of v.heading v.doubles reml); result = result_list v.heading v.doubles })
+        ≡ on_pivot (refused_row v.heading v.doubles) (length out) (record { answer = Ok (solution_of v.heading v.doubles reml); result = result_list v.heading v.doubles })
     unfolding solve_of
     solve_is reml out many =
         rw (valid_is, state_is, eq-eqb (length out) (result_length (layout_of v.heading)) (many ∙ sym (ap result_length layout_is))) refl
 
     -- "no scale" comes of d, since r2 is not refused (`FinishedClaim`)
-    scale_is : (reml : Bool) → (deviance_from_factor v.heading v.doubles reml ≡ Given NoScale) ↔ (ieee.refused (freedom (layout sheet) reml) ≡ true)
+    scale_is : (reml : Bool) → (deviance_from_factor v.heading v.doubles reml ≡ Ok NoScale) ↔ (ieee.refused (freedom (layout sheet) reml) ≡ true)
     unfolding deviance_from_factor
     scale_is reml =
         rw (valid_is, state_is)
-        (subst (λ (y : Layout). (Given (deviance_value v.heading v.doubles reml) ≡ Given NoScale) ↔ (ieee.refused (freedom y reml) ≡ true)) layout_is
+        (subst (λ (y : Layout). (◌≡◌ {A = Result Deviance Refusal} (Ok (deviance_value v.heading v.doubles reml)) (Ok NoScale)) ↔ (ieee.refused (freedom y reml) ≡ true)) layout_is
         (scale_by _ _ _
         (ap (λ (y : Layout). let p = last_block_pivot v.heading v.doubles false (response_row y) in ieee.refused (ieee.times p p)) layout_is
         ∙ (claim sheet e.h e.w e.here loaded theta e.d v e.stands e.left).scale)))

@@ -1,5 +1,5 @@
 -- Demand 3 of the mission as one proposition: about every list of calls from every accepted load.
-use Rattle.std.specs.Prelude.{ℕ, ◌+◌, ◌<◌, ◌≤◌, ◌≡◌, Bool, true, false, List, length, get_or, take, drop, replicate, Float}
+use Rattle.std.specs.Prelude.{ℕ, ◌+◌, ◌<◌, ◌≤◌, ◌≡◌, Bool, true, false, List, length, get_or, take, drop, replicate, Float, Result, Ok}
 use Rattle.std.proofs.Math.Option.{some}
 use Rattle.step_order.specs.Steps.{Step, S, C, T, IsStep, row, col, forerunners}
 use Rattle.step_order.specs.Progress.{all, done}
@@ -7,8 +7,6 @@ use Rattle.rules.specs.Arithmetic.{ieee}
 use Rattle.sheet.specs.Sheet.{Sheet, accepted, sheet_of}
 use Rattle.sheet.specs.declared.Starts.{Starts}
 use Rattle.heading_format.specs.declared.State.TheVariants.{UnderWay, Finished}
-use Rattle.refusal.specs.declared.Answer.{Answer}
-use Rattle.refusal.specs.declared.Answer.TheVariants.{Accepted}
 use Rattle.refusal.specs.Numbers.{refuse}
 use Rattle.layout.specs.Shapes.{sizes, loaded_length, working_at, sum_at, doubles_needed, shape, theta_at, response_row, theta_length}
 use Rattle.heading_format.specs.Heading.{layout_of, progress_of, stage_of, entry_row, valid_heading}
@@ -22,6 +20,7 @@ use Rattle.storage.specs.Part.{part, store}
 use Rattle.storage.specs.Shape.{Shape}
 use Rattle.update.specs.Working.{pivot_count}
 use Rattle.heading_format.specs.Parts.{progress_at, progress_end, unused_numbers, heading_length, unused_at}
+use Rattle.refusal.specs.declared.Refusal.{Refusal}
 
 -- step s is undone and its forerunners are done, by the set d
 pub record ReadyBy (k : ℕ) (d : Step → Bool) (s : Step) : Type 0 where
@@ -55,8 +54,8 @@ pub record Writes (v : Workspace) (s : Step) (u : Workspace) : Type 0 where
   pub progress : progress_of u.heading ≡ advanced (progress_of v.heading) s
 
 -- accepted, or 26 with the row of a refused pivot in one of the blocks up to k
-pub data AcceptedOr26 (k : ℕ) (a : Answer) : Type 0 where
-  accepts : a ≡ Accepted → AcceptedOr26 k a
+pub data AcceptedOr26 (k : ℕ) (a : Result Unit Refusal) : Type 0 where
+  accepts : a ≡ (Ok tt) → AcceptedOr26 k a
   refuses : (block row : ℕ) → block ≤ k → a ≡ refuse 26 block row → AcceptedOr26 k a
 
 -- the shape of factor j
@@ -90,7 +89,7 @@ module _ (sheet : Sheet) where
         (s : Step) → ReadyBy (last sheet) d s → (step_of v.heading v.doubles s).answer ≡ in_step sheet s (rust sheet b.loaded b.theta).answer
     -- "and writes by its rule its own block, the progress and, where it takes logarithms, their sum, nothing else"
     pub writes :
-        (s : Step) → ReadyBy (last sheet) d s → (step_of v.heading v.doubles s).answer ≡ Accepted → Writes v s (step_of v.heading v.doubles s).left
+        (s : Step) → ReadyBy (last sheet) d s → (step_of v.heading v.doubles s).answer ≡ (Ok tt) → Writes v s (step_of v.heading v.doubles s).left
     -- "until the last step or a refused pivot some step is ready"
     pub some_ready : (s : Step) × ReadyBy (last sheet) d s
 
@@ -101,7 +100,7 @@ module _ (sheet : Sheet) where
   -- ---- "a finished update leaves the factor and log determinant that document 01's begin and the Rust's order give a freshly loaded workspace with the
   -- same loaded numbers and theta"
   pub record FinishedClaim (b : Book) (v : Workspace) : Type 0 where
-    pub accepts : (rust sheet b.loaded b.theta).answer ≡ Accepted
+    pub accepts : (rust sheet b.loaded b.theta).answer ≡ (Ok tt)
     pub factor :
         (i j : ℕ) → j ≤ i → i ≤ last sheet
         → working_block v.heading v.doubles i j ≡ working_block (rust sheet b.loaded b.theta).left.heading (rust sheet b.loaded b.theta).left.doubles i j
@@ -139,4 +138,4 @@ module _ (sheet : Sheet) where
 unfoldable pub Demand3 : Type 0
 Demand3 =
     (bytes : List ℕ) (sheet : Sheet) (starts : Starts) (h : List ℕ) (w : List Float)
-    → sheet_of bytes ≡ accepted sheet starts → (load_of bytes h w).answer ≡ Accepted → (calls : List Call) → Holds sheet h w (load_of bytes h w).left calls
+    → sheet_of bytes ≡ accepted sheet starts → (load_of bytes h w).answer ≡ (Ok tt) → (calls : List Call) → Holds sheet h w (load_of bytes h w).left calls

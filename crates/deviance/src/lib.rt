@@ -6,62 +6,45 @@
 pub mod deviance_tail;
 pub mod deviance_value;
 
-ghost use Rattle.std.specs.Prelude.{◌≡◌, true, length};
-ghost use Rattle.heading_format.specs.Heading.{valid_heading};
-ghost use Rattle.refusal.specs.Numbers.{refusal};
-ghost use Rattle.profile.specs.Deviance.{is_finished, deviance_meaning, deviance_from_factor};
+ghost use Rattle.std.specs.Prelude.{◌≡◌, length, Ok};
+ghost use Rattle.heading_format.specs.Heading.{layout_of};
+ghost use Rattle.profile.specs.Deviance.{is_finished, of_finished, deviance_meaning, deviance_from_factor};
 
 use heading_format::State;
-use profile::DevianceAnswer;
+use layout::Layout;
+use profile::Deviance;
 use refusal::Refusal;
-
-// A number with no place.
-pub fn refused(number: u64) -> Refusal
-    ensures { result ≡ refusal number 0 0 }
-{
-    Refusal {
-        number,
-        first: 0,
-        second: 0,
-    }
-}
 
 // Whether an update has ended.
 pub fn is_finished(s: State) -> bool
     ensures { result ≡ is_finished s }
 {
-    match s {
-        State::Idle => false,
-        State::UnderWay => false,
-        State::Finished => true,
-    }
+    matches!(s, State::Finished)
 }
 
-// The deviance of a workspace; 25 where its factor is not finished.
-fn of_workspace(heading: &[u32], doubles: &[f64], reml: bool) -> DevianceAnswer
-    requires { valid_heading heading.now (length doubles.now) ≡ true }
-    ensures { result ≡ deviance_from_factor heading.now doubles.now reml }
+// The layout of a workspace of so many doubles whose factor is finished: 20, 25.
+pub fn finished_layout(heading: &[u32], doubles: usize) -> Result<Layout, Refusal>
+    ensures { result ≡ of_finished heading.now doubles (Ok (layout_of heading.now)) }
 {
-    let layout = heading::layout(heading);
-    let progress = heading::progress(heading);
-    let state = progress.state;
-    if is_finished(state) {
-        return DevianceAnswer::Given(deviance_tail::tail(
-            layout,
-            doubles,
-            deviance_tail::log_determinant(layout, doubles),
-            reml,
-        ));
+    if !heading_check::is_valid_heading(heading, doubles) {
+        return Err(Refusal::NoWorkspace);
     }
-    DevianceAnswer::Refused(refused(25))
+    let progress = heading::progress(heading);
+    if !is_finished(progress.state) {
+        return Err(Refusal::FactorUnfinished);
+    }
+    Ok(heading::layout(heading))
 }
 
 // The deviance of the factor as it stands. Any numbers and doubles may be lent: 20 where they are no workspace, 25 where the factor is not finished.
-pub fn deviance_from_factor(heading: &[u32], doubles: &[f64], reml: bool) -> DevianceAnswer
+pub fn deviance_from_factor(
+    heading: &[u32],
+    doubles: &[f64],
+    reml: bool,
+) -> Result<Deviance, Refusal>
     ensures { deviance_meaning result ≡ deviance_meaning (deviance_from_factor heading.now doubles.now reml) }
 {
-    if heading_check::is_valid_heading(heading, doubles.len()) {
-        return of_workspace(heading, doubles, reml);
-    }
-    DevianceAnswer::Refused(refused(20))
+    let layout = finished_layout(heading, doubles.len())?;
+    let logdet = deviance_tail::log_determinant(layout, doubles);
+    Ok(deviance_tail::tail(layout, doubles, logdet, reml))
 }

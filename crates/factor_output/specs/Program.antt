@@ -1,18 +1,16 @@
 -- The program `factor` (document 01, "Worked sheets"): a sheet and k theta lines to its pivots, or to a refusal, which is then the only line.
-use Rattle.std.specs.Prelude.{ℕ, zero, suc, ◌&&◌, cond, List, [], ◌∷◌, ◌++◌, ltb, eqb, length, replicate, Float}
+use Rattle.std.specs.Prelude.{ℕ, zero, suc, ◌&&◌, cond, List, [], ◌∷◌, ◌++◌, ltb, eqb, length, replicate, Float, Result, Ok, Err}
 use Rattle.step_order.specs.Steps.{rust_order}
 use Rattle.rules.specs.Arithmetic.{ieee}
-use Rattle.sheet.specs.declared.Cursor.{Cursor}
 use Rattle.sheet.specs.declared.Line.{Line}
 use Rattle.sheet.specs.declared.Starts.{Starts}
 use Rattle.sheet.specs.Line.{tab, in_form, single_line, Test, verdict_of}
-use Rattle.sheet.specs.Run.{Run, lines_of, rows_from}
+use Rattle.sheet.specs.Run.{Cursor, Run, lines_of, rows_from}
 use Rattle.sheet.specs.Sheet.{Sheet, Outcome, read_sheet}
 use Rattle.sheet.specs.Fault.{fault_number, faulty_line}
 use Rattle.sheet.specs.Answer.{checked}
 use Rattle.refusal.specs.declared.Refusal.{Refusal}
-use Rattle.refusal.specs.declared.Answer.{Answer}
-use Rattle.refusal.specs.declared.Answer.TheVariants.{Accepted, Refused}
+use Rattle.refusal.specs.Numbers.{numbers_of}
 use Rattle.layout.specs.Shapes.{shape}
 use Rattle.heading_format.specs.Heading.{layout_of, entry_row}
 use Rattle.workspace.specs.Memory.{Workspace, cell_of, working_block}
@@ -49,16 +47,16 @@ pivot_lines v zero = []
 pivot_lines v (suc j) = let h = v.heading in pivot_lines v j ++ pivot_rows v j (pivot_count (shape (layout_of h) (entry_row h) j j))
 
 abbrev pub print_refusal : Refusal → List ℕ
-print_refusal r = refused_line r.number r.first r.second
+print_refusal r = let n = numbers_of r in refused_line n.number n.first n.second
 
-abbrev pub print_steps : Answer → Workspace → ℕ → List ℕ
-print_steps Accepted v k = pivot_lines v (suc k)
-print_steps (Refused r) v k = print_refusal r
+abbrev pub print_steps : Result Unit Refusal → Workspace → ℕ → List ℕ
+print_steps (Ok tt) v k = pivot_lines v (suc k)
+print_steps (Err r) v k = print_refusal r
 
 -- ---- begin with theta, and the steps in the Rust's order
-abbrev pub after_begin : Answer → Workspace → ℕ → List ℕ
-after_begin Accepted v k = let o = run_of v (rust_order k) in print_steps o.answer o.left k
-after_begin (Refused r) v k = print_refusal r
+abbrev pub after_begin : Result Unit Refusal → Workspace → ℕ → List ℕ
+after_begin (Ok tt) v k = let o = run_of v (rust_order k) in print_steps o.answer o.left k
+after_begin (Err r) v k = print_refusal r
 
 unfoldable pub factor_with : Workspace → ℕ → List Float → List ℕ
 unfolding begin_of run_of pivot_lines refused_line
@@ -86,9 +84,9 @@ after_theta t s v k =
     cond (eqb t.past.number 0 && eqb t.past.at (length s)) good (refused_line 2 t.past.line 0)
 
 -- ---- load, whose own 12 comes before the theta part
-abbrev pub after_load : Answer → Workspace → Counts → List ℕ → Starts → List ℕ
-after_load Accepted v z s starts = after_theta (theta_lines s (thetas_due z) (record { at = starts.end; line = starts.line; number = 0 })) s v z.k
-after_load (Refused r) v z s starts = print_refusal r
+abbrev pub after_load : Result Unit Refusal → Workspace → Counts → List ℕ → Starts → List ℕ
+after_load (Ok tt) v z s starts = after_theta (theta_lines s (thetas_due z) (record { at = starts.end; line = starts.line; number = 0 })) s v z.k
+after_load (Err r) v z s starts = print_refusal r
 
 abbrev pub after_sheet : Sheet → List ℕ → Starts → List ℕ
 after_sheet sheet s starts =

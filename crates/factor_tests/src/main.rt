@@ -10,10 +10,10 @@ use std::io::{Read, Write};
 // The word whose highest byte is byte j of a text that has so many words in the list: the next one, or the one before rotated by a byte, so that the
 // last word goes on to the end.
 fn next_word(list: &mut impl Read, x: u64, j: usize, words: u64) -> io::Result<u64> {
-    if (j % 8 == 0) & (((j / 8) as u64) < words) {
-        return Ok(test_words::read_word(list)?.word);
+    if j % 8 == 0 && ((j / 8) as u64) < words {
+        return test_words::read_word(list);
     }
-    Ok(x % 0x100000000000000 * 256 + x / 0x100000000000000 % 256)
+    Ok(x.rotate_left(8))
 }
 
 // The next text of the list, to the bytes of s from `from` on: where it ends, how many words it has, and the words. Answers where it ends. An error is one
@@ -22,43 +22,33 @@ fn read_text(list: &mut impl Read, s: &mut [u8], from: usize) -> io::Result<usiz
     ensures within { IfOk result (λ end. end ≤ length s.new) }
     ensures kept { length s.new ≡ length s.old }
 {
-    let end = test_words::size(test_words::read_word(list)?.word, s.len());
-    let words = test_words::read_word(list)?.word;
+    let end = test_words::size(test_words::read_word(list)?, s.len());
+    let words = test_words::read_word(list)?;
     let mut x: u64 = 0;
-    let mut i = from;
-    while i < end {
+    for i in from..end {
         x = next_word(list, x, i - from, words)?;
-        s[i] = (x / 0x100000000000000 % 256) as u8;
-        i += 1;
+        s[i] = (x >> 56) as u8;
     }
     Ok(end)
-}
-
-// The line with an input's number.
-fn report(out: &mut impl Write, number: u64) -> io::Result<()> {
-    write!(out, "input")?;
-    test_words::print_number(out, number)?;
-    writeln!(out)
 }
 
 // What `factor` prints for an input, behind the line with its number.
 fn run(out: &mut impl Write, number: u64, input: &[u8]) -> io::Result<()> {
     let mut text = [0u8; 131072];
     let n = factor_text::factor(input, &mut text);
-    report(out, number)?;
+    writeln!(out, "input {number}")?;
     out.write_all(&text[..n])
 }
 
 // An input's first word says how many bytes it has in common with the one before, which s has. A proved loop has to end, and nothing says that a file
 // does, so it takes a million inputs at most.
 fn replay(list: &mut impl Read, out: &mut impl Write, s: &mut [u8]) -> io::Result<()> {
-    let mut number: u64 = 1;
-    let mut next = test_words::read_word(list)?;
-    while number < 1000000 && next.more {
-        let end = read_text(list, s, test_words::size(next.word, 65536))?;
+    for number in 1..1000000u64 {
+        let Some(common) = test_words::next_word(list)? else {
+            break;
+        };
+        let end = read_text(list, s, test_words::size(common, 65536))?;
         run(out, number, &s[..end])?;
-        next = test_words::read_word(list)?;
-        number += 1;
     }
     Ok(())
 }

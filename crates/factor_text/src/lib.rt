@@ -17,30 +17,33 @@ ghost use Rattle.factor_text.specs.refusal_text.Text.{Text};
 ghost use Rattle.factor_text.specs.Written.{Written};
 
 use heading_format::parts;
-use refusal::Answer;
-use sheet::{Reading, Starts};
+use refusal::{Numbers, Refusal};
+use sheet::Starts;
+
+// No output has more bytes.
+const MOST_BYTES: usize = 131072;
 
 // What load came to: the theta part, or its refusal.
 fn put_loaded(
-    a: Answer,
+    a: Result<(), Refusal>,
     bytes: &[u8],
     starts: Starts,
     heading: &mut [u32],
     doubles: &mut [f64],
-    out: &mut [u8],
+    out: &mut [u8; MOST_BYTES],
 ) -> usize
-    requires { (starts.counts.k ≤ 8) × (starts.line + starts.counts.k < 9223372036854775808) × (length doubles.old ≤ 4096) × (131072 ≤ length out.old) }
+    requires { (starts.counts.k ≤ 8) × (starts.line + starts.counts.k < 9223372036854775808) × (length doubles.old ≤ 4096) }
     ensures { Text (after_load a (workspace heading.old doubles.old) starts.counts bytes.now starts) result out.old out.new }
 {
     match a {
-        Answer::Accepted => theta_text::put_theta(bytes, starts, heading, doubles, out),
-        Answer::Refused(r) => refusal_text::put_refusal(out, r.number, r.first, r.second),
+        Ok(()) => theta_text::put_theta(bytes, starts, heading, doubles, out),
+        Err(r) => refusal_text::put_refusal(out, r.numbers()),
     }
 }
 
 // A sheet that 1 to 9 do not refuse, on a heading and 4,096 doubles, all zero.
-fn put_sheet(bytes: &[u8], starts: Starts, out: &mut [u8]) -> usize
-    requires { ((sheet : Sheet) × (read_sheet bytes.now ≡ accepted sheet starts) × (fault_number sheet ≡ 0)) × (131072 ≤ length out.old) }
+fn put_sheet(bytes: &[u8], starts: Starts, out: &mut [u8; MOST_BYTES]) -> usize
+    requires { (sheet : Sheet) × (read_sheet bytes.now ≡ accepted sheet starts) × (fault_number sheet ≡ 0) }
     ensures { Text (after_read (read_sheet bytes.now) bytes.now) result out.old out.new }
 {
     let mut h = [0u32; parts::HEADING_LENGTH];
@@ -53,15 +56,14 @@ fn put_sheet(bytes: &[u8], starts: Starts, out: &mut [u8]) -> usize
 pub fn factor(input: &[u8], out: &mut [u8]) -> usize
     ensures { Written input.now out.old result out.new }
 {
-    if out.len() < 131072 {
+    let Some(out) = out.first_chunk_mut::<MOST_BYTES>() else {
         return 0;
-    }
+    };
     if 32768 < input.len() {
-        return refusal_text::put_refusal(out, 12, 0, 0);
+        return refusal_text::put_refusal(out, Refusal::WorkspaceTooShort.numbers());
     }
-    let r = sheet_checks::read_and_check_prefix(input);
-    match r {
-        Reading::Sheet(z) => put_sheet(input, z, out),
-        Reading::Refused { number, line } => refusal_text::put_refusal(out, number, line, 0),
+    match sheet_checks::read_and_check_prefix(input) {
+        Ok(starts) => put_sheet(input, starts, out),
+        Err(r) => refusal_text::put_refusal(out, Numbers::new(r.number, r.line, 0)),
     }
 }

@@ -28,15 +28,10 @@ fn lifted(q: u64) -> Parts
     requires { (0 < q) × (q < 2 ^ 52) }
     ensures { result ≡ leading q 0 }
 {
-    let mut m = q;
-    let mut t: u64 = 52;
-    while m < 4503599627370496 {
-        m = m * 2;
-        t -= 1;
-    }
+    let places = q.leading_zeros() - 11;
     Parts {
-        significand: m,
-        exponent: t,
+        significand: q << places,
+        exponent: 52 - u64::from(places),
     }
 }
 
@@ -61,8 +56,8 @@ pub fn classify(x: f64) -> Kind
     ensures { result ≡ kind_of x }
 {
     if x > 0.0 {
-        if x < 1.0 / 0.0 {
-            return Kind::Positive(of_bits(f64::to_bits(x)));
+        if x < f64::INFINITY {
+            return Kind::Positive(of_bits(x.to_bits()));
         }
         return Kind::PlusInfinity;
     }

@@ -15,7 +15,7 @@ pub fn double(word: u64) -> f64
     ensures { result ≡ of_bits binary64 word }
 {
     if word % SIGN > INFINITY {
-        return 0.0 / 0.0;
+        return f64::NAN;
     }
     f64::from_bits(word)
 }
@@ -24,8 +24,8 @@ pub fn double(word: u64) -> f64
 pub fn word_of(x: f64) -> u64
     ensures { result ≡ to_bits binary64 x }
 {
-    if x != x {
+    if x.is_nan() {
         return NAN;
     }
-    f64::to_bits(x)
+    x.to_bits()
 }

@@ -1,7 +1,9 @@
 -- The numbers of a heading, read into an array and written out of one.
 use Prim.Native.Nat.{ℕ, zero, suc, ◌+◌, ◌≤◌, ◌<◌}
 use mathlib.Core.Path.{◌≡◌, refl, sym, ap, ◌∙◌}
+use mathlib.Core.Bool.{Bool, true, false}
 use mathlib.Core.List.{List, [], ◌∷◌, ◌++◌}
+use mir.Val.{bool_byte}
 use native.Mathlib.Nat.{add-zero}
 use native.Mathlib.Omega.{arith}
 use lib.Dec.{eqb}
@@ -111,6 +113,10 @@ module _ (w : List ℕ) {w₁ w₂ w₃ w₄ : List ℕ} where
       flags = bit y.sparse ∷ bit y.diagonal ∷ []
 
 -- the flags
+pub flag_number : (b : Bool) → bool_byte b ≡ bit b
+flag_number true = refl
+flag_number false = refl
+
 pub flags_stored : (w : List ℕ) {w₁ w₂ : List ℕ} {a b : ℕ} (s d : ℕ) → w₂ ≡ store diagonal_at (b ∷ []) w₁ → w₁ ≡ store sparse_at (a ∷ []) w → a ≡ s → b ≡ d → progress_at ≤ length w → w₂ ≡ store sparse_at (s ∷ d ∷ []) w
 flags_stored w s d e₂ e₁ a b h = rw (e₂, e₁, a, b) (then w sparse_at diagonal_at (s ∷ []) (d ∷ []) refl (omega arith))
 

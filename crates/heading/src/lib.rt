@@ -12,19 +12,12 @@ ghost use Rattle.heading_format.specs.Parts.{stages_at, most_targets, progress_e
 use heading_format::{Progress, State, parts};
 use layout::Layout;
 
-// A number of the heading as a count.
-fn wide(x: u32) -> u64
-    ensures { result ≡ x }
-{
-    x as u64
-}
-
 // The number at a place.
 fn number(heading: &[u32], at: usize) -> u64
     requires { at < length heading.now }
     ensures { result ≡ get_or heading.now at 0 }
 {
-    wide(heading[at])
+    u64::from(heading[at])
 }
 
 // Fills a list with the numbers from a place on.
@@ -33,10 +26,8 @@ fn fill(heading: &[u32], at: usize, r: &mut [u64])
     ensures { r.new ≡ take (length r.old) (drop at heading.now) }
 {
     let n = r.len();
-    let mut j: usize = 0;
-    while j < n {
+    for j in 0..n {
         r[j] = number(heading, at + j);
-        j += 1;
     }
 }
 

@@ -9,21 +9,6 @@ ghost use Rattle.heading_format.specs.Parts.{sparse_at, progress_at, heading_len
 use heading_format::{Progress, State, parts};
 use layout::Layout;
 
-// A number of the heading.
-fn narrow(x: u64) -> u32
-    requires { x < 4294967296 }
-    ensures { result ≡ x }
-{
-    x as u32
-}
-
-// The number that a flag is written as.
-fn flag(b: bool) -> u64
-    ensures { (result ≡ bit b) × (result < 4294967296) }
-{
-    if b { 1 } else { 0 }
-}
-
 // The number that a state is written as.
 fn state_number(s: State) -> u64
     ensures { (result ≡ state_number s) × (result < 4294967296) }
@@ -40,7 +25,7 @@ fn put(heading: &mut [u32], at: usize, v: u64)
     requires { (at < length heading.old) × (v < 4294967296) }
     ensures { heading.new ≡ store at (v ∷ []) heading.old }
 {
-    heading[at] = narrow(v);
+    heading[at] = v as u32;
 }
 
 // Writes the first n numbers of a list.
@@ -48,10 +33,8 @@ fn write_numbers(heading: &mut [u32], at: usize, l: &[u64], n: usize)
     requires { (at + n ≤ length heading.old) × (n ≤ length l.now) × ((i : ℕ) → get_or l.now i 0 < 4294967296) }
     ensures { heading.new ≡ store at (padded n l.now) heading.old }
 {
-    let mut j: usize = 0;
-    while j < n {
-        heading[at + j] = narrow(l[j]);
-        j += 1;
+    for j in 0..n {
+        heading[at + j] = l[j] as u32;
     }
 }
 
@@ -71,8 +54,8 @@ fn write_flags(heading: &mut [u32], sparse: bool, diagonal: bool)
     requires { progress_at ≤ length heading.old }
     ensures { heading.new ≡ store sparse_at (bit sparse ∷ bit diagonal ∷ []) heading.old }
 {
-    put(heading, parts::SPARSE_AT, flag(sparse));
-    put(heading, parts::DIAGONAL_AT, flag(diagonal));
+    put(heading, parts::SPARSE_AT, u64::from(sparse));
+    put(heading, parts::DIAGONAL_AT, u64::from(diagonal));
 }
 
 // Writes a layout.

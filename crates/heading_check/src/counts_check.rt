@@ -4,11 +4,11 @@ ghost use Rattle.heading_format.specs.Heading.{within};
 
 use layout::Layout;
 
-// Whether a number is in a range.
-pub fn in_range(low: u64, high: u64, x: u64) -> bool
+// Whether a number is in a range: a function, since `search` gives up at three ranges in one.
+fn in_range(low: u64, high: u64, x: u64) -> bool
     ensures { result ≡ within low high x }
 {
-    (low <= x) & (x <= high)
+    (low..=high).contains(&x)
 }
 
 // Whether the numbers of readings, fixed effects and blocks are in range.

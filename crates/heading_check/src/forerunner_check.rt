@@ -32,10 +32,8 @@ fn subtract_all(heading: &[u32], w: Walk, i: u64, j: u64) -> Walk
     ensures { (result ≡ walked (stages_in heading.now) w (subtractions i j)) × (result.left ≤ w.left + 8) }
 {
     let mut v = w;
-    let mut x: u64 = 0;
-    while x < j {
+    for x in 0..j {
         v = stage_check::subtraction(heading, v, i, j, x);
-        x += 1;
     }
     v
 }
@@ -55,10 +53,8 @@ fn below(heading: &[u32], w: Walk, j: u64, k: u64) -> Walk
     ensures { (result ≡ walked (stages_in heading.now) w (each (λ i. subtractions i j ++ (T i j ∷ [])) (suc j) (k - j))) × (result.left ≤ w.left + 81) }
 {
     let mut v = w;
-    let mut i: u64 = j + 1;
-    while i < k + 1 {
+    for i in j + 1..k + 1 {
         v = target(heading, v, i, j);
-        i += 1;
     }
     v
 }
@@ -82,10 +78,8 @@ pub fn walk_all(heading: &[u32], k: u64) -> Walk
         left: 0,
         valid: true,
     };
-    let mut j: u64 = 0;
-    while j < k + 1 {
+    for j in 0..k + 1 {
         v = column(heading, v, j, k);
-        j += 1;
     }
     v
 }

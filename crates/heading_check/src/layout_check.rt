@@ -7,7 +7,7 @@ ghost use Rattle.heading_format.specs.Heading.{within, every, valid_pair, valid_
 ghost use Rattle.heading_check.specs.layout_check.Ranged.{Ranged};
 
 use crate::{counts_check, order_check};
-use layout::{Layout, Pair};
+use layout::{Layout, Storage};
 use layout_gate::pair_gate;
 
 // Whether every block has 1 to 65,535 levels.
@@ -15,16 +15,7 @@ fn has_levels(layout: Layout) -> bool
     requires { layout.k ≤ 8 }
     ensures { result ≡ every (λ j. within 1 65535 (levels layout j)) layout.k }
 {
-    let k = layout.k;
-    let mut j: u64 = 0;
-    while j < k {
-        if counts_check::in_range(1, 65535, order_check::level(layout, j)) {
-            j += 1;
-        } else {
-            return false;
-        }
-    }
-    true
+    (0..layout.k).all(|j| (1..=65535).contains(&order_check::level(layout, j)))
 }
 
 // The sum of the levels.
@@ -34,10 +25,8 @@ fn total(layout: Layout) -> u64
 {
     let k = layout.k;
     let mut t: u64 = 0;
-    let mut j: u64 = 0;
-    while j < k {
+    for j in 0..k {
         t += order_check::level(layout, j);
-        j += 1;
     }
     t
 }
@@ -49,12 +38,10 @@ fn pair_passes(layout: Layout, i: u64, j: u64) -> bool
 {
     let rows = order_check::level(layout, i);
     let cols = order_check::level(layout, j);
-    let sparse = layout.sparse;
-    let pair = pair_gate::pair_of(layout.k, rows, cols, layout.diagonal, cols);
-    match pair {
-        Pair::Dense => !sparse,
-        Pair::Sparse => sparse,
-        Pair::Refused(_) => false,
+    match pair_gate::pair_of(layout.k, rows, cols, layout.diagonal, cols) {
+        Ok(Storage::Dense) => !layout.sparse,
+        Ok(Storage::Sparse) => layout.sparse,
+        Err(_) => false,
     }
 }
 
@@ -63,15 +50,7 @@ fn row_passes(layout: Layout, i: u64) -> bool
     requires { Ranged layout × (i < layout.k) }
     ensures { result ≡ every (λ j. valid_pair layout i j) i }
 {
-    let mut j: u64 = 0;
-    while j < i {
-        if pair_passes(layout, i, j) {
-            j += 1;
-        } else {
-            return false;
-        }
-    }
-    true
+    (0..i).all(|j| pair_passes(layout, i, j))
 }
 
 // All pairs.
@@ -79,16 +58,7 @@ fn pairs_pass(layout: Layout) -> bool
     requires { Ranged layout }
     ensures { result ≡ every (λ i. every (λ j. valid_pair layout i j) i) layout.k }
 {
-    let k = layout.k;
-    let mut i: u64 = 0;
-    while i < k {
-        if row_passes(layout, i) {
-            i += 1;
-        } else {
-            return false;
-        }
-    }
-    true
+    (0..layout.k).all(|i| row_passes(layout, i))
 }
 
 // Whether a layout is valid.

@@ -12,8 +12,7 @@ pub fn level(layout: Layout, j: u64) -> u64
     requires { j < 8 }
     ensures { result ≡ levels layout j }
 {
-    let m = layout.m;
-    m[j as usize]
+    layout.m[j as usize]
 }
 
 // The sheet index of a sorted block.
@@ -21,20 +20,16 @@ fn sheet_index(layout: Layout, j: u64) -> u64
     requires { j < 8 }
     ensures { result ≡ get_or layout.order j 0 }
 {
-    let order = layout.order;
-    order[j as usize]
+    layout.order[j as usize]
 }
 
 // A number put into a list, where it has the place.
-fn put(s: [u64; 8], i: u64, v: u64) -> [u64; 8]
-    ensures { result ≡ set s i v }
+fn put(list: &mut [u64; 8], i: u64, v: u64)
+    ensures { list.new ≡ set list.old i v }
 {
-    let mut r = s;
     if i < 8 {
-        r[i as usize] = v;
-        return r;
+        list[i as usize] = v;
     }
-    r
 }
 
 // The levels of the blocks by sheet index.
@@ -44,11 +39,8 @@ fn by_sheet(layout: Layout) -> [u64; 8]
 {
     let k = layout.k;
     let mut r = [0u64; 8];
-    let mut s: u64 = 0;
-    while s < k {
-        let t = put(r, sheet_index(layout, s), level(layout, s));
-        r = t;
-        s += 1;
+    for s in 0..k {
+        put(&mut r, sheet_index(layout, s), level(layout, s));
     }
     r
 }
@@ -58,15 +50,7 @@ fn agree(a: [u64; 8], b: [u64; 8], k: u64) -> bool
     requires { k ≤ 8 }
     ensures { result ≡ every (λ i. eqb (get_or a i 0) (get_or b i 0)) k }
 {
-    let mut j: u64 = 0;
-    while j < k {
-        if a[j as usize] == b[j as usize] {
-            j += 1;
-        } else {
-            return false;
-        }
-    }
-    true
+    (0..k).all(|j| a[j as usize] == b[j as usize])
 }
 
 // Whether the blocks stand in sorted order.
@@ -76,6 +60,5 @@ pub fn is_sorted(layout: Layout) -> bool
 {
     let m = by_sheet(layout);
     let s = block_order::sorted(m, layout.k);
-    let order = layout.order;
-    agree(order, s, layout.k)
+    agree(layout.order, s, layout.k)
 }

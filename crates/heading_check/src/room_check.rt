@@ -30,15 +30,7 @@ fn rows_below(heading: &[u32], cols: u64, rows: u64) -> bool
     requires { (heading_length + cols ≤ length heading.now) × (rows ≤ 65535) }
     ensures { result ≡ every (λ c. ltb (entry_row heading.now c) rows) cols }
 {
-    let mut c: u64 = 0;
-    while c < cols {
-        if row_below(heading, c, rows) {
-            c += 1;
-        } else {
-            return false;
-        }
-    }
-    true
+    (0..cols).all(|c| row_below(heading, c, rows))
 }
 
 // Whether the numbers and the doubles are as many as a valid layout needs, and the rows of a sparse pair are rows of it.

@@ -15,13 +15,6 @@ pub struct Walk {
     pub valid: bool,
 }
 
-// A number of the heading as a count.
-fn wide(x: u32) -> u64
-    ensures { result ≡ x }
-{
-    x as u64
-}
-
 // How many targets stand in the rows before row i.
 fn targets_before(i: u64) -> u64
     requires { i ≤ 8 }
@@ -36,7 +29,7 @@ pub fn stage(heading: &[u32], i: u64, j: u64) -> u64
     ensures { result ≡ stages_in heading.now i j }
 {
     let at = parts::STAGES_AT as u64 + targets_before(i) + j;
-    wide(heading[at as usize])
+    u64::from(heading[at as usize])
 }
 
 // No target of row i is past its last step.
@@ -44,15 +37,7 @@ fn row_bounded(heading: &[u32], i: u64) -> bool
     requires { (heading_length ≤ length heading.now) × (i ≤ 8) }
     ensures { result ≡ every (λ j. leb (stages_in heading.now i j) (suc j)) (suc i) }
 {
-    let mut j: u64 = 0;
-    while j < i + 1 {
-        if stage(heading, i, j) <= j + 1 {
-            j += 1;
-        } else {
-            return false;
-        }
-    }
-    true
+    (0..i + 1).all(|j| stage(heading, i, j) <= j + 1)
 }
 
 // No target is.
@@ -60,22 +45,7 @@ pub fn is_bounded(heading: &[u32], k: u64) -> bool
     requires { (heading_length ≤ length heading.now) × (k ≤ 8) }
     ensures { result ≡ every (λ i. every (λ j. leb (stages_in heading.now i j) (suc j)) (suc i)) (suc k) }
 {
-    let mut i: u64 = 0;
-    while i < k + 1 {
-        if row_bounded(heading, i) {
-            i += 1;
-        } else {
-            return false;
-        }
-    }
-    true
-}
-
-// How many steps are left of one.
-fn undone(done: bool) -> u64
-    ensures { (result ≡ cond done 0 1) × (result ≤ 1) }
-{
-    if done { 0 } else { 1 }
+    (0..k + 1).all(|i| row_bounded(heading, i))
 }
 
 // A step more.
@@ -84,7 +54,7 @@ pub fn count_step(w: Walk, done: bool, ready: bool) -> Walk
     ensures { (result ≡ step_with w done ready) × (result.left ≤ w.left + 1) }
 {
     Walk {
-        left: w.left + undone(done),
+        left: w.left + u64::from(!done),
         valid: w.valid & (!done | ready),
     }
 }

@@ -1,5 +1,5 @@
 -- The heading (document 01, Records 2 and 5, refusal 20): its parts as specs/Parts.antt has them, and behind them the rows of the sparse columns' entries.
-use Rattle.std.specs.Prelude.{ℕ, zero, suc, ◌+◌, Bool, true, false, not, ◌&&◌, ◌||◌, cond, List, [], ◌∷◌, ◌++◌, ltb, leb, eqb, length, get_or, take, drop, replicate}
+use Rattle.std.specs.Prelude.{ℕ, zero, suc, ◌+◌, Bool, true, false, not, ◌&&◌, ◌||◌, cond, List, [], ◌∷◌, ◌++◌, ltb, leb, eqb, length, get_or, take, drop, replicate, Ok, Err}
 use Rattle.storage.specs.Runs.{start, triangle}
 use Rattle.step_order.specs.Steps.{Step, rust_order, forerunners}
 use Rattle.step_order.specs.Progress.{all, steps_left, done}
@@ -7,10 +7,9 @@ use Rattle.layout.specs.declared.Layout.{Layout}
 use Rattle.heading_format.specs.declared.Progress.{Progress}
 use Rattle.heading_format.specs.declared.State.{State}
 use Rattle.heading_format.specs.declared.State.TheVariants.{Idle, UnderWay, Finished}
-use Rattle.layout.specs.declared.Pair.{Pair}
-use Rattle.layout.specs.declared.Pair.TheVariants.{Dense, Sparse, Refused}
+use Rattle.layout.specs.declared.Storage.TheVariants.{Dense, Sparse}
 use Rattle.layout.specs.Blocks.{sum, sorted, padded}
-use Rattle.layout.specs.Gate.{pair_of}
+use Rattle.layout.specs.Gate.{Verdict, pair_of}
 use Rattle.layout.specs.Shapes.{levels, block_rows, doubles_needed, sheet_index}
 use Rattle.heading_format.specs.Parts.{levels_at, order_at, sparse_at, diagonal_at, progress_at, steps_left_at, stages_at, most_targets, unused_numbers, heading_length}
 
@@ -88,15 +87,15 @@ unfoldable pub sheet_levels : Layout → ℕ → ℕ → ℕ
 sheet_levels y zero i = 0
 sheet_levels y (suc s) i = let rest = sheet_levels y s i in cond (eqb (sheet_index y s) i) (levels y s) rest
 
-abbrev pub is_dense : Pair → Bool
-is_dense Dense = true
-is_dense Sparse = false
-is_dense (Refused n) = false
+abbrev pub is_dense : Verdict → Bool
+is_dense (Ok Dense) = true
+is_dense (Ok Sparse) = false
+is_dense (Err e) = false
 
-abbrev pub is_sparse : Pair → Bool
-is_sparse Dense = false
-is_sparse Sparse = true
-is_sparse (Refused n) = false
+abbrev pub is_sparse : Verdict → Bool
+is_sparse (Ok Dense) = false
+is_sparse (Ok Sparse) = true
+is_sparse (Err e) = false
 
 -- The gate by the counts alone, since no double is tested: with one entry in each column, which a diagonal block 1 says, a pair has as many entries as columns.
 abbrev pub valid_pair : Layout → ℕ → ℕ → Bool

@@ -1,16 +1,15 @@
 // The kernels of divide_columns, sparse_schur, scaling and cross_block.
-ghost use Rattle.kernel_tests.specs.Cases.{Small};
 
 use super::answer::OUT_OF_FORM;
 use super::case::Case;
+use crate::kernel::Kernel;
 use crate::kernel_sizes;
 use cross_block::{divide_columns, scaling};
 use schur::sparse_schur;
 use storage::Block;
 
-pub fn divide_columns(x: Case, doubles: &mut [f64]) -> u64
-    requires { Small x }
-{
+#[tactic(auto, using(storage::proofs::Starts::start_single))]
+pub fn divide_columns(x: Case, doubles: &mut [f64]) -> u64 {
     let size = kernel_sizes::columns_size(x.p1, x.p2);
     if kernel_sizes::clash(doubles.len(), x.p0, size, x.p3, x.p2) {
         return OUT_OF_FORM;
@@ -29,12 +28,10 @@ pub fn divide_columns(x: Case, doubles: &mut [f64]) -> u64
     0
 }
 
-pub fn solve_rows(x: Case, doubles: &mut [f64]) -> u64
-    requires { Small x }
-{
+pub fn solve_rows(x: Case, doubles: &mut [f64]) -> u64 {
     let size = kernel_sizes::columns_size(x.p1, x.p2);
     let factor = kernel_sizes::packed_size(x.p2);
-    if (x.p1 > kernel_sizes::ROWS) | kernel_sizes::clash(doubles.len(), x.p0, size, x.p3, factor) {
+    if (x.p1 > kernel_sizes::ROWS) || kernel_sizes::clash(doubles.len(), x.p0, size, x.p3, factor) {
         return OUT_OF_FORM;
     }
     let t = Block {
@@ -51,15 +48,13 @@ pub fn solve_rows(x: Case, doubles: &mut [f64]) -> u64
     0
 }
 
-pub fn subtract_sparse(x: Case, doubles: &mut [f64], heading: &[u32]) -> u64
-    requires { Small x }
-{
+pub fn subtract_sparse(x: Case, doubles: &mut [f64], heading: &[u32]) -> u64 {
     let size = kernel_sizes::columns_size(x.p1, x.p2);
     let source = kernel_sizes::columns_size(x.p1, x.p5);
     if (x.p1 > kernel_sizes::ROWS)
-        | kernel_sizes::clash(doubles.len(), x.p0, size, x.p3, source)
-        | kernel_sizes::clash(doubles.len(), x.p0, size, x.p4, x.p5)
-        | kernel_sizes::bad_rows(heading, x.p6, x.p5, x.p2)
+        || kernel_sizes::clash(doubles.len(), x.p0, size, x.p3, source)
+        || kernel_sizes::clash(doubles.len(), x.p0, size, x.p4, x.p5)
+        || kernel_sizes::bad_rows(heading, x.p6, x.p5, x.p2)
     {
         return OUT_OF_FORM;
     }
@@ -83,13 +78,11 @@ pub fn subtract_sparse(x: Case, doubles: &mut [f64], heading: &[u32]) -> u64
 }
 
 // scale_twice and scale_once.
-pub fn scale(x: Case, doubles: &mut [f64]) -> u64
-    requires { Small x }
-{
+pub fn scale(x: Case, doubles: &mut [f64]) -> u64 {
     if kernel_sizes::clash(doubles.len(), x.p0, x.p2, x.p1, x.p2) {
         return OUT_OF_FORM;
     }
-    if x.kernel == 10 {
+    if matches!(x.kernel, Kernel::ScaleTwice) {
         scaling::scale_twice(doubles, x.p0, x.p1, x.p2, x.s, x.t);
         return 0;
     }

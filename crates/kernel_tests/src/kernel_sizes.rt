@@ -28,11 +28,7 @@ pub fn no_packed(len: usize, off: usize, n: usize) -> bool
     requires { (off ≤ 65535) × (n ≤ 65535) }
     ensures { result ≡ false → (n ≤ 316) × (off + size_of (packed n) ≤ len) }
 {
-    if n > ROWS {
-        return true;
-    }
-    let size = packed_size(n);
-    off + size > len
+    n > ROWS || off + packed_size(n) > len
 }
 
 // Whether n doubles from off on and m from a on meet, or one of them lies beyond a list of len.
@@ -40,16 +36,7 @@ pub fn clash(len: usize, off: usize, n: usize, a: usize, m: usize) -> bool
     requires { (off ≤ 65535) × (n ≤ 65535 * 65535) × (a ≤ 65535) × (m ≤ 65535 * 65535) }
     ensures { result ≡ false → Clear len off n a m }
 {
-    if off + n > len {
-        return true;
-    }
-    if a + m > len {
-        return true;
-    }
-    if off + n <= a {
-        return false;
-    }
-    a + m > off
+    off + n > len || a + m > len || (off + n > a && a + m > off)
 }
 
 // Whether any of the n row numbers of the heading from first on is missing, or not below m.
@@ -57,22 +44,8 @@ pub fn bad_rows(heading: &[u32], first: usize, n: usize, m: usize) -> bool
     requires { (first ≤ 65535) × (n ≤ 65535) }
     ensures { result ≡ false → (first + n ≤ length heading.now) × RowsBelow heading.now first n m }
 {
-    if first + n > heading.len() {
-        return true;
-    }
-    let mut i = 0;
-    while i < n {
-        if wide(heading[first + i]) >= m {
-            return true;
-        }
-        i += 1;
-    }
-    false
-}
-
-// A row's number as an index.
-fn wide(x: u32) -> usize
-    ensures { result ≡ x }
-{
-    x as usize
+    first + n > heading.len()
+        || heading[first..first + n]
+            .iter()
+            .any(|row| *row as usize >= m)
 }

@@ -2,11 +2,11 @@
 // the block and the factor.
 ghost use Rattle.std.specs.Prelude.{◌≡◌, false, ◌+◌, ◌≤◌, ◌<◌};
 ghost use Rattle.storage.specs.Shape.{packed, size_of};
-ghost use Rattle.kernel_tests.specs.Cases.{Small};
 
 use super::answer;
 use super::answer::OUT_OF_FORM;
 use super::case::Case;
+use crate::kernel::Kernel;
 use crate::kernel_sizes;
 use float_bits::words;
 use re_lower::{
@@ -14,13 +14,11 @@ use re_lower::{
 };
 
 // chol and log_pivots.
-pub fn packed_block(x: Case, t: &mut [f64]) -> u64
-    requires { Small x }
-{
+pub fn packed_block(x: Case, t: &mut [f64]) -> u64 {
     if kernel_sizes::no_packed(t.len(), 0, x.p0) {
         return OUT_OF_FORM;
     }
-    if x.kernel == 0 {
+    if matches!(x.kernel, Kernel::LowerChol) {
         return answer::row(cholesky::chol(t, x.p0));
     }
     words::word_of(pivot_logs::log_pivots(t, x.p0, x.s))
@@ -31,20 +29,18 @@ pub fn diagonal_block(x: Case, t: &mut [f64]) -> u64 {
     if x.p0 > t.len() {
         return OUT_OF_FORM;
     }
-    if x.kernel == 1 {
+    if matches!(x.kernel, Kernel::LowerCholDiagonal) {
         return answer::row(diagonal_chol::chol_diagonal(t, x.p0));
     }
     words::word_of(pivot_logs::log_diagonal(t, x.p0, x.s))
 }
 
 // solve_row and backward.
-pub fn solve(x: Case, t: &mut [f64], l: &[f64]) -> u64
-    requires { Small x }
-{
-    if (x.p0 > t.len()) | kernel_sizes::no_packed(l.len(), 0, x.p0) {
+pub fn solve(x: Case, t: &mut [f64], l: &[f64]) -> u64 {
+    if (x.p0 > t.len()) || kernel_sizes::no_packed(l.len(), 0, x.p0) {
         return OUT_OF_FORM;
     }
-    if x.kernel == 4 {
+    if matches!(x.kernel, Kernel::SolveRow) {
         substitution::solve_row(t, l, x.p0);
         return 0;
     }
@@ -58,17 +54,15 @@ fn no_cell(len: usize, r: usize, c: usize) -> bool
     ensures { result ≡ false → (c ≤ r) × (r ≤ 315) × (size_of (packed r) + c < len) }
 {
     let size = kernel_sizes::packed_size(r);
-    (c > r) | (r >= kernel_sizes::ROWS) | (size + c >= len)
+    c > r || r >= kernel_sizes::ROWS || size + c >= len
 }
 
 // get and set.
-pub fn cell(x: Case, t: &mut [f64]) -> u64
-    requires { Small x }
-{
+pub fn cell(x: Case, t: &mut [f64]) -> u64 {
     if no_cell(t.len(), x.p0, x.p1) {
         return OUT_OF_FORM;
     }
-    if x.kernel == 7 {
+    if matches!(x.kernel, Kernel::Set) {
         triangle_cells::set(t, x.p0, x.p1, x.s);
         return 0;
     }

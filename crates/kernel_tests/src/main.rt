@@ -7,20 +7,21 @@ mod case;
 mod cross;
 mod diagonals;
 mod factors;
+mod kernel;
 mod kernel_sizes;
 mod lower;
-mod numbered;
 mod products;
+mod runs;
 mod vectors;
 
 ghost use Rattle.std.specs.Prelude.{◌≤◌};
-ghost use Rattle.kernel_tests.specs.Cases.{Small};
 
 use answer::OUT_OF_FORM;
 use case::Case;
 use float_bits::words;
-use std::io;
+use kernel::Kernel;
 use std::io::{Read, Write};
+use std::{array, io};
 
 // How many words a case has before its lists, and how many doubles, row numbers and words these have at most.
 const HEAD: usize = 19;
@@ -31,14 +32,16 @@ const ROWS: usize = 1024;
 
 const WORDS: usize = 2 * DOUBLES + ROWS;
 
-// The next case's words, and whether there was one.
+// The next case's words. Whether there is one.
 fn read_case(list: &mut impl Read, m: &mut [u64; 65536]) -> io::Result<bool> {
-    let first = test_words::read_word(list)?;
-    m[0] = first.word;
-    test_words::read_words(list, m, 1, HEAD)?;
+    let Some(first) = test_words::next_word(list)? else {
+        return Ok(false);
+    };
+    m[0] = first;
+    test_words::read_words(list, &mut m[1..HEAD])?;
     let end = HEAD + size_at(m, 18, WORDS);
-    test_words::read_words(list, m, HEAD, end)?;
-    Ok(first.more)
+    test_words::read_words(list, &mut m[HEAD..end])?;
+    Ok(true)
 }
 
 // The word at i as a size, and `most` where it is larger.
@@ -49,12 +52,10 @@ fn size_at(m: &[u64; 65536], i: usize, most: usize) -> usize
     test_words::size(m[i], most)
 }
 
-// A case's kernel and its arguments.
-fn case_of(m: &[u64; 65536]) -> Case
-    ensures { Small result }
-{
+// A case of this kernel with its arguments.
+fn case_of(m: &[u64; 65536], kernel: Kernel) -> Case {
     Case {
-        kernel: m[1],
+        kernel,
         p0: size_at(m, 2, 65535),
         p1: size_at(m, 3, 65535),
         p2: size_at(m, 4, 65535),
@@ -71,26 +72,14 @@ fn case_of(m: &[u64; 65536]) -> Case
 fn doubles_of(m: &[u64; 65536], from: usize) -> [f64; 8704]
     requires { from ≤ 50000 }
 {
-    let mut w = [0f64; 8704];
-    let mut i: usize = 0;
-    while i < 8704 {
-        w[i] = words::double(m[from + i]);
-        i += 1;
-    }
-    w
+    array::from_fn(|i| words::double(m[from + i]))
 }
 
 // The row numbers of the words from `from` on.
 fn rows(m: &[u64; 65536], from: usize) -> [u32; 1024]
     requires { from ≤ 50000 }
 {
-    let mut h = [0u32; 1024];
-    let mut i: usize = 0;
-    while i < 1024 {
-        h[i] = (m[from + i] % 0x100000000) as u32;
-        i += 1;
-    }
-    h
+    array::from_fn(|i| (m[from + i] % 0x100000000) as u32)
 }
 
 // A line with the case's number, the kernel's, and the answer.
@@ -114,12 +103,10 @@ fn print_list(
 {
     let free = size_at(m, 13, DOUBLES);
     let end = free + size_at(m, 14, DOUBLES);
-    let mut i: usize = 0;
-    while i < n {
-        if (i < free) | (i >= end) {
-            test_words::print_word(out, words::word_of(doubles[i]))?;
+    for (i, x) in doubles[..n].iter().enumerate() {
+        if !(free..end).contains(&i) {
+            test_words::print_word(out, words::word_of(*x))?;
         }
-        i += 1;
     }
     Ok(())
 }
@@ -128,12 +115,15 @@ fn print_list(
 fn answered(m: &[u64; 65536], doubles: &mut [f64], from: usize) -> u64
     requires { from ≤ 9000 }
 {
+    let Ok(kernel) = Kernel::try_from(m[1]) else {
+        return OUT_OF_FORM;
+    };
     let n = size_at(m, 16, DOUBLES);
     let v = doubles_of(m, from);
     let h = rows(m, from + n);
     let a = size_at(m, 12, n);
     let r = size_at(m, 17, ROWS);
-    numbered::run(case_of(m), doubles, &v[a..n], &h[..r])
+    runs::run(case_of(m, kernel), doubles, &v[a..n], &h[..r])
 }
 
 fn run_case(out: &mut impl Write, m: &[u64; 65536]) -> io::Result<()> {
@@ -150,10 +140,11 @@ fn main(rt: HostRuntime) -> io::Result<()> {
     let mut list = rt.reader();
     let mut out = io::writer(&rt);
     let mut m = [0u64; 65536];
-    let mut left: u64 = 1000000;
-    while left > 0 && read_case(&mut list, &mut m)? {
+    for _ in 0..1000000u64 {
+        if !read_case(&mut list, &mut m)? {
+            break;
+        }
         run_case(&mut out, &m)?;
-        left -= 1;
     }
     Ok(())
 }

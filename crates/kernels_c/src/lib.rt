@@ -14,7 +14,9 @@ ghost use Rattle.kernels_c.specs.Answers.{number_of, TriangleAnswered, DiagonalA
 
 use cross_block::{divide_columns, scaling};
 use cross_matvec::{matvec_t, sparse_matvec, sparse_matvec_t};
-use re_lower::{back_substitution, cholesky, diagonal_chol, pivot_logs, substitution};
+use re_lower::{
+    RefusedPivot, back_substitution, cholesky, diagonal_chol, pivot_logs, substitution,
+};
 use schur::{
     dense_triangle, last_triangle, rank_diagonal, rank_diagonal_sparse, schur_dense, sparse_schur,
 };
@@ -350,12 +352,12 @@ pub extern "C" fn husk_sparse_matvec_t_sub(
 }
 
 // n where every pivot is accepted, else the row of the refused one.
-fn number(p: re_lower::Pivots, n: usize) -> usize
+fn number(p: Result<(), RefusedPivot>, n: usize) -> usize
     ensures { result ≡ number_of n p }
 {
     match p {
-        re_lower::Pivots::Accepted => n,
-        re_lower::Pivots::Refused(r) => r,
+        Ok(()) => n,
+        Err(refused) => refused.row,
     }
 }
 
@@ -365,8 +367,7 @@ pub extern "C" fn husk_chol(t: &mut [f64], n: usize) -> usize
     requires { (start triangle n ≤ length t.old) × (n ≤ 316) }
     ensures { TriangleAnswered t.old t.new n result }
 {
-    let p = cholesky::chol(t, n);
-    number(p, n)
+    number(cholesky::chol(t, n), n)
 }
 
 // re_lower::diagonal_chol::chol_diagonal, answered likewise.
@@ -375,8 +376,7 @@ pub extern "C" fn husk_chol_diagonal(t: &mut [f64], n: usize) -> usize
     requires { n ≤ length t.old }
     ensures { DiagonalAnswered t.old t.new n result }
 {
-    let p = diagonal_chol::chol_diagonal(t, n);
-    number(p, n)
+    number(diagonal_chol::chol_diagonal(t, n), n)
 }
 
 // re_lower::pivot_logs::log_pivots.

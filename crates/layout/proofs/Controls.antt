@@ -7,7 +7,9 @@ use lib.ListN.{get_or, replicate}
 use lib.Ieee.{le, div, of_int, of_bits}
 use Rattle.storage.specs.Runs.{start}
 use Rattle.layout.specs.declared.Layout.{Layout}
-use Rattle.layout.specs.declared.Pair.TheVariants.{Dense, Sparse, Refused}
+use Rattle.std.specs.Prelude.{Ok, Err}
+use Rattle.layout.specs.declared.Storage.TheVariants.{Dense, Sparse}
+use Rattle.layout.specs.declared.GateRefusal.TheVariants.{MultiblockFill, CrossGate}
 use Rattle.layout.specs.Blocks.{insert, sorted}
 use Rattle.layout.specs.Gate.{thin, pair_of}
 use Rattle.layout.specs.Shapes.{shape, loaded_shape, Target, factors, across, pairs, targets, cells_of, before, loaded_at, working_at, sum_at, cross_cells, factor_cells, doubles_needed, doubles_formula, triangle_end}
@@ -19,31 +21,31 @@ each f [] = []
 each f (t ∷ l) = f t ∷ each f l
 
 -- 100,000 cells are dense, whatever the entries
-pub at_most_dense : (one_each : Bool) (entries : ℕ) → pair_of 2 2 50000 one_each entries ≡ Dense
+pub at_most_dense : (one_each : Bool) (entries : ℕ) → pair_of 2 2 50000 one_each entries ≡ Ok Dense
 unfolding pair_of
 at_most_dense one_each entries = refl
 
 -- 100,002 cells of which half are entries
-pub too_full : pair_of 2 2 50001 true 50001 ≡ Refused 11
+pub too_full : pair_of 2 2 50001 true 50001 ≡ Err CrossGate
 unfolding pair_of le div of_int of_bits
 too_full = refl
 
 -- 100,002 cells of which a third are entries
-pub thin_pair : pair_of 2 3 33334 true 33334 ≡ Sparse
+pub thin_pair : pair_of 2 3 33334 true 33334 ≡ Ok Sparse
 unfolding pair_of le div of_int of_bits
 thin_pair = refl
 
 -- the same among three blocks
-pub three_blocks : pair_of 3 3 33334 true 33334 ≡ Refused 10
+pub three_blocks : pair_of 3 3 33334 true 33334 ≡ Err MultiblockFill
 unfolding pair_of
 three_blocks = refl
 
 -- the same with a column of more or fewer entries
-pub not_one_each : pair_of 2 3 33334 false 33334 ≡ Refused 11
+pub not_one_each : pair_of 2 3 33334 false 33334 ≡ Err CrossGate
 unfolding pair_of
 not_one_each = refl
 
-pub square : (one_each : Bool) (entries : ℕ) → pair_of 2 316 316 one_each entries ≡ Dense
+pub square : (one_each : Bool) (entries : ℕ) → pair_of 2 316 316 one_each entries ≡ Ok Dense
 unfolding pair_of
 square one_each entries = refl
 

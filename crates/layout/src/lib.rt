@@ -27,11 +27,16 @@ pub enum FactorKind {
     Packed,
 }
 
-// What the gate says of a pair of blocks.
+// How a pair of blocks is stored: whole, or one entry for each column.
 #[derive(Clone, Copy)]
-pub enum Pair {
+pub enum Storage {
     Dense,
     Sparse,
-    // Number 10 or 11.
-    Refused(u64),
+}
+
+// Why the gate refuses a pair of blocks.
+#[derive(Clone, Copy)]
+pub enum GateRefusal {
+    MultiblockFill,
+    CrossGate,
 }

@@ -1,9 +1,8 @@
 // Whether each level of one block has exactly one entry with the levels of another (document 01, Record 2, the gate for k = 2), read from the zz
 // lines.
-ghost use Rattle.std.specs.Prelude.{◌≡◌, ◌&&◌, ◌+◌, ◌<◌, ◌^◌};
+ghost use Rattle.std.specs.Prelude.{◌≡◌, ◌+◌, ◌<◌, ◌^◌};
 ghost use Rattle.sheet.specs.Line.{zz_tag, pair_line};
 ghost use Rattle.sheet.specs.Sheet.{Sheet, accepted, read_sheet};
-ghost use Rattle.heading_format.specs.Heading.{bit};
 ghost use Rattle.sheet_checks.specs.levels.Held.{Holds};
 ghost use Rattle.layout_gate.specs.column_entries.Columns.{in_run, each_one, in_turn, entries_at};
 
@@ -16,18 +15,7 @@ fn in_run(a: u64, n: u64, x: u64) -> bool
     requires { a + n < 2 ^ 64 }
     ensures { result ≡ in_run a n x }
 {
-    (a <= x) & (x < a + n)
-}
-
-// 1 where column and row are those of the pair, else 0.
-fn in_pair(col: u64, row: u64, from: u64, cols: u64, at: u64, rows: u64) -> u64
-    requires { (from + cols < 2 ^ 64) × (at + rows < 2 ^ 64) }
-    ensures { result ≡ bit (in_run from cols col && in_run at rows row) }
-{
-    if in_run(from, cols, col) & in_run(at, rows, row) {
-        return 1;
-    }
-    0
+    (a..a + n).contains(&x)
 }
 
 // The zz line at a position.
@@ -43,17 +31,15 @@ fn in_turn(bytes: &[u8], start: usize, n: u64, from: u64, cols: u64, at: u64, ro
     ensures { result ≡ in_turn from cols at rows from (entries_at bytes.now n start) }
 {
     let mut p = start;
-    let mut left = n;
     let mut due = from;
-    while 0 < left {
+    for _turn in 0..n {
         let l = entry_line(bytes, p);
-        let f = in_pair(l.first, l.second, from, cols, at, rows);
-        if (f == 1) & (l.first != due) {
+        let here = in_run(from, cols, l.first) & in_run(at, rows, l.second);
+        if here & (l.first != due) {
             return false;
         }
-        due += f;
+        due += u64::from(here);
         p = l.next;
-        left -= 1;
     }
     due == from + cols
 }

@@ -18,7 +18,7 @@ ghost use Rattle.sheet_checks.specs.levels.Held.{Holds};
 ghost use Rattle.workspace.specs.Loaded.{layout_of_sheet};
 ghost use Rattle.layout_gate.specs.Ordered.{Ordered};
 
-use layout::{Layout, Pair};
+use layout::{Layout, Storage};
 use sheet::Starts;
 use sheet_checks::levels;
 
@@ -28,11 +28,8 @@ fn sorted_levels(m: [u64; 8], order: [u64; 8], k: u64) -> [u64; 8]
     ensures { result ≡ padded 8 (each (λ i. get_or m i 0) (sorted (λ i. get_or m i 0) k)) }
 {
     let mut r: [u64; 8] = [0; 8];
-    let mut i: usize = 0;
-    while (i as u64) < k {
-        let b = order[i];
-        r[i] = m[b as usize];
-        i += 1;
+    for i in 0..k as usize {
+        r[i] = m[order[i] as usize];
     }
     r
 }
@@ -57,17 +54,6 @@ fn is_diagonal(bytes: &[u8], starts: Starts, m: [u64; 8], order: [u64; 8]) -> bo
     )
 }
 
-// Whether the gate has a pair stored sparse.
-fn is_sparse(p: Pair) -> bool
-    ensures { result ≡ is_sparse p }
-{
-    match p {
-        Pair::Dense => false,
-        Pair::Sparse => true,
-        Pair::Refused(n) => false,
-    }
-}
-
 // With k = 2, whether the one pair is stored sparse.
 fn one_sparse(k: u64, m: [u64; 8], diagonal: bool) -> bool
     requires { (i : ℕ) → i < 8 → get_or m i 0 ≤ 65535 }
@@ -76,7 +62,11 @@ fn one_sparse(k: u64, m: [u64; 8], diagonal: bool) -> bool
     if k != 2 {
         return false;
     }
-    is_sparse(pair_gate::pair_of(k, m[1], m[0], diagonal, m[0]))
+    match pair_gate::pair_of(k, m[1], m[0], diagonal, m[0]) {
+        Ok(Storage::Dense) => false,
+        Ok(Storage::Sparse) => true,
+        Err(_) => false,
+    }
 }
 
 // The layout of a sheet that 5 to 9 do not refuse.

@@ -2,7 +2,7 @@
 ghost use Rattle.std.specs.Prelude.{◌≡◌, ◌<◌, ◌≤◌};
 ghost use Rattle.layout.specs.Gate.{thin, pair_of};
 
-use layout::Pair;
+use layout::{GateRefusal, Storage};
 
 // Whether at most 0.35 of the cells are entries.
 fn is_thin(entries: u64, cells: u64) -> bool
@@ -13,21 +13,27 @@ fn is_thin(entries: u64, cells: u64) -> bool
 }
 
 // What the gate says of a pair of rows × cols cells among k blocks.
-pub fn pair_of(k: u64, rows: u64, cols: u64, one_each: bool, entries: u64) -> Pair
+pub fn pair_of(
+    k: u64,
+    rows: u64,
+    cols: u64,
+    one_each: bool,
+    entries: u64,
+) -> Result<Storage, GateRefusal>
     requires { (rows ≤ 65535) × (cols ≤ 65535) × (entries ≤ 65535) }
     ensures { result ≡ pair_of k rows cols one_each entries }
 {
     let cells = rows * cols;
     if cells <= 100000 {
-        return Pair::Dense;
+        return Ok(Storage::Dense);
     }
     if 2 < k {
-        return Pair::Refused(10);
+        return Err(GateRefusal::MultiblockFill);
     }
     if one_each {
         if is_thin(entries, cells) {
-            return Pair::Sparse;
+            return Ok(Storage::Sparse);
         }
     }
-    Pair::Refused(11)
+    Err(GateRefusal::CrossGate)
 }

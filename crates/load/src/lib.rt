@@ -15,43 +15,36 @@ ghost use Rattle.workspace.specs.Answers.{workspace};
 ghost use Rattle.workspace.specs.Load.{load_sheet, load_of};
 ghost use Rattle.load.specs.room.Needs.{needs_meaning, needs_of};
 
-use refusal::Answer;
-use room::Needs;
+use refusal::Refusal;
+use room::Room;
 use sheet::Starts;
 
 // A sheet that 1 to 9 do not refuse: 10 and 11, then 12, or it is loaded.
-pub fn load_sheet(bytes: &[u8], starts: Starts, heading: &mut [u32], doubles: &mut [f64]) -> Answer
+pub fn load_sheet(
+    bytes: &[u8],
+    starts: Starts,
+    heading: &mut [u32],
+    doubles: &mut [f64],
+) -> Result<(), Refusal>
     requires { (sheet : Sheet) × (read_sheet bytes.now ≡ accepted sheet starts) × (fault_number sheet ≡ 0) }
     ensures { (sheet : Sheet) → read_sheet bytes.now ≡ accepted sheet starts → record { answer = result; left = workspace heading.new doubles.new } ≡ load_sheet sheet heading.old doubles.old }
 {
-    let j = judge::judge_sheet(bytes, starts);
-    let d = j.refusal;
-    if d.number != 0 {
-        return Answer::Refused(d);
-    }
-    write_loaded::load_judged(bytes, starts, j.layout, heading, doubles)
+    let layout = judge::judge_sheet(bytes, starts)?;
+    write_loaded::load_judged(bytes, starts, layout, heading, doubles)
 }
 
 // Any bytes on any memory: 1 to 11, then 12, or the sheet is loaded.
-pub fn load(bytes: &[u8], heading: &mut [u32], doubles: &mut [f64]) -> Answer
+pub fn load(bytes: &[u8], heading: &mut [u32], doubles: &mut [f64]) -> Result<(), Refusal>
     ensures { (meaning result ≡ meaning (load_of bytes.now heading.old doubles.old).answer) × (workspace heading.new doubles.new ≡ (load_of bytes.now heading.old doubles.old).left) }
 {
-    let j = judge::judge(bytes);
-    let r = j.refusal;
-    if r.number != 0 {
-        return Answer::Refused(r);
-    }
-    write_loaded::load_judged(bytes, j.starts, j.layout, heading, doubles)
+    let passed = judge::judge(bytes)?;
+    write_loaded::load_judged(bytes, passed.starts, passed.layout, heading, doubles)
 }
 
 // How long the lists have to be that load is lent with these bytes; or 1 to 11, which load refuses them with whatever it is lent.
-pub fn needs(bytes: &[u8]) -> Needs
+pub fn needs(bytes: &[u8]) -> Result<Room, Refusal>
     ensures { needs_meaning result ≡ needs_meaning (needs_of bytes.now) }
 {
-    let j = judge::judge(bytes);
-    let r = j.refusal;
-    if r.number != 0 {
-        return Needs::Refused(r);
-    }
-    Needs::Room(room::room_of(j.layout))
+    let passed = judge::judge(bytes)?;
+    Ok(room::room_of(passed.layout))
 }

@@ -7,20 +7,12 @@ ghost use Rattle.load.specs.room.Needs.{room_of};
 use block_places::places;
 use heading_format::parts;
 use layout::Layout;
-use refusal::Refusal;
 
 // The lengths of the two lists that a workspace is made of.
 #[derive(Clone, Copy)]
 pub struct Room {
     pub doubles: u64,
     pub numbers: u64,
-}
-
-// What load wants of a sheet, or its refusal, 1 to 11.
-#[derive(Clone, Copy)]
-pub enum Needs {
-    Room(Room),
-    Refused(Refusal),
 }
 
 // How many numbers a workspace has: the heading, and one for each column of a sparse pair.

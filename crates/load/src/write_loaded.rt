@@ -1,6 +1,5 @@
 // Loads a sheet that is judged (document 01, Record 3): 12, or heading and doubles written.
-ghost use Rattle.std.specs.Prelude.{◌≡◌, ◌≤◌, length};
-ghost use Rattle.std.proofs.Math.Option.{none};
+ghost use Rattle.std.specs.Prelude.{◌≡◌, ◌≤◌, length, None};
 ghost use Rattle.storage.specs.Part.{store};
 ghost use Rattle.sheet.specs.Sheet.{Sheet, accepted, read_sheet};
 ghost use Rattle.layout.specs.Shapes.{doubles_needed};
@@ -13,7 +12,7 @@ use crate::room;
 use heading::{idle_progress, writer};
 use layout::Layout;
 use load_numbers::sheet_words;
-use refusal::{Answer, Refusal};
+use refusal::Refusal;
 use sheet::Starts;
 
 // The heading of a sheet just loaded.
@@ -47,17 +46,13 @@ pub fn load_judged(
     layout: Layout,
     heading: &mut [u32],
     doubles: &mut [f64],
-) -> Answer
+) -> Result<(), Refusal>
     requires { Ready bytes.now starts layout }
-    ensures { (sheet : Sheet) → read_sheet bytes.now ≡ accepted sheet starts → record { answer = result; left = workspace heading.new doubles.new } ≡ after_gate none sheet layout heading.old doubles.old }
+    ensures { (sheet : Sheet) → read_sheet bytes.now ≡ accepted sheet starts → record { answer = result; left = workspace heading.new doubles.new } ≡ after_gate None sheet layout heading.old doubles.old }
 {
     if !room::has_room(layout, heading, doubles) {
-        return Answer::Refused(Refusal {
-            number: 12,
-            first: 0,
-            second: 0,
-        });
+        return Err(Refusal::WorkspaceTooShort);
     }
     write_sheet(bytes, starts, layout, heading, doubles);
-    Answer::Accepted
+    Ok(())
 }

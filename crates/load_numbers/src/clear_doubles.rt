@@ -7,7 +7,7 @@ ghost use Rattle.layout.specs.Shapes.{doubles_needed};
 ghost use Rattle.heading_format.specs.Fits.{Room};
 
 use block_places::places;
-use block_runs::run_copies;
+use block_runs::runs;
 use layout::Layout;
 
 // Every double that the formula counts becomes +0.0.
@@ -15,5 +15,5 @@ pub fn clear_all(layout: Layout, doubles: &mut [f64])
     requires { Room layout (length doubles.old) }
     ensures { doubles.new ≡ store 0 (tab (doubles_needed layout) (λ i. ieee.zero)) doubles.old }
 {
-    run_copies::clear(doubles, places::doubles_needed(layout));
+    runs::clear(doubles, places::doubles_needed(layout));
 }

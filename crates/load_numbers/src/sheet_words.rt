@@ -5,22 +5,20 @@ ghost use Rattle.storage.specs.Part.{store};
 ghost use Rattle.sheet.specs.Sheet.{Sheet, accepted, read_sheet};
 ghost use Rattle.layout.specs.Shapes.{doubles_needed};
 ghost use Rattle.workspace.specs.Load.{doubles_of};
-ghost use Rattle.block_places.specs.sheet_rows.Blocks.{Maps};
 ghost use Rattle.load_numbers.specs.sheet_words.Ready.{Ready};
 ghost use Rattle.load_numbers.specs.sheet_words.Runs.{first_runs, last_runs};
 
 use crate::word_address::Run;
 use crate::{clear_doubles, store_words};
-use block_places::row_map;
-use block_places::sheet_rows::Map;
+use block_places::row_map::Map;
 use layout::Layout;
 use sheet::Starts;
 use sheet_checks::levels;
 
 // Z'Z, Z'X and Z'y.
-fn first_runs(bytes: &[u8], starts: Starts, layout: Layout, m: Map, doubles: &mut [f64])
-    requires { Ready bytes.now starts layout × Maps layout m }
-    ensures { (sheet : Sheet) → read_sheet bytes.now ≡ accepted sheet starts → doubles.new ≡ first_runs bytes.now sheet starts layout doubles.old }
+fn first_runs(bytes: &[u8], starts: Starts, map: &Map, doubles: &mut [f64])
+    requires { Ready bytes.now starts map.now.layout }
+    ensures { (sheet : Sheet) → read_sheet bytes.now ≡ accepted sheet starts → doubles.new ≡ first_runs bytes.now sheet starts map.now.layout doubles.old }
 {
     store_words::scatter(
         Run::Zz,
@@ -28,8 +26,7 @@ fn first_runs(bytes: &[u8], starts: Starts, layout: Layout, m: Map, doubles: &mu
         starts.zz,
         0,
         levels::entries(starts),
-        layout,
-        m,
+        map,
         doubles,
     );
     store_words::scatter(
@@ -37,39 +34,36 @@ fn first_runs(bytes: &[u8], starts: Starts, layout: Layout, m: Map, doubles: &mu
         bytes,
         starts.zx,
         0,
-        layout.q * layout.p,
-        layout,
-        m,
+        map.layout.q * map.layout.p,
+        map,
         doubles,
     );
-    store_words::scatter(Run::Zy, bytes, starts.zy, 0, layout.q, layout, m, doubles);
+    store_words::scatter(Run::Zy, bytes, starts.zy, 0, map.layout.q, map, doubles);
 }
 
 // X'X, X'y and y'y: the last triangle in its order.
-fn last_runs(bytes: &[u8], starts: Starts, layout: Layout, m: Map, doubles: &mut [f64])
-    requires { Ready bytes.now starts layout × Maps layout m }
-    ensures { (sheet : Sheet) → read_sheet bytes.now ≡ accepted sheet starts → doubles.new ≡ last_runs bytes.now sheet starts layout doubles.old }
+fn last_runs(bytes: &[u8], starts: Starts, map: &Map, doubles: &mut [f64])
+    requires { Ready bytes.now starts map.now.layout }
+    ensures { (sheet : Sheet) → read_sheet bytes.now ≡ accepted sheet starts → doubles.new ≡ last_runs bytes.now sheet starts map.now.layout doubles.old }
 {
-    let triangle = layout.p * (layout.p + 1) / 2;
-    store_words::scatter(Run::Xx, bytes, starts.xx, 0, triangle, layout, m, doubles);
+    let triangle = map.layout.p * (map.layout.p + 1) / 2;
+    store_words::scatter(Run::Xx, bytes, starts.xx, 0, triangle, map, doubles);
     store_words::scatter(
         Run::Xy,
         bytes,
         starts.xy,
         triangle,
-        layout.p,
-        layout,
-        m,
+        map.layout.p,
+        map,
         doubles,
     );
     store_words::scatter(
         Run::Yy,
         bytes,
         starts.yy,
-        triangle + layout.p,
+        triangle + map.layout.p,
         1,
-        layout,
-        m,
+        map,
         doubles,
     );
 }
@@ -79,8 +73,8 @@ pub fn load_numbers(bytes: &[u8], starts: Starts, layout: Layout, doubles: &mut 
     requires { Ready bytes.now starts layout × (doubles_needed layout ≤ length doubles.old) }
     ensures { (sheet : Sheet) → read_sheet bytes.now ≡ accepted sheet starts → doubles.new ≡ store 0 (doubles_of sheet layout) doubles.old }
 {
-    let m = row_map::map_of(layout);
+    let map = Map::of(layout);
     clear_doubles::clear_all(layout, doubles);
-    first_runs(bytes, starts, layout, m, doubles);
-    last_runs(bytes, starts, layout, m, doubles);
+    first_runs(bytes, starts, &map, doubles);
+    last_runs(bytes, starts, &map, doubles);
 }

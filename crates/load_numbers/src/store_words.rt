@@ -1,15 +1,12 @@
 // Puts the words of a run of a sheet's lines into their places (document 01, Record 3). Definitions are in specs/word_address/Spread.antt.
 ghost use Rattle.std.specs.Prelude.{◌≡◌, true, ◌+◌, ◌≤◌, set};
 ghost use Rattle.sheet.specs.Field.{is_finite};
-ghost use Rattle.heading_format.specs.Heading.{valid_layout};
 ghost use Rattle.workspace.specs.Loaded.{double};
-ghost use Rattle.block_places.specs.sheet_rows.Blocks.{Maps};
 ghost use Rattle.load_numbers.specs.word_address.Spread.{line_of, EachLine, FiniteWord, spread, put_word};
 
 use crate::word_address::Run;
 use crate::{line_address, word_address};
-use block_places::sheet_rows::Map;
-use layout::Layout;
+use block_places::row_map::Map;
 
 // The double of a word.
 fn double_of(word: u64) -> f64
@@ -35,25 +32,20 @@ pub fn scatter(
     at: usize,
     from: u64,
     count: u64,
-    layout: Layout,
-    m: Map,
+    map: &Map,
     doubles: &mut [f64],
 )
-    requires { (valid_layout layout ≡ true) × Maps layout m × (from + count ≤ 1099511627776) × EachLine FiniteWord (line_of run bytes.now) count at }
-    ensures { doubles.new ≡ spread (put_word run layout) (line_of run bytes.now) count from at doubles.old }
+    requires { (from + count ≤ 1099511627776) × EachLine FiniteWord (line_of run bytes.now) count at }
+    ensures { doubles.new ≡ spread (put_word run map.now.layout) (line_of run bytes.now) count from at doubles.old }
 {
     let mut p = at;
-    let mut i = from;
-    let mut left = count;
-    while left > 0 {
+    for i in from..from + count {
         let l = line_address::line_at(run, bytes, p);
         put(
             doubles,
-            word_address::place_of(run, layout, &layout.m, &m.first, &m.at, i, l),
+            word_address::place_of(run, map, i, l),
             double_of(l.word),
         );
         p = l.next;
-        i += 1;
-        left -= 1;
     }
 }

@@ -1,14 +1,10 @@
 // Where the word of each line of a sheet goes among the doubles of a workspace (document 01, Record 3). Definitions are in specs/word_address/Spread.antt.
-// Lent to each function, so that no line of a sheet copies them: counts, the levels of the sorted blocks; first and at, the lists of the layout's map.
-ghost use Rattle.std.specs.Prelude.{◌≡◌, true, cond, ◌+◌, ◌-◌, ◌*◌, ◌≤◌, ◌<◌};
+ghost use Rattle.std.specs.Prelude.{◌≡◌, cond, ◌+◌, ◌*◌, ◌≤◌, ◌<◌};
 ghost use Rattle.layout.specs.Shapes.{levels, loaded_at};
-ghost use Rattle.heading_format.specs.Heading.{valid_layout};
-ghost use Rattle.workspace.specs.Loaded.{row_start, in_block};
-ghost use Rattle.block_places.specs.sheet_rows.Blocks.{FirstRows, BlockStarts};
 ghost use Rattle.load_numbers.specs.word_address.Spread.{entry_place, fixed_place, place_of};
 
-use block_places::{block_kinds, row_map};
-use layout::Layout;
+use block_places::block_kinds;
+use block_places::row_map::Map;
 use sheet::Line;
 use sheet_reader::field::NOWHERE;
 
@@ -23,112 +19,70 @@ pub enum Run {
     Yy,
 }
 
-// The level of block j that row x of the sheet is.
-pub fn level_of(layout: Layout, first: &[u64; 8], j: u64, x: u64) -> u64
-    requires { (valid_layout layout ≡ true) × FirstRows layout first.now × (j < layout.k) × (in_block layout j x ≡ true) }
-    ensures { (result ≡ x - row_start layout j) × (result < levels layout j) }
-{
-    let t = j as usize;
-    x - first[t]
-}
-
-// Where loaded block (i, j) starts.
-fn start_of(layout: Layout, at: &[u64; 81], i: u64, j: u64) -> u64
-    requires { (valid_layout layout ≡ true) × BlockStarts layout at.now × (j ≤ i) × (i ≤ layout.k) }
-    ensures { (result ≡ loaded_at layout i j) × (result < 2199023255552) }
-{
-    let t = (i * 9 + j) as usize;
-    at[t]
-}
-
 // Cell (r, c) of pair (i, j), counted from its start.
-fn pair_place(layout: Layout, counts: &[u64; 8], i: u64, c: u64, r: u64) -> u64
-    requires { (valid_layout layout ≡ true) × (counts.now ≡ layout.m) × (i < layout.k) × (c ≤ 65535) × (r ≤ 65535) }
-    ensures { (result ≡ cond layout.sparse c (c * levels layout i + r)) × (result ≤ 4295032832) }
+fn pair_place(map: &Map, i: u64, c: u64, r: u64) -> u64
+    requires { (i < map.now.layout.k) × (c ≤ 65535) × (r ≤ 65535) }
+    ensures { (result ≡ cond map.now.layout.sparse c (c * levels map.now.layout i + r)) × (result ≤ 4295032832) }
 {
-    if layout.sparse {
+    if map.layout.sparse {
         return c;
     }
-    let t = i as usize;
-    c * counts[t] + r
+    c * map.layout.m[i as usize] + r
 }
 
 // The place of Z'Z at a column and row.
-fn entry_place<'a>(
-    layout: Layout,
-    counts: &'a [u64; 8],
-    first: &'a [u64; 8],
-    at: &'a [u64; 81],
-    col: u64,
-    row: u64,
-) -> usize
-    requires { (valid_layout layout ≡ true) × (counts.now ≡ layout.m) × FirstRows layout first.now × BlockStarts layout at.now }
-    ensures { result ≡ entry_place layout col row }
+fn entry_place(map: &Map, col: u64, row: u64) -> usize
+    ensures { result ≡ entry_place map.now.layout col row }
 {
-    let i = row_map::block_of(layout, counts, first, row);
-    if i >= layout.k {
+    let i = map.block_of(row);
+    if i >= map.layout.k {
         return NOWHERE;
     }
-    let r = level_of(layout, first, i, row);
+    let r = map.level_of(i, row);
     if col == row {
-        return (start_of(layout, at, i, i) + r) as usize;
+        return (map.start_of(i, i) + r) as usize;
     }
-    let j = row_map::block_of(layout, counts, first, col);
+    let j = map.block_of(col);
     if j >= i {
         return NOWHERE;
     }
-    let c = level_of(layout, first, j, col);
-    (start_of(layout, at, i, j) + pair_place(layout, counts, i, c, r)) as usize
+    let c = map.level_of(j, col);
+    (map.start_of(i, j) + pair_place(map, i, c, r)) as usize
 }
 
 // The place of fixed row r at row x of the sheet.
-fn fixed_place<'a>(
-    layout: Layout,
-    counts: &'a [u64; 8],
-    first: &'a [u64; 8],
-    at: &'a [u64; 81],
-    x: u64,
-    r: u64,
-) -> usize
-    requires { (valid_layout layout ≡ true) × (counts.now ≡ layout.m) × FirstRows layout first.now × BlockStarts layout at.now × (r ≤ layout.p) }
-    ensures { result ≡ fixed_place layout x r }
+fn fixed_place(map: &Map, x: u64, r: u64) -> usize
+    requires { r ≤ map.now.layout.p }
+    ensures { result ≡ fixed_place map.now.layout x r }
 {
-    let j = row_map::block_of(layout, counts, first, x);
-    if j >= layout.k {
+    let j = map.block_of(x);
+    if j >= map.layout.k {
         return NOWHERE;
     }
-    let c = level_of(layout, first, j, x);
-    let rows = block_kinds::last_rows(layout);
-    (start_of(layout, at, layout.k, j) + (c * rows + r)) as usize
+    let c = map.level_of(j, x);
+    let rows = block_kinds::last_rows(map.layout);
+    (map.start_of(map.layout.k, j) + (c * rows + r)) as usize
 }
 
 // Place i of the last triangle.
-fn last_place(layout: Layout, at: &[u64; 81], i: u64) -> usize
-    requires { (valid_layout layout ≡ true) × BlockStarts layout at.now × (i ≤ 1099511627776) }
-    ensures { result ≡ loaded_at layout layout.k layout.k + i }
+fn last_place(map: &Map, i: u64) -> usize
+    requires { i ≤ 1099511627776 }
+    ensures { result ≡ loaded_at map.now.layout map.now.layout.k map.now.layout.k + i }
 {
-    (start_of(layout, at, layout.k, layout.k) + i) as usize
+    (map.start_of(map.layout.k, map.layout.k) + i) as usize
 }
 
 // The place of the word of line i of a run.
-pub fn place_of<'a>(
-    run: Run,
-    layout: Layout,
-    counts: &'a [u64; 8],
-    first: &'a [u64; 8],
-    at: &'a [u64; 81],
-    i: u64,
-    l: Line,
-) -> usize
-    requires { (valid_layout layout ≡ true) × (counts.now ≡ layout.m) × FirstRows layout first.now × BlockStarts layout at.now × (i ≤ 1099511627776) }
-    ensures { result ≡ place_of run layout i l }
+pub fn place_of(run: Run, map: &Map, i: u64, l: Line) -> usize
+    requires { i ≤ 1099511627776 }
+    ensures { result ≡ place_of run map.now.layout i l }
 {
     match run {
-        Run::Zz => entry_place(layout, counts, first, at, l.first, l.second),
-        Run::Zx => fixed_place(layout, counts, first, at, i / layout.p, i % layout.p),
-        Run::Zy => fixed_place(layout, counts, first, at, i, layout.p),
-        Run::Xx => last_place(layout, at, i),
-        Run::Xy => last_place(layout, at, i),
-        Run::Yy => last_place(layout, at, i),
+        Run::Zz => entry_place(map, l.first, l.second),
+        Run::Zx => fixed_place(map, i / map.layout.p, i % map.layout.p),
+        Run::Zy => fixed_place(map, i, map.layout.p),
+        Run::Xx => last_place(map, i),
+        Run::Xy => last_place(map, i),
+        Run::Yy => last_place(map, i),
     }
 }

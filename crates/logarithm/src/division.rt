@@ -6,8 +6,6 @@ ghost use Rattle.std.specs.Float.Ieee.{round};
 ghost use Rattle.logarithm.specs.exact_log.Log.{apart};
 ghost use Rattle.logarithm.specs.fixed_point.Units.{ratio};
 
-use float_bits::wide_product;
-
 // a * 2^62 / b, by long division, two digits at a time: what is left to do where a guess fails, which has not been seen.
 fn long_division(a: u64, b: u64) -> u64
     requires { (a < b) × (b < 2 ^ 54) }
@@ -15,16 +13,15 @@ fn long_division(a: u64, b: u64) -> u64
 {
     let mut q: u64 = 0;
     let mut r = a;
-    let mut i: u64 = 0;
-    while i < 31 {
+    for turn in 0..31u64 {
         let n = r * 4;
         q = q * 4 + n / b;
         r = n % b;
-        i += 1;
     }
     q
 }
 
+// f64::max tests for a NaN too, which costs a twentieth of a logarithm's time here.
 fn larger(x: f64, y: f64) -> f64 {
     if x > y { x } else { y }
 }
@@ -38,38 +35,24 @@ pub fn guess(m: u64, c: u64) -> u64
     let v = f64::from_bits(4602678819172646912 + m);
     let w = f64::from_bits(4602678819172646912 + c);
     let q = larger(v - w, w - v) / (v + w) + 0.25;
-    if q == q {
-        let n = f64::to_bits(q) % 4503599627370496;
-        if n > 2 {
-            return n - 2;
-        }
+    if q.is_nan() {
+        return 0;
     }
-    0
+    (q.to_bits() % 4503599627370496).saturating_sub(2)
 }
 
-// How far apart two numbers are.
-pub fn distance(a: u64, b: u64) -> u64
-    ensures { result ≡ apart a b }
-{
-    if a < b { b - a } else { a - b }
-}
-
-// a * 2^62 / b from a guess g at a * 2^54 / b: a * 2^54 - g * b is left, in its low word r where the high words agree,
-// and r * 2^8 is divided once. Where the guess is too far off, by long division.
+// a * 2^62 / b from a guess g at a * 2^54 / b: what g * b leaves of a * 2^54 is divided once, in units of 2^-8. Where the guess is too
+// far off, by long division.
 pub fn quotient_from_guess(a: u64, b: u64, g: u64) -> u64
     requires { (a < b) × (b < 2 ^ 54) × (g < 2 ^ 52) }
     ensures { result ≡ ratio (2 ^ 62) a b }
 {
-    let low = wide_product::low(g, b);
-    let start = a % 1024 * 18014398509481984;
-    let r = std::num::wrapping_sub_u64(start, low);
-    if wide_product::high(g, b) + wide_product::above(low, start) != a / 1024 {
-        return long_division(a, b);
+    let product = u128::from(g) * u128::from(b);
+    let rest = (u128::from(a) << 54).wrapping_sub(product);
+    if rest < 72057594037927936 {
+        return g * 256 + rest as u64 * 256 / b;
     }
-    if r >= 72057594037927936 {
-        return long_division(a, b);
-    }
-    g * 256 + r * 256 / b
+    long_division(a, b)
 }
 
 // h * 2^32 + l units of 2^-62, less 801483923306 * 2^32 + 4404725618868, as a double, rounded once. The numbers go into the last

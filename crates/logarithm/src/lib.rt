@@ -54,8 +54,8 @@ pub fn ln(x: f64) -> f64
 {
     match double::classify(x) {
         Kind::Positive(p) => of_parts(p),
-        Kind::Zero => -1.0 / 0.0,
-        Kind::Negative => 0.0 / 0.0,
+        Kind::Zero => f64::NEG_INFINITY,
+        Kind::Negative => f64::NAN,
         Kind::PlusInfinity => x,
         Kind::NotANumber => x,
     }

@@ -12,9 +12,7 @@ pub fn artanh_series(z: u64) -> u64
 {
     let t = 4 * wide_product::high(4 * z, z);
     let mut s: u64 = 0;
-    let mut k: u64 = 10;
-    while k > 1 {
-        k -= 1;
+    for k in (1..10u64).rev() {
         s = 4611686018427387904 / (2 * k + 1) + wide_product::high(s, t);
     }
     z + wide_product::high(4 * z, wide_product::high(s, t))

@@ -12,7 +12,7 @@ pub fn quotient(m: u64, c: u64) -> u64
     requires { (5 * apart m c ≤ m + c) × (m < 2 ^ 53) × (0 < c) × (c ≤ 2 ^ 53) }
     ensures { result ≡ ratio (2 ^ 62) (apart m c) (m + c) }
 {
-    division::quotient_from_guess(division::distance(m, c), m + c, division::guess(m, c))
+    division::quotient_from_guess(m.abs_diff(c), m + c, division::guess(m, c))
 }
 
 // The logarithm of m / c * 2^u / 2^1074 with the series' part y of m / c. ln 2 is 744261117 * 2^32 + 4101234282 units, and in_units

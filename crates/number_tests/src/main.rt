@@ -7,10 +7,18 @@ mod agreement;
 use float_bits::words;
 use std::io;
 use std::io::{Read, Write};
-use test_words::print_number;
+use test_words::{print_number, print_word, read_word};
 
 // The groups of the square root, then those of the logarithm.
 const GROUPS: usize = 14;
+
+#[derive(Clone, Copy)]
+struct Vector {
+    group: u64,
+    x: u64,
+    lower: u64,
+    upper: u64,
+}
 
 // The function of a group.
 fn result(group: u64, x: f64) -> f64 {
@@ -21,48 +29,44 @@ fn result(group: u64, x: f64) -> f64 {
 }
 
 // A line: the vector's first three words and the result's word.
-fn print_vector(out: &mut impl Write, m: &[u64; 65536], r: f64) -> io::Result<()> {
-    let group = m[0];
+fn print_vector(out: &mut impl Write, v: Vector, r: f64) -> io::Result<()> {
+    let group = v.group;
     write!(out, "{group}")?;
-    print_number(out, m[1])?;
-    print_number(out, m[2])?;
-    test_words::print_word(out, words::word_of(r))
+    print_number(out, v.x)?;
+    print_number(out, v.lower)?;
+    print_word(out, words::word_of(r))
 }
 
-// Holds the vector in the first four words of m; from 4 on, those of each group that agree are counted.
-fn hold(out: &mut impl Write, m: &mut [u64; 65536]) -> io::Result<()> {
-    let r = result(m[0], words::double(m[1]));
-    let at = 4 + test_words::size(m[0], GROUPS);
-    if agreement::agrees(m[2], m[3], r) {
-        m[at] = m[at] % 0x100000000 + 1;
-    } else {
-        print_vector(out, m, r)?;
+// Whether the vector's result agrees. One that does not is printed.
+fn holds(out: &mut impl Write, v: Vector) -> io::Result<bool> {
+    let r = result(v.group, words::double(v.x));
+    let agrees = agreement::agrees(v.lower, v.upper, r);
+    if !agrees {
+        print_vector(out, v, r)?;
     }
-    Ok(())
+    Ok(agrees)
 }
 
-// The next vector, into the first four words. Whether there is one.
-fn read_vector(list: &mut impl Read, m: &mut [u64; 65536]) -> io::Result<bool> {
-    let first = test_words::read_word(list)?;
-    m[0] = first.word;
-    if first.more {
-        test_words::read_words(list, m, 1, 4)?;
-    }
-    Ok(first.more)
+// The next vector, if there is one.
+fn read_vector(list: &mut impl Read) -> io::Result<Option<Vector>> {
+    let Some(group) = test_words::next_word(list)? else {
+        return Ok(None);
+    };
+    let x = read_word(list)?;
+    let lower = read_word(list)?;
+    let upper = read_word(list)?;
+    Ok(Some(Vector {
+        group,
+        x,
+        lower,
+        upper,
+    }))
 }
 
-// A line: a group's number and how many of its vectors agree.
-fn print_group(out: &mut impl Write, g: usize, agreed: u64) -> io::Result<()> {
-    write!(out, "{g}")?;
-    print_number(out, agreed)?;
-    writeln!(out)
-}
-
-fn print_groups(out: &mut impl Write, m: &[u64; 65536]) -> io::Result<()> {
-    let mut g: usize = 0;
-    while g < GROUPS {
-        print_group(out, g, m[4 + g])?;
-        g += 1;
+// A line for each group: its number and how many of its vectors agree.
+fn print_groups(out: &mut impl Write, agreed: &[u64; GROUPS]) -> io::Result<()> {
+    for (g, n) in agreed.iter().enumerate() {
+        writeln!(out, "{g} {n}")?;
     }
     Ok(())
 }
@@ -71,11 +75,16 @@ fn print_groups(out: &mut impl Write, m: &[u64; 65536]) -> io::Result<()> {
 fn main(rt: HostRuntime) -> io::Result<()> {
     let mut list = rt.reader();
     let mut out = io::writer(&rt);
-    let mut m = [0u64; 65536];
-    let mut n: u64 = 0;
-    while n < 1000000 && read_vector(&mut list, &mut m)? {
-        hold(&mut out, &mut m)?;
-        n += 1;
+    let mut agreed = [0u64; GROUPS];
+    for _ in 0..1000000 {
+        let Some(v) = read_vector(&mut list)? else {
+            break;
+        };
+        if holds(&mut out, v)? {
+            if let Some(n) = agreed.get_mut(v.group as usize) {
+                *n = n.wrapping_add(1);
+            }
+        }
     }
-    print_groups(&mut out, &m)
+    print_groups(&mut out, &agreed)
 }

@@ -14,15 +14,15 @@ use Rattle.heading_format.specs.Heading.{written, layout_of, undone}
 use Rattle.workspace.specs.Compute.{word, words}
 use Rattle.update.specs.Compute.{steps}
 use Rattle.profile.specs.declared.Deviance.TheVariants.{Value, Pivot, NoScale}
-use Rattle.profile.specs.declared.DevianceAnswer.{DevianceAnswer}
-use Rattle.profile.specs.declared.DevianceAnswer.TheVariants.{Given, Refused}
-use Rattle.profile.specs.declared.Solve.{Solve}
-use Rattle.profile.specs.declared.Solve.TheVariants.{Solved, Refused as Denied}
 use Rattle.profile.specs.Deviance.{deviance_from_factor}
 use Rattle.profile.specs.Finish.{Solving, solve_of}
 use Rattle.profile.specs.Solves.{block_in, solved_for}
 use Rattle.layout.proofs.Made.{layout_with}
 use Rattle.heading_format.proofs.Heading.{progress_with}
+use Rattle.std.specs.Prelude.{Result, Ok, Err}
+use Rattle.refusal.specs.declared.Refusal.{Refusal}
+use Rattle.profile.specs.declared.Deviance.{Deviance}
+use Rattle.profile.specs.declared.Solution.{Solution}
 
 abbrev layout : ℕ → Layout
 layout n = layout_with n 1 1 1 (1 ∷ replicate 7 0) (replicate 8 0) false false
@@ -53,14 +53,14 @@ doubles =
     ∷ word 0x3fe62e42fefa39ef
     ∷ []
 
-unfoldable bits_of : DevianceAnswer → ℕ
+unfoldable bits_of : Result Deviance Refusal → ℕ
 unfolding Ieee.to_bits
-bits_of (Given (Value v)) = Ieee.to_bits binary64 v
-bits_of (Given (Pivot j r)) = 1
-bits_of (Given NoScale) = 2
-bits_of (Refused r) = 3
+bits_of (Ok (Value v)) = Ieee.to_bits binary64 v
+bits_of (Ok (Pivot j r)) = 1
+bits_of (Ok NoScale) = 2
+bits_of (Err r) = 3
 
-unfoldable deviance : ℕ → Progress → List Float → Bool → DevianceAnswer
+unfoldable deviance : ℕ → Progress → List Float → Bool → Result Deviance Refusal
 unfolding steps deviance_from_factor
 deviance n g w reml = deviance_from_factor (written (layout n) g) w reml
 
@@ -75,11 +75,11 @@ unfolding deviance bits_of
 reml = refl
 
 -- no scale: d is 0, or r2 is 0; a NaN r2 is a value
-no_freedom : deviance 1 finished doubles true ≡ Given NoScale
+no_freedom : deviance 1 finished doubles true ≡ Ok NoScale
 unfolding deviance
 no_freedom = refl
 
-no_residual : deviance 3 finished (set doubles 12 (word 0)) false ≡ Given NoScale
+no_residual : deviance 3 finished (set doubles 12 (word 0)) false ≡ Ok NoScale
 unfolding deviance
 no_residual = refl
 
@@ -87,7 +87,7 @@ nan_value : bits_of (deviance 3 finished (set doubles 12 nan) false) ≡ 0x7ff80
 unfolding deviance bits_of
 nan_value = refl
 
-not_finished : deviance 3 under_way doubles false ≡ Refused (refusal 25 0 0)
+not_finished : deviance 3 under_way doubles false ≡ Err (refusal 25 0 0)
 unfolding deviance
 not_finished = refl
 
@@ -103,10 +103,10 @@ unfolding solving words
 solution = refl
 
 -- its deviance comes from its own r2, (9 - 4) - 4, which here is the last pivot's square
-unfoldable solution_bits : Solve → ℕ
+unfoldable solution_bits : Result Solution Refusal → ℕ
 unfolding Ieee.to_bits
-solution_bits (Solved s) = Ieee.to_bits binary64 s.deviance
-solution_bits (Denied r) = 0
+solution_bits (Ok s) = Ieee.to_bits binary64 s.deviance
+solution_bits (Err r) = 0
 
 unfoldable solving_by : Bool → ℕ
 unfolding solving solution_bits
@@ -126,15 +126,15 @@ unfolding solving solution_bits
 other_residual = refl
 
 -- 25 before 13; 13 leaves the list; 27, here X'X 1 - 2 · 1/2, leaves it +0.0
-solve_early : (solving under_way doubles 5).answer ≡ Denied (refusal 25 0 0)
+solve_early : (solving under_way doubles 5).answer ≡ Err (refusal 25 0 0)
 unfolding solving
 solve_early = refl
 
-wrong_length : solving finished doubles 5 ≡ record { answer = Denied (refusal 13 0 0); result = replicate 5 (word 99) }
+wrong_length : solving finished doubles 5 ≡ record { answer = Err (refusal 13 0 0); result = replicate 5 (word 99) }
 unfolding solving
 wrong_length = refl
 
-no_pivot : (solving finished (set doubles 3 (word 0x3ff0000000000000)) 6).answer ≡ Denied (refusal 27 0 0)
+no_pivot : (solving finished (set doubles 3 (word 0x3ff0000000000000)) 6).answer ≡ Err (refusal 27 0 0)
 unfolding solving
 no_pivot = refl
 

@@ -1,5 +1,5 @@
 -- The solution (document 01, Record 7; `solve_profile_blocked`, `solve_profile_finish`).
-use Rattle.std.specs.Prelude.{ℕ, zero, suc, ◌+◌, ◌*◌, ◌/◌, Bool, cond, List, [], ◌∷◌, ◌++◌, eqb, length, Float}
+use Rattle.std.specs.Prelude.{ℕ, zero, suc, ◌+◌, ◌*◌, ◌/◌, Bool, cond, List, [], ◌∷◌, ◌++◌, eqb, length, Float, Result, Ok, Err}
 use Rattle.std.proofs.Math.Option.{Option, none, some}
 use Rattle.std.proofs.Math.ListN.{replicate}
 use Rattle.storage.specs.Runs.{tab}
@@ -10,25 +10,24 @@ use Rattle.rules.specs.Solves.{backward}
 use Rattle.rules.specs.Finish.{deviance_of, fixed_cross, residual, offset_of}
 use Rattle.layout.specs.declared.Layout.{Layout}
 use Rattle.refusal.specs.declared.Refusal.{Refusal}
-use Rattle.refusal.specs.Numbers.{refusal, no_refusal}
+use Rattle.refusal.specs.declared.Numbers.{Numbers}
+use Rattle.refusal.specs.Numbers.{numbers_of, refusal, no_refusal}
 use Rattle.layout.specs.Shapes.{pick, block_rows, last_shape, response_row, sheet_index}
 use Rattle.heading_format.specs.Heading.{layout_of, progress_of, valid_heading}
 use Rattle.workspace.specs.Memory.{cell_of, loaded_block, theta_of}
 use Rattle.profile.specs.declared.Solution.{Solution}
-use Rattle.profile.specs.declared.Solve.{Solve}
-use Rattle.profile.specs.declared.Solve.TheVariants.{Solved, Refused}
 use Rattle.profile.specs.Deviance.{is_finished, freedom, log_determinant}
 use Rattle.profile.specs.Solves.{block_in, solved_for, scaled_row}
 
 -- WHAT AN ANSWER MEANS (document 01: "That definition gives this paper's number and values for each of the enum's cases"): number and places, 0 where it is a
 -- solution, and the two scalars of one.
 pub record SolveMeaning : Type 0 where
-  pub refusal : Refusal
+  pub refusal : Numbers
   pub solution : Option Solution
 
-abbrev pub solve_meaning : Solve → SolveMeaning
-solve_meaning (Solved s) = record { refusal = no_refusal; solution = some s }
-solve_meaning (Refused r) = record { refusal = r; solution = none }
+abbrev pub solve_meaning : Result Solution Refusal → SolveMeaning
+solve_meaning (Ok s) = record { refusal = no_refusal; solution = some s }
+solve_meaning (Err r) = record { refusal = numbers_of r; solution = none }
 
 -- the sorted block that has sheet index i, among the first n
 unfoldable pub sorted_index : Layout → ℕ → ℕ → ℕ
@@ -128,11 +127,11 @@ module _ (h : List ℕ) (w : List Float) where
 
 -- an answer, and the result list that it leaves; the workspace is untouched
 pub record Solving : Type 0 where
-  pub answer : Solve
+  pub answer : Result Solution Refusal
   pub result : List Float
 
 abbrev pub refusing : ℕ → ℕ → List Float → Solving
-refusing n a r = record { answer = Refused (refusal n a 0); result = r }
+refusing n a r = record { answer = Err (refusal n a 0); result = r }
 
 -- 27 leaves the whole result list +0.0
 abbrev pub on_pivot : Option ℕ → ℕ → Solving → Solving
@@ -146,6 +145,6 @@ solve_of h w reml out =
     pick (valid_heading h (length w))
     (pick (is_finished (progress_of h).state)
     (pick (eqb (length out) (result_length (layout_of h)))
-    (on_pivot (refused_row h w) (length out) (record { answer = Solved (solution_of h w reml); result = result_list h w })) (refusing 13 0 out))
+    (on_pivot (refused_row h w) (length out) (record { answer = Ok (solution_of h w reml); result = result_list h w })) (refusing 13 0 out))
     (refusing 25 0 out))
     (refusing 20 0 out)

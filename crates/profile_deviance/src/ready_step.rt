@@ -2,23 +2,13 @@
 ghost use Rattle.std.specs.Prelude.{◌∷◌, [], ◌≡◌, ◌-◌};
 ghost use Rattle.workspace.specs.Answers.{workspace};
 ghost use Rattle.update.specs.Names.{step_of_name};
-ghost use Rattle.profile_deviance.specs.ready_step.ReadyInTurn.{is_refused, ReadyInTurn, Ran};
+ghost use Rattle.profile_deviance.specs.ready_step.ReadyInTurn.{ReadyInTurn, Ran};
 
-use refusal::Answer;
+use refusal::Refusal;
 use update::StepName;
 
-// Whether an answer is a refusal.
-pub fn is_refused(a: Answer) -> bool
-    ensures { result ≡ is_refused a }
-{
-    match a {
-        Answer::Accepted => false,
-        Answer::Refused(_) => true,
-    }
-}
-
 // The step whose turn it is.
-pub fn apply(heading: &mut [u32], doubles: &mut [f64], name: StepName) -> Answer
+pub fn apply(heading: &mut [u32], doubles: &mut [f64], name: StepName) -> Result<(), Refusal>
     requires { ReadyInTurn (workspace heading.old doubles.old) (step_of_name name ∷ []) }
     ensures { Ran (workspace heading.old doubles.old) (step_of_name name ∷ []) (record { answer = result; left = workspace heading.new doubles.new }) }
 {

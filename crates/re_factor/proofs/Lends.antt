@@ -1,28 +1,36 @@
 -- The doubles of w from off to off + k, lent to a call: what it writes at their start is written at off, and nothing else changes.
-use Prim.Native.Nat.{ℕ, ◌+◌, ◌-◌, ◌≤◌}
-use mathlib.Core.Path.{◌≡◌, refl, ap, subst, ◌∙◌}
-use mathlib.Core.List.{List}
+use Prim.Native.Nat.{ℕ, zero, suc, ◌+◌, ◌-◌, ◌≤◌}
+use mathlib.Core.Path.{◌≡◌, refl, sym, ap, subst, ◌∙◌}
+use mathlib.Core.List.{List, ◌∷◌}
 use mathlib.Core.Option.{Option}
 use native.Mathlib.Nat.{add-zero}
 use native.Mathlib.Omega.{arith}
-use lib.ListN.{length}
+use lib.ListN.{length, replicate}
 use lib.Ieee.{Float}
 use borrow.Rule.Slice.PartMut.{put_mid}
+use Rattle.storage.specs.Runs.{tab}
 use Rattle.storage.specs.Shape.{packed, size_of, cell}
 use Rattle.storage.specs.Part.{part, store}
 use Rattle.storage.specs.Placed.{Placed}
-use Rattle.storage.proofs.Parts.{store_lent}
+use Rattle.storage.proofs.Cells.{length_tab, tab_front}
+use Rattle.storage.proofs.Parts.{length_part, store_lent}
 use Rattle.rules.specs.Arithmetic.{ieee}
 use Rattle.rules.specs.Sums.{logs_from}
 use Rattle.rules.specs.Cholesky.{at}
-use Rattle.re_lower.specs.Lower.{answer_of}
-use Rattle.re_lower.specs.declared.Pivots.{Pivots}
+use Rattle.re_lower.specs.Lower.{Pivots, answer_of}
+use Rattle.re_lower.proofs.Blocks.{store_whole}
 use Rattle.block_runs.specs.blocks.Blocks.{block, entry}
 use Rattle.re_factor.specs.Factor.{Factored, logs_first}
 
 -- the lent cells, as a lend counts them
 abbrev pub between : ℕ → ℕ → List Float → List Float
 between off k w = part off (off + k - off) w
+
+-- n times the same
+tab_same : (n : ℕ) (x : Float) → replicate n x ≡ tab n (λ i. x)
+unfolding tab
+tab_same zero x = refl
+tab_same (suc n) x = ap (λ (l : List Float). x ∷ l) (tab_same n x) ∙ sym (tab_front n (λ i. x))
 
 module _ (w : List Float) (off k m : ℕ) (e : k ≡ m) where
   count : off + k - off ≡ m
@@ -42,6 +50,14 @@ module _ (w : List Float) (off k m : ℕ) (e : k ≡ m) where
         ∙ ap (put_mid off m w) (subst (λ (x : List Float). y ≡ store 0 (f x) x) is_part q)
         ∙ store_lent w off m 0 l fits (omega arith)
         ∙ ap (λ (i : ℕ). store i l w) (add-zero off)
+
+    -- the whole part becomes 0
+    pub cleared : y ≡ replicate (length (between off k w)) ieee.zero → put_mid off (off + k - off) w y ≡ store off (tab m (λ i. ieee.zero)) w
+    cleared q =
+        let l : List Float = tab m (λ i. ieee.zero) in
+        let long : length (between off k w) ≡ m = ap length is_part ∙ length_part off m w fits in
+        lent (λ x. l) (omega (arith, length_tab m (λ i. ieee.zero)))
+        (q ∙ ap (λ (i : ℕ). replicate i ieee.zero) long ∙ tab_same m ieee.zero ∙ sym (store_whole l (between off k w) (length_tab m (λ i. ieee.zero) ∙ sym long)))
 
     -- C: `first` is the row of the first refused pivot, `left` what stands there afterwards, both by the part
     pub lent_factor : (first : List Float → Option ℕ) (left : List Float → Pivots → List Float) (p : Pivots)

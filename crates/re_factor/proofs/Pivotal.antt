@@ -16,7 +16,7 @@ use Rattle.storage.proofs.Blocks.{length_fill}
 use Rattle.rules.specs.Arithmetic.{ieee}
 use Rattle.rules.specs.Cholesky.{factor}
 use Rattle.rules.proofs.Doubles.{Double}
-use Rattle.re_lower.specs.declared.Pivots.TheVariants.{Accepted}
+use Rattle.std.specs.Prelude.{Ok}
 use Rattle.re_lower.proofs.Blocks.{store_whole}
 use Rattle.re_lower.proofs.Pivotal.{triangle_never_null, diagonal_never_null}
 use Rattle.re_factor.specs.Factor.{pivot_at, TriangleFactored, DiagonalFactored}
@@ -39,14 +39,14 @@ stored_block p f w w' h e =
 
 module _ (b : Block) (w w' : List Float) where
   -- a packed triangle
-  pub triangle_factor : Lies (length w) (as_triangle b) → Doubles (as_triangle b) b.rows w → TriangleFactored b w w' Accepted → NoneNull (as_triangle b) b.rows w'
+  pub triangle_factor : Lies (length w) (as_triangle b) → Doubles (as_triangle b) b.rows w → TriangleFactored b w w' (Ok tt) → NoneNull (as_triangle b) b.rows w'
   triangle_factor h doubles c =
       let p : Placed = as_triangle b in
       triangle_never_null (part p.at (size_of p.shape) w) (part p.at (size_of p.shape) w') b.rows (omega (arith, length_part p.at (size_of p.shape) w h)) doubles
       record { answer = c.answer; left = stored_block p (factor ieee (read p w) b.rows) w w' h c.exit }
 
   -- a diagonal
-  pub diagonal_factor : Lies (length w) (as_diagonal b) → Doubles (as_diagonal b) b.rows w → DiagonalFactored b w w' Accepted → NoneNull (as_diagonal b) b.rows w'
+  pub diagonal_factor : Lies (length w) (as_diagonal b) → Doubles (as_diagonal b) b.rows w → DiagonalFactored b w w' (Ok tt) → NoneNull (as_diagonal b) b.rows w'
   diagonal_factor h doubles c =
       let p : Placed = as_diagonal b in
       diagonal_never_null (part p.at (size_of p.shape) w) (part p.at (size_of p.shape) w') b.rows (omega (arith, length_part p.at (size_of p.shape) w h, start_single b.rows)) doubles

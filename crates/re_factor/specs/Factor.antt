@@ -10,8 +10,7 @@ use Rattle.rules.specs.Arithmetic.{ieee}
 use Rattle.rules.specs.Begin.{diagonal_cell}
 use Rattle.rules.specs.Cholesky.{forward, radicand, pivots, logs_of_first, logs_of_later}
 use Rattle.rules.specs.Solves.{backward}
-use Rattle.re_lower.specs.Lower.{answer_of, left_of_triangle, left_of_diagonal}
-use Rattle.re_lower.specs.declared.Pivots.{Pivots}
+use Rattle.re_lower.specs.Lower.{Pivots, answer_of, left_of_triangle, left_of_diagonal}
 use Rattle.block_runs.specs.blocks.Blocks.{entry}
 
 -- pivot r of a block

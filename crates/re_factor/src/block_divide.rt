@@ -10,9 +10,7 @@ pub fn divide(v: &mut [f64], z: usize, doubles: &[f64], b: Block)
     requires { (z + b.rows ≤ length v.old) × Lies (length doubles.now) (as_diagonal b) }
     ensures { v.new ≡ divided z b doubles.now v.old }
 {
-    let mut i = 0;
-    while i < b.rows {
+    for i in 0..b.rows {
         v[z + i] = v[z + i] / doubles[b.at + i];
-        i += 1;
     }
 }

@@ -17,6 +17,7 @@ pub fn log_pivots(doubles: &[f64], b: Block, s: f64) -> f64
 }
 
 // s and the logarithms of the pivots of the diagonal b, one by one.
+#[tactic(auto, using(storage::proofs::Starts::start_single))]
 pub fn log_diagonal(doubles: &[f64], b: Block, s: f64) -> f64
     requires { Lies (length doubles.now) (as_diagonal b) }
     ensures { result ≡ logs_first (as_diagonal b) b.rows s doubles.now }

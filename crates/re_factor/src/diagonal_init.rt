@@ -10,9 +10,7 @@ pub fn init_diagonal(doubles: &mut [f64], b: Block, src: usize, t: f64)
     requires { Begins (length doubles.old) (as_diagonal b) (loaded_of b src) }
     ensures { doubles.new ≡ scaled (as_diagonal b) (loaded_of b src) t doubles.old }
 {
-    let mut r = 0;
-    while r < b.rows {
+    for r in 0..b.rows {
         doubles[b.at + r] = t * t * doubles[src + r] + 1.0;
-        r += 1;
     }
 }

@@ -12,11 +12,11 @@ ghost use Rattle.std.specs.Prelude.{◌≤◌, length};
 ghost use Rattle.storage.specs.Placed.{as_triangle, as_diagonal, Lies};
 ghost use Rattle.re_factor.specs.Factor.{TriangleFactored, DiagonalFactored};
 
-use re_lower::{cholesky, diagonal_chol, triangle_cells};
+use re_lower::{RefusedPivot, cholesky, diagonal_chol, triangle_cells};
 use storage::Block;
 
 // C: the packed triangle b becomes its factor, unless a pivot is refused.
-pub fn chol(doubles: &mut [f64], b: Block) -> re_lower::Pivots
+pub fn chol(doubles: &mut [f64], b: Block) -> Result<(), RefusedPivot>
     requires { (b.rows ≤ 316) × Lies (length doubles.old) (as_triangle b) }
     ensures { TriangleFactored b doubles.old doubles.new result }
 {
@@ -26,7 +26,8 @@ pub fn chol(doubles: &mut [f64], b: Block) -> re_lower::Pivots
 }
 
 // C on a diagonal b: its cells become their roots, unless one is refused.
-pub fn chol_diagonal(doubles: &mut [f64], b: Block) -> re_lower::Pivots
+#[tactic(auto, using(storage::proofs::Starts::start_single))]
+pub fn chol_diagonal(doubles: &mut [f64], b: Block) -> Result<(), RefusedPivot>
     requires { Lies (length doubles.old) (as_diagonal b) }
     ensures { DiagonalFactored b doubles.old doubles.new result }
 {

@@ -6,12 +6,13 @@ use mathlib.Core.Logic.{by_cases}
 use native.Mathlib.Decide.{dec_lt}
 use native.Mathlib.Omega.{arith}
 use lib.ListN.{length, get_or, set, take, drop, get_or-append}
-use lib.Seq.{get_or_at, get_or-set_same, get_or-set_other, set_split, append_snoc, sets-eq, take_all}
+use lib.Seq.{get_or_at, get_or-set_same, get_or-set_other, set_split, append_snoc, take_all}
 use lib.Ieee.{Float, nan, sub, mul, div, binary64}
 use Rattle.storage.specs.Runs.{start, triangle, tab, cells}
 use Rattle.storage.specs.Part.{store}
 use Rattle.storage.proofs.Starts.{start_below, start_le}
 use Rattle.storage.proofs.Cells.{length_tab, get_or_tab, take_tab, length_cells, get_or_cells, any_default}
+use Rattle.storage.proofs.Filling.{Filling, filling_next}
 use Rattle.storage.proofs.Parts.{store_before, store_in, store_behind, store_one}
 use Rattle.rules.specs.Arithmetic.{ieee}
 use Rattle.rules.specs.Sums.{chain, subtract_from}
@@ -60,15 +61,37 @@ module _ (x l : List Float) (i from c : ℕ) where
   lane_done y v e h g =
       ap₂ (div binary64) (g ∙ ap (lane_chain (lane x i c) x i l from) e) (any_default l (from + c) nan ieee.zero h)
 
--- four cells that lie together, written one by one
-pub four_written : (x : List Float) (k : ℕ) (f : ℕ → Float) (a b d e : Float) → k + 4 ≤ length x → a ≡ f 0 → b ≡ f 1 → d ≡ f 2 → e ≡ f 3
-    → set (set (set (set x k a) (k + 1) b) (k + 2) d) (k + 3) e ≡ store k (tab 4 f) x
-unfolding store tab
-four_written x k f a b d e h p q r s =
-    let u : k + 1 ≡ suc k = omega arith in
-    let v : k + 2 ≡ suc (suc k) = omega arith in
-    let z : k + 3 ≡ suc (suc (suc k)) = omega arith in
-    rw (u, v, z, p, q, r, s) (sets-eq (f 0 ∷ f 1 ∷ f 2 ∷ f 3 ∷ []) x k h)
+-- the sums of the four rows
+abbrev pub lane_sum : List Float → List Float → ℕ → ℕ → ℕ → ℕ → Float
+lane_sum x l from c y i = lane_chain (lane x i c) x i l from y
+
+module _ (x l : List Float) (from c : ℕ) where
+  pub sums_start : 4 * c + 4 ≤ length x
+      → get_or x (4 * c) nan ∷ get_or x (4 * c + 1) nan ∷ get_or x (4 * c + 2) nan ∷ get_or x (4 * c + 3) nan ∷ [] ≡ tab 4 (lane_sum x l from c 0)
+  unfolding tab
+  sums_start h =
+      rw (
+        lane_start x l 0 from c (4 * c) (omega arith) (omega arith),
+        lane_start x l 1 from c (4 * c + 1) refl (omega arith),
+        lane_start x l 2 from c (4 * c + 2) refl (omega arith),
+        lane_start x l 3 from c (4 * c + 3) refl (omega arith),
+      ) refl
+
+  module _ (s : List Float) (y : ℕ) (e : s ≡ tab 4 (lane_sum x l from c y)) where
+    pub four_sums : length s ≡ 4
+    four_sums = ap length e ∙ length_tab 4 (lane_sum x l from c y)
+
+    own_sum : (i : ℕ) → i < 4 → get_or s i nan ≡ lane_sum x l from c y i
+    own_sum i h = ap (λ (t : List Float). get_or t i nan) e ∙ get_or_tab 4 (lane_sum x l from c y) i nan h
+
+    pub sum_turn : {t : List Float} {i : ℕ} → Filling (lane_sum x l from c (y + 1)) 0 4 s t i → i < 4 → 4 * y + i < length x → from + y < length l
+        → Filling (lane_sum x l from c (y + 1)) 0 4 s (set t i (sub binary64 (get_or t i nan) (mul binary64 (get_or x (4 * y + i) nan) (get_or l (from + y) nan)))) (i + 1)
+    sum_turn {t} {i} so h k m =
+        filling_next so (λ (v : Float). sub binary64 v (mul binary64 (get_or x (4 * y + i) nan) (get_or l (from + y) nan))) nan (omega arith) h
+        (lane_turn x l i from c (get_or s i nan) y (y + 1) (4 * y + i) (from + y) (omega arith) refl refl k m (own_sum i h))
+
+    pub quotient_is : y ≡ c → from + c < length l → (i : ℕ) → i < 4 → div binary64 (get_or s i nan) (get_or l (from + c) nan) ≡ next_cell x l from c i
+    quotient_is f k i h = lane_done x l i from c y (get_or s i nan) f k (own_sum i h)
 
 -- ---- one cell more of each row of a band: x₀ is the band before the first, and behind cell c nothing has changed yet
 module _ (x₀ l x : List Float) (from c : ℕ) (e : from ≡ start triangle c) (fits : 4 * c + 4 ≤ length x)

@@ -4,6 +4,7 @@ use mathlib.Core.Path.{◌≡◌, refl, sym, ap, ◌∙◌}
 use mathlib.Core.Bool.{Bool, true, false}
 use mathlib.Core.List.{List, ◌++◌, append-nil}
 use mathlib.Core.Option.{Option, none, some}
+use Rattle.std.specs.Prelude.{Ok, Err}
 use native.Mathlib.Nat.{add-zero}
 use native.Mathlib.Omega.{arith}
 use lib.ListN.{length, length-append, drop_of_length-le}
@@ -18,22 +19,26 @@ use Rattle.storage.proofs.Blocks.{length_fill}
 use Rattle.rules.specs.Arithmetic.{Arithmetic, ieee}
 use Rattle.rules.specs.Cholesky.{at, forward, factor, radicand, left_of_pivot, next, first_bad, pivots}
 use Rattle.rules.specs.Solves.{backward}
-use Rattle.re_lower.specs.Lower.{answer_of, left_of_triangle, TriangleDone, left_of_diagonal, DiagonalDone, row_solved, back_solved}
-use Rattle.re_lower.specs.declared.Pivots.{Pivots}
-use Rattle.re_lower.specs.declared.Pivots.TheVariants.{Accepted, Refused}
+use Rattle.re_lower.specs.Lower.{Pivots, answer_of, left_of_triangle, TriangleDone, left_of_diagonal, DiagonalDone, row_solved, back_solved}
 use Rattle.rules.proofs.Rows.{length_forward}
 use Rattle.re_lower.proofs.Back.{length_backward}
 
 -- ---- the answer, and the rule's
 -- accepted where no pivot is refused, and only there
-pub accepted_none : (o : Option ℕ) → Accepted ≡ answer_of o → o ≡ none
+pub accepted_none : (o : Option ℕ) → Ok tt ≡ answer_of o → o ≡ none
 accepted_none none e = refl
 accepted_none (some r) e = absurd (let z : ◌≡◌ {A = ℕ} 0 1 = cc in omega arith)
 
+-- the row of an answer that refuses
+row_refused : Pivots → ℕ
+row_refused (Ok x) = 0
+row_refused (Err x) = x.row
+
 -- refused with the row of the first refused pivot
-pub refused_some : (o : Option ℕ) (r : ℕ) → Refused r ≡ answer_of o → o ≡ some r
+pub refused_some : (o : Option ℕ) (r : ℕ) → Err (record { row = r }) ≡ answer_of o → o ≡ some r
+unfolding row_refused
 refused_some none r e = absurd (let z : ◌≡◌ {A = ℕ} 0 1 = cc in omega arith)
-refused_some (some q) r e = let k : r ≡ q = cc in ap some (sym k)
+refused_some (some q) r e = ap some (sym (ap row_refused e))
 
 one_more_lem : (A : Arithmetic) (p : Option ℕ) (b : Bool) (r q : ℕ) → next A p b r ≡ some q → (p ≡ some q → q < r) → q < suc r
 one_more_lem A (some x) b r q e h = omega (arith, h e)
@@ -48,16 +53,18 @@ row_below A g (suc n) q e = one_more_lem A (pivots A g n) (A.refused (g n)) n q 
 
 -- ---- what is left has room where the block was
 pub triangle_room : (b : ℕ → ℕ → Float) (n : ℕ) (p : Pivots) → p ≡ answer_of (pivots ieee (radicand ieee b) n) → length (left_of_triangle b n p) ≤ start triangle n
-triangle_room b n Accepted e = omega (arith, length_fill (packed n) (factor ieee b n))
-triangle_room b n (Refused r) e =
+triangle_room b n (Ok x) e = omega (arith, length_fill (packed n) (factor ieee b n))
+triangle_room b n (Err x) e =
+    let r : ℕ = x.row in
     let h : r < n = row_below ieee (radicand ieee b) n r (refused_some (pivots ieee (radicand ieee b) n) r e) in
     let m : List Float = left_of_pivot ieee b (factor ieee b r) r in
     omega
     (arith, length-append (fill (packed r) (factor ieee b r)) m, length_fill (packed r) (factor ieee b r), length_forward ieee (b r) (factor ieee b r) r, start_below triangle r n h)
 
 pub diagonal_room : (d : ℕ → Float) (n : ℕ) (p : Pivots) → p ≡ answer_of (pivots ieee d n) → length (left_of_diagonal d n p) ≤ n
-diagonal_room d n Accepted e = omega (arith, length_fill (diagonal n) (λ r c. ieee.root (d r)), start_single n)
-diagonal_room d n (Refused r) e =
+diagonal_room d n (Ok x) e = omega (arith, length_fill (diagonal n) (λ r c. ieee.root (d r)), start_single n)
+diagonal_room d n (Err x) e =
+    let r : ℕ = x.row in
     let h : r < n = row_below ieee d n r (refused_some (pivots ieee d n) r e) in
     omega (arith, length_fill (diagonal r) (λ q c. ieee.root (d q)), start_single r)
 
@@ -85,13 +92,13 @@ unfolding store
 store_whole {A} l w e = ap (λ (x : List A). l ++ x) (drop_of_length-le w {i = 0 + length l} (omega arith)) ∙ append-nil l
 
 -- the factor alone is left
-pub triangle_whole : (b b' : List Float) (n : ℕ) → length b ≡ start triangle n → TriangleDone b b' n Accepted
+pub triangle_whole : (b b' : List Float) (n : ℕ) → length b ≡ start triangle n → TriangleDone b b' n (Ok tt)
     → b' ≡ fill (packed n) (factor ieee (cell ieee.zero (packed n) b) n)
 triangle_whole b b' n e c =
     let f : ℕ → ℕ → Float = factor ieee (cell ieee.zero (packed n) b) n in
     c.left ∙ store_whole (fill (packed n) f) b (omega (arith, length_fill (packed n) f))
 
-pub diagonal_whole : (b b' : List Float) (n : ℕ) → length b ≡ n → DiagonalDone b b' n Accepted
+pub diagonal_whole : (b b' : List Float) (n : ℕ) → length b ≡ n → DiagonalDone b b' n (Ok tt)
     → b' ≡ fill (diagonal n) (λ r c. ieee.root (cell ieee.zero (diagonal n) b r r))
 diagonal_whole b b' n e c =
     let f : ℕ → ℕ → Float = λ r x. ieee.root (cell ieee.zero (diagonal n) b r r) in

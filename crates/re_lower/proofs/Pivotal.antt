@@ -15,7 +15,7 @@ use Rattle.storage.proofs.Blocks.{fill_packed, fill_diagonal}
 use Rattle.rules.specs.Arithmetic.{ieee}
 use Rattle.rules.specs.Cholesky.{at, left_of_pivot, factor, radicand, pivots}
 use Rattle.re_lower.specs.Lower.{lower, pivot, TriangleDone, DiagonalDone}
-use Rattle.re_lower.specs.declared.Pivots.TheVariants.{Accepted}
+use Rattle.std.specs.Prelude.{Ok}
 use Rattle.rules.proofs.Rows.{pivot_root, accepted_at}
 use Rattle.rules.proofs.Doubles.{Double, chain_fits, AboveOrNaN, root_of_accepted, never_null}
 use Rattle.re_lower.proofs.Turns.{first_in}
@@ -23,7 +23,7 @@ use Rattle.re_lower.proofs.Blocks.{accepted_none}
 
 -- Of a triangle whose pivots are doubles, every pivot that an accepted C leaves is above 0 or NaN.
 pub triangle_pivots :
-    (t t' : List Float) (n : ℕ) → start triangle n ≤ length t → ((r : ℕ) → r < n → Double (lower t r r)) → TriangleDone t t' n Accepted
+    (t t' : List Float) (n : ℕ) → start triangle n ≤ length t → ((r : ℕ) → r < n → Double (lower t r r)) → TriangleDone t t' n (Ok tt)
     → (r : ℕ) → r < n → AboveOrNaN (lower t' r r)
 triangle_pivots t t' n fits' doubles c r h =
     let l : List Float = cells triangle n (factor ieee (lower t) n) in
@@ -40,7 +40,7 @@ triangle_pivots t t' n fits' doubles c r h =
 
 -- So is every one of a diagonal.
 pub diagonal_pivots :
-    (t t' : List Float) (n : ℕ) → n ≤ length t → ((r : ℕ) → r < n → Double (pivot t r)) → DiagonalDone t t' n Accepted
+    (t t' : List Float) (n : ℕ) → n ≤ length t → ((r : ℕ) → r < n → Double (pivot t r)) → DiagonalDone t t' n (Ok tt)
     → (r : ℕ) → r < n → AboveOrNaN (pivot t' r)
 diagonal_pivots t t' n fits' doubles c r h =
     let l : List Float = tab n (λ q. sqrt_of (pivot t q)) in
@@ -55,11 +55,11 @@ diagonal_pivots t t' n fits' doubles c r h =
 
 -- No pivot of an accepted triangle is 0, of either sign: a division by it is never one by 0.
 pub triangle_never_null :
-    (t t' : List Float) (n : ℕ) → start triangle n ≤ length t → ((r : ℕ) → r < n → Double (lower t r r)) → TriangleDone t t' n Accepted
+    (t t' : List Float) (n : ℕ) → start triangle n ≤ length t → ((r : ℕ) → r < n → Double (lower t r r)) → TriangleDone t t' n (Ok tt)
     → (r : ℕ) → r < n → ieee.null (lower t' r r) ≡ false
 triangle_never_null t t' n fits' doubles c r h = never_null (lower t' r r) (triangle_pivots t t' n fits' doubles c r h)
 
 pub diagonal_never_null :
-    (t t' : List Float) (n : ℕ) → n ≤ length t → ((r : ℕ) → r < n → Double (pivot t r)) → DiagonalDone t t' n Accepted
+    (t t' : List Float) (n : ℕ) → n ≤ length t → ((r : ℕ) → r < n → Double (pivot t r)) → DiagonalDone t t' n (Ok tt)
     → (r : ℕ) → r < n → ieee.null (pivot t' r) ≡ false
 diagonal_never_null t t' n fits' doubles c r h = never_null (pivot t' r) (diagonal_pivots t t' n fits' doubles c r h)

@@ -1,6 +1,6 @@
 -- The turns of the loops, as laws of lists.
 use Prim.Native.Nat.{ℕ, suc, ◌+◌, ◌≤◌, ◌<◌}
-use mathlib.Core.Path.{◌≡◌, sym, ap, ap₂, ◌∙◌}
+use mathlib.Core.Path.{◌≡◌, refl, sym, ap, ap₂, ◌∙◌}
 use mathlib.Core.List.{List, [], ◌∷◌, ◌++◌, append_assoc}
 use native.Mathlib.Nat.{zero-add}
 use native.Mathlib.Omega.{arith}
@@ -10,14 +10,14 @@ use lib.Ieee.{Float, nan, add, sub, mul, div, binary64}
 use Rattle.square_root.specs.Root.{sqrt_of}
 use Rattle.logarithm.specs.Ln.{ln_of}
 use Rattle.storage.specs.Runs.{start, triangle, single, tab, cells}
-use Rattle.storage.specs.Part.{store}
+use Rattle.storage.specs.Part.{part, store}
 use Rattle.storage.proofs.Starts.{start_below, start_single}
 use Rattle.storage.proofs.Cells.{length_tab, length_cells, get_or_cells, any_default}
-use Rattle.storage.proofs.Parts.{store_before, store_in, store_behind, store_one, store_more}
+use Rattle.storage.proofs.Parts.{length_part, get_or_part, store_before, store_in, store_behind, store_one, store_more}
 use Rattle.rules.specs.Arithmetic.{ieee}
 use Rattle.rules.specs.Sums.{chain, subtract_from, logs_from}
 use Rattle.rules.specs.Cholesky.{at, forward, left_of_pivot, factor, radicand}
-use Rattle.re_lower.specs.Lower.{lower, pivot, chained}
+use Rattle.re_lower.specs.Lower.{lower, pivot, chain_of, chained}
 use Rattle.re_lower.specs.Band.{solved_to}
 use Rattle.rules.proofs.Rows.{chain_ext, length_forward}
 use Rattle.re_lower.proofs.Laws.{forward_ext, rows_grow}
@@ -179,12 +179,18 @@ module _ (t₀ l : List Float) (x : ℕ) (h : x < length t₀) (t : List Float) 
       ∙ store_one 0 (row_to t₀ l x) t₀ (omega (arith, count)) _ (omega (arith, count))
 
 -- ---- a product and a logarithm more
-pub chain_turn : (s v : Float) (t l : List Float) (a b y i j : ℕ) → i ≡ a + y → j ≡ b + y → i < length t → j < length l → v ≡ chained s t a l b y
-    → sub binary64 v (mul binary64 (get_or t i nan) (get_or l j nan)) ≡ chained s t a l b (suc y)
+pub chain_turn : (s v : Float) (x y : List Float) (i : ℕ) → i < length x → i < length y → v ≡ chain ieee s (at ieee x) (at ieee y) i
+    → sub binary64 v (mul binary64 (get_or x i nan) (get_or y i nan)) ≡ chain ieee s (at ieee x) (at ieee y) (suc i)
 unfolding subtract_from
-chain_turn s v t l a b y i j p q h k e =
-    ap₂ (sub binary64) e
-    (ap₂ (mul binary64) (any_default t i nan ieee.zero h ∙ ap (at ieee t) p) (any_default l j nan ieee.zero k ∙ ap (at ieee l) q))
+chain_turn s v x y i h k e = ap₂ (sub binary64) e (ap₂ (mul binary64) (any_default x i nan ieee.zero h) (any_default y i nan ieee.zero k))
+
+-- of n doubles of t from a on and as many of l from b on, lent up to e and f
+pub chain_lent : (s : Float) (t l : List Float) (a b e f n : ℕ) → e ≡ n → f ≡ n → a + n ≤ length t → b + n ≤ length l
+    → chain_of s (part a e t) (part b f l) ≡ chained s t a l b n
+chain_lent s t l a b e f n p q h k =
+    ap₂ (λ (i j : ℕ). chain_of s (part a i t) (part b j l)) p q
+    ∙ ap (chain ieee s (at ieee (part a n t)) (at ieee (part b n l))) (length_part a n t h)
+    ∙ chain_ext ieee _ _ _ _ _ _ n refl (λ y m. get_or_part a n t y ieee.zero m) (λ y m. get_or_part b n l y ieee.zero m)
 
 pub log_turn : (s v x : Float) (t : List Float) (i r : ℕ) (g : ℕ → Float) → i < length t → at ieee t i ≡ g r → v ≡ logs_from ieee s g r → x ≡ ln_of (get_or t i nan)
     → add binary64 v x ≡ logs_from ieee s g (suc r)

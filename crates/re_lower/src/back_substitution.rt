@@ -4,17 +4,16 @@ ghost use Rattle.storage.specs.Runs.{start, triangle};
 ghost use Rattle.re_lower.specs.Lower.{below_pivot, back_solved};
 
 // s less the products of column i of the packed factor l, below its pivot, with t[i + 1], .., t[n - 1], one by one. Row i + 1 starts at `from`.
+#[tactic(auto, using(storage::proofs::Starts::start_below))]
 fn chain_column(t: &[f64], l: &[f64], i: usize, from: usize, n: usize, s: f64) -> f64
     requires { (i < n) × (n ≤ length t.now) × (start triangle n ≤ length l.now) × (from ≡ start triangle (i + 1)) }
     ensures { result ≡ below_pivot s l.now t.now i n }
 {
     let mut v = s;
-    let mut q = i + 1;
     let mut row = from;
-    while q < n {
+    for q in i + 1..n {
         v = v - l[row + i] * t[q];
-        q += 1;
-        row += q;
+        row += q + 1;
     }
     v
 }
@@ -24,12 +23,10 @@ pub fn backward(t: &mut [f64], l: &[f64], n: usize)
     requires { (n ≤ length t.old) × (start triangle n ≤ length l.now) }
     ensures { t.new ≡ back_solved t.old l.now n }
 {
-    let mut i = n;
     let mut from = n * (n + 1) / 2;
-    while i > 0 {
+    for i in (0..n).rev() {
         let below = from;
-        from -= i;
-        i -= 1;
+        from -= i + 1;
         let v = t[i];
         t[i] = chain_column(t, l, i, below, n, v) / l[from + i];
     }

@@ -8,17 +8,16 @@ use crate::four_rows;
 
 // Row r, which lies from `from` on, left of its pivot: its first c0 cells are solved, and the others are with the rows above it, in place.
 // Row c0 lies from `first` on.
+#[tactic(auto, using(storage::proofs::Starts::start_below))]
 fn row_left_of_pivot(t: &mut [f64], from: usize, first: usize, c0: usize, r: usize)
     requires { (from ≡ start triangle r) × (from + r ≤ length t.old) × (first ≡ start triangle c0) × (c0 ≤ r) }
     ensures { LeftOfPivotFrom t.old t.new from c0 r }
 {
-    let mut c = c0;
     let mut at = first;
-    while c < r {
-        let v = t[from + c];
-        t[from + c] = crate::chain(t, from, at, c, v) / t[at + c];
-        c += 1;
-        at += c;
+    for c in c0..r {
+        let v = crate::chain(t[from + c], &t[from..from + c], &t[at..at + c]);
+        t[from + c] = v / t[at + c];
+        at += c + 1;
     }
 }
 

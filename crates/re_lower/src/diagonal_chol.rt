@@ -2,21 +2,19 @@
 ghost use Rattle.std.specs.Prelude.{◌+◌, ◌≤◌, ◌<◌, length};
 ghost use Rattle.re_lower.specs.Lower.{DiagonalDone};
 
-use crate::Pivots;
+use crate::RefusedPivot;
 
 // C on a diagonal: its n cells become their roots, unless one is refused.
-pub fn chol_diagonal(t: &mut [f64], n: usize) -> Pivots
+pub fn chol_diagonal(t: &mut [f64], n: usize) -> Result<(), RefusedPivot>
     requires { n ≤ length t.old }
     ensures { DiagonalDone t.old t.new n result }
 {
-    let mut r = 0;
-    while r < n {
+    for r in 0..n {
         let d = t[r];
         if crate::refused(d) {
-            return Pivots::Refused(r);
+            return Err(RefusedPivot { row: r });
         }
         t[r] = square_root::sqrt(d);
-        r += 1;
     }
-    Pivots::Accepted
+    Ok(())
 }

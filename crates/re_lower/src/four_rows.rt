@@ -10,38 +10,29 @@ pub fn four_cells(x: &mut [f64], l: &[f64], from: usize, c: usize)
     ensures { x.new ≡ four_done x.old l.now from c }
 {
     let k = 4 * c;
-    let mut s0 = x[k];
-    let mut s1 = x[k + 1];
-    let mut s2 = x[k + 2];
-    let mut s3 = x[k + 3];
-    let mut y = 0;
-    while y < c {
-        let z = 4 * y;
+    let mut s = [x[k], x[k + 1], x[k + 2], x[k + 3]];
+    for y in 0..c {
         let q = l[from + y];
-        s0 = s0 - x[z] * q;
-        s1 = s1 - x[z + 1] * q;
-        s2 = s2 - x[z + 2] * q;
-        s3 = s3 - x[z + 3] * q;
-        y += 1;
+        for i in 0..4 {
+            s[i] = s[i] - x[4 * y + i] * q;
+        }
     }
     let p = l[from + c];
-    x[k] = s0 / p;
-    x[k + 1] = s1 / p;
-    x[k + 2] = s2 / p;
-    x[k + 3] = s3 / p;
+    for r in 0..4 {
+        x[k + r] = s[r] / p;
+    }
 }
 
 // T on a band: the first n cells of its four rows are solved in place with the packed factor l.
+#[tactic(auto, using(storage::proofs::Starts::start_below))]
 pub fn solve_four(x: &mut [f64], l: &[f64], n: usize)
     requires { (4 * n ≤ length x.old) × (start triangle n ≤ length l.now) }
     ensures { FourSolved x.old l.now x.new n }
 {
-    let mut c = 0;
     let mut from = 0;
-    while c < n {
+    for c in 0..n {
         four_cells(x, l, from, c);
-        c += 1;
-        from += c;
+        from += c + 1;
     }
 }
 
@@ -50,24 +41,21 @@ pub fn gather_row(x: &mut [f64], t: &[f64], from: usize, i: usize, n: usize)
     requires { (i < 4) × (4 * n ≤ length x.old) × (from + n ≤ length t.now) }
     ensures { Gathered x.old t.now x.new from i n }
 {
-    let mut c = 0;
-    while c < n {
+    for c in 0..n {
         x[4 * c + i] = t[from + c];
-        c += 1;
     }
 }
 
 // The first `base` cells of `rows` rows of a packed triangle, of which the first is row `base` and lies from `from` on.
+#[tactic(auto, using(storage::proofs::Starts::start_below))]
 pub fn gather(x: &mut [f64], t: &[f64], from: usize, base: usize, rows: usize)
     requires { (rows ≤ 4) × (from ≡ start triangle base) × (4 * base ≤ length x.old) × (start triangle (base + rows) ≤ length t.now) }
     ensures { BandGathered t.now x.new base rows }
 {
-    let mut i = 0;
     let mut at = from;
-    while i < rows {
+    for i in 0..rows {
         gather_row(x, t, at, i, base);
-        i += 1;
-        at += base + i;
+        at += base + i + 1;
     }
 }
 
@@ -83,9 +71,7 @@ pub fn put_row(t: &mut [f64], x: &[f64], from: usize, i: usize, n: usize)
     requires { (0 < n → i < 4) × (4 * n ≤ length x.now) × (from + n ≤ length t.old) }
     ensures { t.new ≡ lane_stored t.old x.now from i n }
 {
-    let mut c = 0;
-    while c < n {
+    for c in 0..n {
         t[from + c] = x[4 * c + i];
-        c += 1;
     }
 }

@@ -13,13 +13,12 @@ pub mod triangle_cells;
 
 ghost use Rattle.std.specs.Prelude.{◌≡◌, ◌+◌, ◌*◌, ◌≤◌, ◌<◌, length};
 ghost use Rattle.rules.specs.Arithmetic.{ieee};
-ghost use Rattle.re_lower.specs.Lower.{chained};
+ghost use Rattle.re_lower.specs.Lower.{chain_of};
 
-// Whether a block has a factor: yes, or no because of the pivot of this row.
-#[derive(Clone, Copy)]
-pub enum Pivots {
-    Accepted,
-    Refused(usize),
+// Why a block has no factor: the pivot of this row is refused.
+#[derive(Clone, Copy, PartialEq, Eq, Debug)]
+pub struct RefusedPivot {
+    pub row: usize,
 }
 
 // A pivot's radicand is refused where it is at most 0; NaN passes.
@@ -29,16 +28,14 @@ pub fn refused(x: f64) -> bool
     x <= 0.0
 }
 
-// s less the products of t[a], .., t[a + n - 1] with t[b], .., one by one.
-pub fn chain(t: &[f64], a: usize, b: usize, n: usize, s: f64) -> f64
-    requires { (a + n ≤ length t.now) × (b + n ≤ length t.now) }
-    ensures { result ≡ chained s t.now a t.now b n }
+// s less the products of the doubles of x with those of y, one by one.
+pub fn chain(s: f64, x: &[f64], y: &[f64]) -> f64
+    requires { length x.now ≡ length y.now }
+    ensures { result ≡ chain_of s x.now y.now }
 {
     let mut v = s;
-    let mut y = 0;
-    while y < n {
-        v = v - t[a + y] * t[b + y];
-        y += 1;
+    for i in 0..x.len() {
+        v = v - x[i] * y[i];
     }
     v
 }

@@ -1,2 +1,3 @@
 pub mod Controls
 pub mod Meaning
+pub mod Sheet

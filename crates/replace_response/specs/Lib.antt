@@ -1,2 +1,3 @@
 pub mod finite
+pub mod list_faults
 pub mod write_rows

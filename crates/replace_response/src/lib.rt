@@ -2,8 +2,8 @@
 // leaves is `replace_of` of the crate workspace, specs/Response.antt.
 #![tactic(auto)]
 
-pub mod finite;
-mod list_faults;
+mod finite;
+pub mod list_faults;
 pub mod write_rows;
 
 ghost use Rattle.std.specs.Prelude.{◌≡◌, true, ◌≤◌, length};
@@ -18,7 +18,7 @@ ghost use Rattle.heading_format.specs.Parts.{heading_length};
 
 use heading::{idle_progress, writer};
 use layout::Layout;
-use refusal::Answer;
+use refusal::Refusal;
 
 // Writes the response and progress none.
 fn write(
@@ -43,19 +43,14 @@ fn replace_valid(
     zty: &[f64],
     xty: &[f64],
     yty: &[f64],
-) -> Answer
+) -> Result<(), Refusal>
     requires { valid_heading heading.old (length doubles.old) ≡ true }
     ensures { record { answer = result; left = workspace heading.new doubles.new } ≡ replace_of heading.old doubles.old (response zty.now xty.now yty.now) }
 {
     let layout = heading::layout(heading);
-    let a = list_faults::length_fault(layout, zty.len(), xty.len(), yty.len());
-    let b = list_faults::word_fault(zty, xty, yty);
-    let f = list_faults::first_of(a, b);
-    if f.number != 0 {
-        return Answer::Refused(f);
-    }
+    list_faults::check_lists(layout, zty, xty, yty)?;
     write(layout, heading, doubles, zty, xty, yty);
-    Answer::Accepted
+    Ok(())
 }
 
 // A new response for the old, and progress none; no working double is touched. Any numbers, doubles and lists may be lent; where they are refused, with
@@ -66,11 +61,11 @@ pub fn replace_response(
     zty: &[f64],
     xty: &[f64],
     yty: &[f64],
-) -> Answer
+) -> Result<(), Refusal>
     ensures { (meaning result ≡ meaning (replace_of heading.old doubles.old (response zty.now xty.now yty.now)).answer) × (workspace heading.new doubles.new ≡ (replace_of heading.old doubles.old (response zty.now xty.now yty.now)).left) }
 {
-    if heading_check::is_valid_heading(heading, doubles.len()) {
-        return replace_valid(heading, doubles, zty, xty, yty);
+    if !heading_check::is_valid_heading(heading, doubles.len()) {
+        return Err(Refusal::NoWorkspace);
     }
-    Answer::Refused(list_faults::refused(20, 0, 0))
+    replace_valid(heading, doubles, zty, xty, yty)
 }

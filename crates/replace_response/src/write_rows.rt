@@ -4,11 +4,10 @@ ghost use Rattle.layout.specs.Shapes.{levels, loaded_at, loaded_length};
 ghost use Rattle.heading_format.specs.Heading.{valid_layout};
 ghost use Rattle.workspace.specs.Loaded.{row_start};
 ghost use Rattle.workspace.specs.Response.{response, Prescribed};
-ghost use Rattle.block_places.specs.sheet_rows.Blocks.{Maps};
 ghost use Rattle.replace_response.specs.write_rows.Strided.{strided, from, fixed_row, fixed_rows, last_row, response_rows};
 
-use block_places::sheet_rows::Map;
-use block_places::{block_kinds, row_map};
+use block_places::block_kinds;
+use block_places::row_map::Map;
 use layout::Layout;
 use re_lower::triangle_cells;
 
@@ -17,30 +16,25 @@ fn spread(doubles: &mut [f64], to: usize, step: usize, n: usize, l: &[f64], at: 
     requires { (at + n ≤ length l.now) × ((c : ℕ) → c < n → to + c * step < length doubles.old) }
     ensures { doubles.new ≡ strided to step n (from l.now at) doubles.old }
 {
-    let mut c: usize = 0;
-    while c < n {
+    for c in 0..n {
         doubles[to + c * step] = l[at + c];
-        c += 1;
     }
 }
 
 // Where loaded block (k, j) starts: the fixed rows of factor j, or the last triangle.
-fn start_of(layout: Layout, m: Map, j: usize) -> usize
-    requires { (valid_layout layout ≡ true) × Maps layout m × (j ≤ layout.k) }
-    ensures { result ≡ loaded_at layout layout.k j }
+fn start_of(map: &Map, j: usize) -> usize
+    requires { j ≤ map.now.layout.k }
+    ensures { result ≡ loaded_at map.now.layout map.now.layout.k j }
 {
-    let at = m.at;
-    let k = layout.k as usize;
-    at[k * 9 + j] as usize
+    map.start_of(map.layout.k, j as u64) as usize
 }
 
 // The first row of sorted block j in the sheet.
-fn row_of(layout: Layout, m: Map, j: usize) -> usize
-    requires { (valid_layout layout ≡ true) × Maps layout m × (j < layout.k) }
-    ensures { result ≡ row_start layout j }
+fn row_of(map: &Map, j: usize) -> usize
+    requires { j < map.now.layout.k }
+    ensures { result ≡ row_start map.now.layout j }
 {
-    let first = m.first;
-    first[j] as usize
+    map.first[j] as usize
 }
 
 // The levels of sorted block j.
@@ -53,38 +47,36 @@ fn levels_of(layout: Layout, j: usize) -> usize
 }
 
 // Z'y of sorted block j into the response's row of its fixed rows.
-fn write_block(layout: Layout, m: Map, j: usize, doubles: &mut [f64], zty: &[f64])
-    requires { (valid_layout layout ≡ true) × Maps layout m × (j < layout.k) × (loaded_length layout ≤ length doubles.old) × (length zty.now ≡ layout.q) }
-    ensures { doubles.new ≡ fixed_row layout zty.now j doubles.old }
+fn write_block(map: &Map, j: usize, doubles: &mut [f64], zty: &[f64])
+    requires { (j < map.now.layout.k) × (loaded_length map.now.layout ≤ length doubles.old) × (length zty.now ≡ map.now.layout.q) }
+    ensures { doubles.new ≡ fixed_row map.now.layout zty.now j doubles.old }
 {
-    let p = layout.p as usize;
-    let to = start_of(layout, m, j) + p;
-    let n = levels_of(layout, j);
-    let first = row_of(layout, m, j);
-    let rows = block_kinds::last_rows(layout) as usize;
+    let p = map.layout.p as usize;
+    let to = start_of(map, j) + p;
+    let n = levels_of(map.layout, j);
+    let first = row_of(map, j);
+    let rows = block_kinds::last_rows(map.layout) as usize;
     spread(doubles, to, rows, n, zty, first);
 }
 
 // Z'y into the response's row of the fixed rows of every factor.
-fn write_blocks(layout: Layout, m: Map, doubles: &mut [f64], zty: &[f64])
-    requires { (valid_layout layout ≡ true) × Maps layout m × (loaded_length layout ≤ length doubles.old) × (length zty.now ≡ layout.q) }
-    ensures { doubles.new ≡ fixed_rows layout zty.now layout.k doubles.old }
+fn write_blocks(map: &Map, doubles: &mut [f64], zty: &[f64])
+    requires { (loaded_length map.now.layout ≤ length doubles.old) × (length zty.now ≡ map.now.layout.q) }
+    ensures { doubles.new ≡ fixed_rows map.now.layout zty.now map.now.layout.k doubles.old }
 {
-    let k = layout.k as usize;
-    let mut j: usize = 0;
-    while j < k {
-        write_block(layout, m, j, doubles, zty);
-        j += 1;
+    let k = map.layout.k as usize;
+    for j in 0..k {
+        write_block(map, j, doubles, zty);
     }
 }
 
 // X'y and y'y into the response's row of the last triangle.
-fn write_last(layout: Layout, m: Map, doubles: &mut [f64], xty: &[f64], yty: &[f64])
-    requires { (valid_layout layout ≡ true) × Maps layout m × (loaded_length layout ≤ length doubles.old) × (length xty.now ≡ layout.p) × (length yty.now ≡ 1) }
-    ensures { doubles.new ≡ last_row layout xty.now yty.now doubles.old }
+fn write_last(map: &Map, doubles: &mut [f64], xty: &[f64], yty: &[f64])
+    requires { (loaded_length map.now.layout ≤ length doubles.old) × (length xty.now ≡ map.now.layout.p) × (length yty.now ≡ 1) }
+    ensures { doubles.new ≡ last_row map.now.layout xty.now yty.now doubles.old }
 {
-    let p = layout.p as usize;
-    let to = start_of(layout, m, layout.k as usize) + triangle_cells::row_start(p);
+    let p = map.layout.p as usize;
+    let to = start_of(map, map.layout.k as usize) + triangle_cells::row_start(p);
     spread(doubles, to, 1, p, xty, 0);
     spread(doubles, to + p, 1, 1, yty, 0);
 }
@@ -94,7 +86,7 @@ pub fn write_response(layout: Layout, doubles: &mut [f64], zty: &[f64], xty: &[f
     requires { (valid_layout layout ≡ true) × (loaded_length layout ≤ length doubles.old) × Prescribed layout (response zty.now xty.now yty.now) }
     ensures { doubles.new ≡ response_rows layout (response zty.now xty.now yty.now) doubles.old }
 {
-    let m = row_map::map_of(layout);
-    write_blocks(layout, m, doubles, zty);
-    write_last(layout, m, doubles, xty, yty);
+    let map = Map::of(layout);
+    write_blocks(&map, doubles, zty);
+    write_last(&map, doubles, xty, yty);
 }

@@ -1,12 +1,11 @@
 -- THE CLAIM: a freshly loaded workspace is one that load leaves, of the text of the sheet with the words of the last accepted response.
 use Prim.Native.Nat.{ℕ, suc, ◌≤◌}
 use mathlib.Core.Path.{◌≡◌, refl, sym, ap, ap₂, subst, ◌∙◌}
-use mathlib.Core.Bool.{Bool, true, false}
+use mathlib.Core.Bool.{true}
 use mathlib.Core.List.{List, [], ◌∷◌, ◌++◌}
-use mathlib.Core.Option.{Option, none}
+use Rattle.std.specs.Prelude.{Option, None, Result, Ok, Err}
 use native.Mathlib.Omega.{arith}
-use borrow.Author.Tests.{le-leb, eqb-true}
-use lib.Dec.{eqb}
+use borrow.Author.Tests.{le-leb}
 use lib.ListN.{length, get_or}
 use lib.Ieee.{Float}
 use Rattle.storage.proofs.Parts.{store_all}
@@ -22,10 +21,10 @@ use Rattle.sheet_text.proofs.written.Read.{written_read}
 use Rattle.sheet_text.proofs.written.OnlySheet.{read_written}
 use Rattle.refusal.specs.declared.Refusal.{Refusal}
 use Rattle.layout.specs.declared.Layout.{Layout}
-use Rattle.layout.specs.Shapes.{Target, pick, pairs, doubles_needed}
+use Rattle.layout.specs.Shapes.{Target, pairs, doubles_needed}
 use Rattle.heading_format.specs.Heading.{numbers_needed}
 use Rattle.workspace.specs.Memory.{zeros}
-use Rattle.workspace.specs.Answers.{accept, untouched, is_finite, list_fault}
+use Rattle.workspace.specs.Answers.{accept, untouched, is_finite, list_fault, unless_refused}
 use Rattle.workspace.specs.Loaded.{pair_in, or_refused, first_refused_pair, sorted_layout, layout_of_sheet, loaded_numbers}
 use Rattle.workspace.specs.Load.{heading_of, doubles_of, after_gate, load_sheet, load_of}
 use Rattle.workspace.specs.Response.{Response, response, lists_of, response_lengths, responded}
@@ -86,7 +85,7 @@ module _ (sheet : Sheet) (form : InForm sheet) where
       }
 
   -- those of a response without a fault
-  new_words : (r : Response) → Each (λ (l : List Float). Each IsDouble l) (lists_of r) → (list_fault (response_lengths (layout_of_sheet sheet)) (lists_of r)).number ≡ 0
+  new_words : (r : Response) → Each (λ (l : List Float). Each IsDouble l) (lists_of r) → list_fault (response_lengths (layout_of_sheet sheet)) (lists_of r) ≡ Ok tt
       → (n : Words sheet) × (r ≡ response_of (renewed sheet n))
   unfolding layout_of_sheet sorted_layout
   new_words r d e =
@@ -126,16 +125,17 @@ module _ (sheet : Sheet) where
   )
 
   -- by the book's test
-  either_kept : (t : Bool) (e f : Entry) → (t ≡ true → Kept sheet e.next.loaded) → Kept sheet f.next.loaded → Kept sheet (pick t e f).next.loaded
-  either_kept true e f x y = x refl
-  either_kept false e f x y = y
+  either_kept : (t : Result Unit Refusal) (e : Entry) (f : Refusal → Entry) → (t ≡ Ok tt → Kept sheet e.next.loaded) → ((r : Refusal) → Kept sheet (f r).next.loaded)
+      → Kept sheet (unless_refused t f e).next.loaded
+  either_kept (Ok tt) e f x y = x refl
+  either_kept (Err r) e f x y = y r
 
   module _ (form : InForm sheet) where
     call_kept : (b : Book) (c : Call) → InDoubles c → Kept sheet b.loaded → Kept sheet (entered sheet c b).next.loaded
     call_kept b (begin theta) d k = subst (Kept sheet) (sym (begin_keeps sheet b theta)) k
     call_kept b (step s) d k = subst (Kept sheet) (sym (step_keeps sheet b s)) k
     call_kept b (replace_response r) d k =
-        either_kept (eqb (list_fault (response_lengths (layout sheet)) (lists_of r)).number 0) _ _ (λ e. response_kept b.loaded r k (new_words sheet form r d (eqb-true _ _ e))) k
+        either_kept (list_fault (response_lengths (layout sheet)) (lists_of r)) _ _ (λ e. response_kept b.loaded r k (new_words sheet form r d e)) (λ f. k)
     call_kept b (profile_deviance theta reml) d k = subst (Kept sheet) (sym (profile_keeps sheet b theta reml)) k
 
     calls_kept : (calls : List Call) (b : Book) → Each InDoubles calls → Kept sheet b.loaded → Kept sheet (book_after sheet calls b).loaded
@@ -159,7 +159,7 @@ module _ (sheet : Sheet) (n : Words sheet) where
   same_gate (t ∷ l) = ap (or_refused (pair_in sheet y t.row t.col) t) (same_gate l)
 
   -- what load did not refuse of the old words it does not refuse of these
-  module _ (fine : fault_number sheet ≡ 0) (gate : first_refused_pair sheet y (pairs y.k) ≡ none) (h : List ℕ) (w : List Float) (numbers : length h ≡ numbers_needed y)
+  module _ (fine : fault_number sheet ≡ 0) (gate : first_refused_pair sheet y (pairs y.k) ≡ None) (h : List ℕ) (w : List Float) (numbers : length h ≡ numbers_needed y)
       (many : length w ≡ doubles_needed y) where
     sheet_loads : load_sheet new h w ≡ accept (heading_of sheet y) (loaded_numbers new y ++ zeros y)
     unfolding load_sheet layout_of_sheet sorted_layout heading_of doubles_of

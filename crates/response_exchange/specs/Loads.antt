@@ -1,10 +1,9 @@
 -- "a freshly loaded workspace with the same loaded numbers" (mission, demand 3) is one that load leaves: whatever was called before, with binary64 numbers in the
 -- responses, some sheet has these numbers.
-use Rattle.std.specs.Prelude.{ℕ, ◌^◌, ◌<◌, ◌≡◌, List, length, Float}
+use Rattle.std.specs.Prelude.{ℕ, ◌^◌, ◌<◌, ◌≡◌, List, length, Float, Ok}
 use Rattle.sheet.specs.declared.Starts.{Starts}
 use Rattle.sheet.specs.Sheet.{Sheet, accepted, sheet_of}
 use Rattle.sheet.specs.Whole.{Each}
-use Rattle.refusal.specs.declared.Answer.TheVariants.{Accepted}
 use Rattle.layout.specs.Shapes.{doubles_needed}
 use Rattle.heading_format.specs.Heading.{numbers_needed}
 use Rattle.workspace.specs.Answers.{accept}
@@ -36,5 +35,5 @@ pub record IsLoaded (sheet : Sheet) (loaded : List Float) : Type 0 where
 unfoldable pub FreshIsLoaded : Type 0
 FreshIsLoaded =
     (bytes : List ℕ) (sheet : Sheet) (starts : Starts) (h : List ℕ) (w : List Float)
-    → sheet_of bytes ≡ accepted sheet starts → (load_of bytes h w).answer ≡ Accepted → (calls : List Call) → Each InDoubles calls
+    → sheet_of bytes ≡ accepted sheet starts → (load_of bytes h w).answer ≡ (Ok tt) → (calls : List Call) → Each InDoubles calls
     → IsLoaded sheet (book_after sheet calls (opened sheet)).loaded

@@ -1,6 +1,6 @@
 -- The runs of the steps S.
 use Prim.Native.Nat.{ℕ, ◌+◌, ◌≤◌, ◌<◌}
-use mathlib.Core.Path.{◌≡◌, sym, ap, ap₂, ◌∙◌}
+use mathlib.Core.Path.{◌≡◌, sym, ap, ◌∙◌}
 use mathlib.Core.List.{List}
 use mathlib.Core.Logic.{inl, inr, ⊎_elim}
 use native.Mathlib.Omega.{arith}
@@ -55,7 +55,7 @@ sums_swapped n z x y = ap (ieee.minus z) (along_swap ieee.plus ieee.zero x y n) 
 pub products_swapped : (n : ℕ) (z : Float) (x y : ℕ → Float) → subtract_each n z x y ≡ chain ieee z y x n
 products_swapped n z x y = along_swap ieee.minus z x y n ∙ subtract_along z y x n
 
--- a run, as the functions of single runs make it: x is its place, the block's offset and the place within the block
+-- a run, as the functions of single runs make it
 module _ (w w' acc acc₁ acc₂ : List Float) (to n : ℕ) (a b : Block) (r : ℕ) (room : n ≤ length acc) (e : b.cols ≡ a.cols) where
   taken : (f : Float → Float → Float) (z : ℕ → Float) → acc₁ ≡ run 0 n z acc → acc₂ ≡ products f acc₁ n w a.at a.rows w b.at b.rows r a.cols
       → (i : ℕ) → i < n → at acc₂ i ≡ along f (z i) (read (as_columns a) w i) (read (as_columns b) w r) a.cols
@@ -64,13 +64,11 @@ module _ (w w' acc acc₁ acc₂ : List Float) (to n : ℕ) (a b : Block) (r : �
       ∙ ap (λ (x : ℕ). along f (z i) (read (as_columns a) w i) (block b.at (columns b.rows x) w r) a.cols) (sym e)
 
   pub sums_subtracted : acc₁ ≡ run 0 n (λ i. ieee.zero) acc → acc₂ ≡ products ieee.plus acc₁ n w a.at a.rows w b.at b.rows r a.cols
-      → (x : ℕ) → x ≡ to → w' ≡ run x n (λ i. ieee.minus (at w (x + i)) (at acc₂ i)) w → w' ≡ subtract_sums to n a b r w
-  sums_subtracted first then x d so =
-      so
-      ∙ ap (λ (x : ℕ). run x n (λ i. ieee.minus (at w (x + i)) (at acc₂ i)) w) d
-      ∙ ap (λ (l : List Float). store to l w) (tab_ext n _ _ (λ i l. ap (ieee.minus (at w (to + i))) (taken ieee.plus (λ x. ieee.zero) first then i l)))
+      → w' ≡ run to n (λ i. ieee.minus (at w (to + i)) (at acc₂ i)) w → w' ≡ subtract_sums to n a b r w
+  sums_subtracted first then so =
+      so ∙ ap (λ (l : List Float). store to l w) (tab_ext n _ _ (λ i l. ap (ieee.minus (at w (to + i))) (taken ieee.plus (λ x. ieee.zero) first then i l)))
 
   pub products_put : acc₁ ≡ run 0 n (λ i. at w (to + i)) acc → acc₂ ≡ products ieee.minus acc₁ n w a.at a.rows w b.at b.rows r a.cols
-      → (x : ℕ) → x ≡ to → w' ≡ run x n (at acc₂) w → w' ≡ subtract_products to n a b r w
-  products_put first then x d so =
-      so ∙ ap₂ (λ (x : ℕ) (l : List Float). store x l w) d (tab_ext n _ _ (taken ieee.minus (λ i. at w (to + i)) first then))
+      → w' ≡ run to n (at acc₂) w → w' ≡ subtract_products to n a b r w
+  products_put first then so =
+      so ∙ ap (λ (l : List Float). store to l w) (tab_ext n _ _ (taken ieee.minus (λ i. at w (to + i)) first then))

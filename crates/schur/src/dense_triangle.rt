@@ -11,11 +11,9 @@ pub fn rank_sub(doubles: &mut [f64], t: Block, a: Block)
     ensures { doubles.new ≡ subtracted_rank t a doubles.old }
 {
     let mut acc = [0.0; 316];
-    let mut r = 0;
     let mut to = t.at;
-    while r < t.rows {
+    for r in 0..t.rows {
         crate::subtract_run(doubles, &mut acc, t.at, to, r + 1, a, a, r);
-        r += 1;
-        to += r;
+        to += r + 1;
     }
 }

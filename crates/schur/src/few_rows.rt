@@ -9,7 +9,7 @@ ghost use Rattle.block_runs.specs.axpy.Axpy.{run};
 ghost use Rattle.schur.specs.Schur.{subtracted_dense};
 ghost use Rattle.schur.specs.few_rows.Few.{row_sums, subtract_sum, subtract_sums};
 
-use block_runs::{axpy_pair, axpy_products, run_copies};
+use block_runs::{axpy_pair, axpy_products, runs};
 use storage::Block;
 
 // The doubles of t from `from` on become the sums of the products of the rows of block b and row r of block a.
@@ -26,9 +26,9 @@ fn sum_row(
     ensures { t.new ≡ run from b.rows (row_sums a b doubles.now r) t.old }
 {
     let n = b.rows;
-    run_copies::clear(acc, n);
+    runs::clear(acc, n);
     axpy_products::add_products(acc, n, doubles, b.at, n, doubles, a.at, a.rows, r, a.cols);
-    run_copies::put(t, from, from + n, 0, n, acc);
+    runs::copy(t, from, n, acc, 0);
 }
 
 // The same of row r, and of row r + 1 behind them: block b is loaded once for both.
@@ -46,13 +46,13 @@ fn sum_two_rows(
     ensures { t.new ≡ run (from + b.rows) b.rows (row_sums a b doubles.now (r + 1)) (run from b.rows (row_sums a b doubles.now r) t.old) }
 {
     let n = b.rows;
-    run_copies::clear(acc, n);
-    run_copies::clear(acc2, n);
+    runs::clear(acc, n);
+    runs::clear(acc2, n);
     axpy_pair::add_products_pair(
         acc, acc2, n, doubles, b.at, n, doubles, a.at, a.rows, r, a.cols,
     );
-    run_copies::put(t, from, from + n, 0, n, acc);
-    run_copies::put(t, from + n, from + n + n, 0, n, acc2);
+    runs::copy(t, from, n, acc, 0);
+    runs::copy(t, from + n, n, acc2, 0);
 }
 
 // The sums of every row of block a, one row behind the other.
@@ -64,6 +64,7 @@ fn sum_rows(t: &mut [f64], doubles: &[f64], a: Block, b: Block)
     let mut acc2 = [0.0; 316];
     let mut r = 0;
     let mut from = 0;
+    // An odd row is left where the pairs end: no plainer as a `for`.
     while a.rows - r >= 2 {
         sum_two_rows(t, &mut acc, &mut acc2, from, doubles, a, b, r);
         r += 2;
@@ -79,13 +80,7 @@ fn subtract_column(t: &mut [f64], to: usize, rows: usize, cols: usize, c: usize,
     requires { (to + rows ≤ length t.old) × (c < cols) × (size_of (columns cols rows) ≤ length sums.now) }
     ensures { t.new ≡ run to rows (subtract_sum to cols sums.now c t.old) t.old }
 {
-    let mut i = 0;
-    let mut k = c;
-    while i < rows {
-        t[to + i] = t[to + i] - sums[k];
-        i += 1;
-        k += cols;
-    }
+    runs::change(t, to, to, rows, |i, x| x - sums[i * cols + c]);
 }
 
 // The columns of the block t, one by one.
@@ -93,11 +88,9 @@ fn subtract_columns(t: &mut [f64], rows: usize, cols: usize, sums: &[f64])
     requires { (size_of (columns rows cols) ≤ length t.old) × (size_of (columns cols rows) ≤ length sums.now) }
     ensures { t.new ≡ store 0 (cells (dense rows) cols (subtract_sums rows cols sums.now t.old)) t.old }
 {
-    let mut c = 0;
     let mut to = 0;
-    while c < cols {
+    for c in 0..cols {
         subtract_column(t, to, rows, cols, c, sums);
-        c += 1;
         to += rows;
     }
 }

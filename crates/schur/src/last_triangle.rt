@@ -3,7 +3,7 @@ ghost use Rattle.std.specs.Prelude.{◌≡◌, ◌+◌, ◌≤◌, ◌<◌, leng
 ghost use Rattle.storage.specs.Placed.{Lies, Product, as_columns, as_triangle};
 ghost use Rattle.schur.specs.Schur.{subtracted_last, subtract_products};
 
-use block_runs::{axpy_products, run_copies};
+use block_runs::{axpy_products, runs};
 use storage::Block;
 
 // One run of the triangle at `off` less its products, one by one. The triangle is lent as the part that starts at its own offset.
@@ -20,11 +20,11 @@ fn subtract_last_run(
     requires { (n ≤ a.rows) × (n ≤ length acc.old) × (r < b.rows) × (b.cols ≡ a.cols) × (off ≤ to) × (to + n ≤ length doubles.old) × Lies (length doubles.old) (as_columns a) × Lies (length doubles.old) (as_columns b) }
     ensures { doubles.new ≡ subtract_products to n a b r doubles.old }
 {
-    run_copies::read(acc, n, doubles, to);
+    runs::copy(acc, 0, n, doubles, to);
     axpy_products::subtract_products(
         acc, n, doubles, a.at, a.rows, doubles, b.at, b.rows, r, a.cols,
     );
-    run_copies::put(doubles, off, to + n, to - off, n, acc);
+    runs::change(doubles, off, to, n, |i, _| acc[i]);
 }
 
 // S(k,k,h) of the triangle t: less block a times itself transposed, product by product.
@@ -33,11 +33,9 @@ pub fn subtract_last(doubles: &mut [f64], t: Block, a: Block)
     ensures { doubles.new ≡ subtracted_last t a doubles.old }
 {
     let mut acc = [0.0; 316];
-    let mut r = 0;
     let mut to = t.at;
-    while r < t.rows {
+    for r in 0..t.rows {
         subtract_last_run(doubles, &mut acc, t.at, to, r + 1, a, a, r);
-        r += 1;
-        to += r;
+        to += r + 1;
     }
 }

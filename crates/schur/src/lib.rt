@@ -15,7 +15,7 @@ ghost use Rattle.std.specs.Prelude.{◌≡◌, ◌+◌, ◌≤◌, ◌<◌, leng
 ghost use Rattle.storage.specs.Placed.{Lies, as_columns};
 ghost use Rattle.schur.specs.Schur.{subtract_sums};
 
-use block_runs::{axpy_products, run_copies, run_differences};
+use block_runs::{axpy_products, runs};
 use storage::Block;
 
 // n doubles from `to` on, of the block at `off`: less the sums of the products of rows 0 to n - 1 of block a and row r of block b. The block is lent as
@@ -33,9 +33,9 @@ fn subtract_run(
     requires { (n ≤ a.rows) × (n ≤ length acc.old) × (r < b.rows) × (b.cols ≡ a.cols) × (off ≤ to) × (to + n ≤ length doubles.old) × Lies (length doubles.old) (as_columns a) × Lies (length doubles.old) (as_columns b) }
     ensures { doubles.new ≡ subtract_sums to n a b r doubles.old }
 {
-    run_copies::clear(acc, n);
+    runs::clear(acc, n);
     axpy_products::add_products(
         acc, n, doubles, a.at, a.rows, doubles, b.at, b.rows, r, a.cols,
     );
-    run_differences::subtract(doubles, off, to + n, to - off, n, acc);
+    runs::subtract(doubles, off, to, n, acc);
 }

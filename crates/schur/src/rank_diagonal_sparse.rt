@@ -6,15 +6,8 @@ ghost use Rattle.schur.specs.rank_diagonal.Diagonal.{subtracted_diagonal};
 ghost use Rattle.schur.specs.rank_diagonal.Rows.{Zeros, Summed, AddedEntry, subtract_rows};
 
 use crate::rank_diagonal;
-use block_runs::run_differences;
+use block_runs::runs;
 use storage::Block;
-
-// A row's number as an index.
-fn wide(x: u32) -> usize
-    ensures { result ≡ x }
-{
-    x as usize
-}
 
 // The sums of m rows, row `from` first, with an entry of the sparse block that may lie in one of them.
 fn add_entry(sums: &mut [f64], from: usize, m: usize, row: usize, cell: f64, v: f64)
@@ -47,13 +40,11 @@ fn sum_entries(
     requires zeros { Zeros m sums.old }
     ensures { Summed (as_entries (row_from heading.now first) a) src doubles.now from m a.cols sums.new }
 {
-    let mut x = 0;
-    while x < a.cols {
-        let row = wide(heading[first + x]);
+    for x in 0..a.cols {
+        let row = heading[first + x] as usize;
         let cell = doubles[src + x];
         let v = doubles[a.at + x];
         add_entry(sums, from, m, row, cell, v);
-        x += 1;
     }
 }
 
@@ -74,7 +65,7 @@ fn subtract_rows(
 {
     let mut sums = [0.0; 8192];
     sum_entries(&mut sums, from, m, doubles, a, src, heading, first);
-    run_differences::subtract(doubles, t.at, t.at + from + m, from, m, &sums);
+    runs::subtract(doubles, t.at, t.at + from, m, &sums);
 }
 
 // How many rows are summed at a time, of those that are left.
@@ -100,6 +91,7 @@ pub fn rank_sub_diagonal_sparse(
     ensures { doubles.new ≡ subtracted_diagonal (as_entries (row_from heading.now first)) t a src doubles.old }
 {
     let mut from = 0;
+    // Each turn takes as many as `chunk` says: no plainer as a `for`.
     while from < t.rows {
         let m = chunk(t.rows - from);
         subtract_rows(doubles, t, from, m, a, src, heading, first);

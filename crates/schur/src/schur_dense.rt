@@ -4,7 +4,7 @@ ghost use Rattle.storage.specs.Placed.{Product, Within, as_columns};
 ghost use Rattle.schur.specs.Schur.{subtracted_dense, subtract_sums};
 
 use crate::few_rows;
-use block_runs::{axpy_pair, run_copies, run_differences};
+use block_runs::{axpy_pair, runs};
 use storage::Block;
 
 // Columns c and c + 1 of the block t, which lie from `to` on: less the sums of the products of the rows of block a and row c of block b, and row c + 1.
@@ -24,13 +24,13 @@ fn subtract_pair(
 {
     let n = t.rows;
     let off = t.at;
-    run_copies::clear(acc, n);
-    run_copies::clear(acc2, n);
+    runs::clear(acc, n);
+    runs::clear(acc2, n);
     axpy_pair::add_products_pair(
         acc, acc2, n, doubles, a.at, a.rows, doubles, b.at, b.rows, c, a.cols,
     );
-    run_differences::subtract(doubles, off, to + n, to - off, n, acc);
-    run_differences::subtract(doubles, off, to + n + n, to + n - off, n, acc2);
+    runs::subtract(doubles, off, to, n, acc);
+    runs::subtract(doubles, off, to + n, n, acc2);
 }
 
 // S of the dense block t, two columns at a time: the sums of a column lie side by side.
@@ -42,6 +42,7 @@ fn subtract_columns(doubles: &mut [f64], t: Block, a: Block, b: Block)
     let mut acc2 = [0.0; 316];
     let mut c = 0;
     let mut to = t.at;
+    // An odd column is left where the pairs end: no plainer as a `for`.
     while t.cols - c >= 2 {
         subtract_pair(doubles, &mut acc, &mut acc2, t, a, b, c, to);
         c += 2;

@@ -4,15 +4,8 @@ ghost use Rattle.storage.specs.Placed.{Product, as_columns, as_entries};
 ghost use Rattle.block_runs.specs.blocks.Blocks.{row_from, RowsBelow};
 ghost use Rattle.schur.specs.Schur.{subtracted_entries, subtract_column};
 
-use block_runs::{run_copies, run_products};
+use block_runs::runs;
 use storage::Block;
-
-// A row's number as an index.
-fn wide(x: u32) -> usize
-    ensures { result ≡ x }
-{
-    x as usize
-}
 
 // A column of `rows` doubles, from `to` on in the block at `off`, less f times the one at ax. The block is lent as the part that starts at its own
 // offset.
@@ -28,8 +21,8 @@ fn subtract_column(
     requires { (rows ≤ length acc.old) × (off + to + rows ≤ length doubles.old) × (ax + rows ≤ length doubles.old) }
     ensures { doubles.new ≡ subtract_column (off + to) rows ax f doubles.old }
 {
-    run_copies::read(acc, rows, doubles, ax);
-    run_products::subtract_times(doubles, off, off + to + rows, to, rows, acc, f);
+    runs::copy(acc, 0, rows, doubles, ax);
+    runs::change(doubles, off, off + to, rows, |i, x| x - acc[i] * f);
 }
 
 // S(k,1,0) of the fixed rows t with a sparse block v: product by product.
@@ -45,13 +38,11 @@ pub fn subtract_sparse(
     ensures { doubles.new ≡ subtracted_entries (row_from heading.now first) t a v doubles.old }
 {
     let mut acc = [0.0; 316];
-    let mut x = 0;
     let mut ax = a.at;
-    while x < a.cols {
-        let c = wide(heading[first + x]);
+    for x in 0..a.cols {
+        let c = heading[first + x] as usize;
         let f = doubles[v.at + x];
         subtract_column(doubles, &mut acc, t.at, c * t.rows, t.rows, ax, f);
-        x += 1;
         ax += t.rows;
     }
 }

@@ -7,11 +7,10 @@ use native.Mathlib.Omega.{arith}
 use borrow.Author.Tests.{ltb-true, ltb-false, ne_eqb, eqb-true, eqb-false}
 use lib.Dec.{ltb, eqb}
 use lib.ListN.{length, drop, drop_of_length-le}
-use Rattle.sheet.specs.declared.Cursor.{Cursor}
 use Rattle.sheet.specs.declared.Field.{Field}
 use Rattle.sheet.specs.Field.{nowhere, found, unfound, on_digit, cap, digit_of, digits_from, number_at, end_at, word_at, tag_at}
 use Rattle.sheet.specs.Line.{zz_tag, tab, lf, tag_to, number_to, in_form, pair_line}
-use Rattle.sheet.specs.Run.{Run, Entry, ended, before, entry_in, entry_verdict, entries_from, pass_of}
+use Rattle.sheet.specs.Run.{Cursor, Run, Entry, ended, before, entry_in, entry_verdict, entries_from, pass_of}
 use Rattle.sheet.proofs.Lines.{passed}
 
 -- ---- a field that begins at `at` ends past it, or nowhere

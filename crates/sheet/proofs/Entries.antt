@@ -8,9 +8,8 @@ use native.Mathlib.Omega.{arith}
 use borrow.Author.Tests.{ltb-true, leb-true, eqb-true}
 use lib.Dec.{ltb, leb, eqb}
 use lib.ListN.{length}
-use Rattle.sheet.specs.declared.Cursor.{Cursor}
 use Rattle.sheet.specs.Line.{zz_tag, tag_to, in_form, pair_line}
-use Rattle.sheet.specs.Run.{Run, Entry, ended, before, entry_in, not_before, entry_tests, entry_verdict, entries_from, pass_of, kept_from, past_from}
+use Rattle.sheet.specs.Run.{Cursor, Run, Entry, ended, before, entry_in, not_before, entry_tests, entry_verdict, entries_from, pass_of, kept_from, past_from}
 use Rattle.sheet.specs.Whole.{Each, Earlier, Rising, EntryInRange}
 use Rattle.sheet.proofs.Lines.{both, in_order_lem, Passed, passed}
 

@@ -6,11 +6,12 @@ use mathlib.Core.Bool.{true, false}
 use mathlib.Core.List.{List, [], ◌∷◌, ◌++◌}
 use lib.ListN.{take}
 use Rattle.sheet.specs.declared.Counts.{Counts}
-use Rattle.sheet.specs.declared.Reading.TheVariants.{Sheet as Read, Refused}
+use Rattle.std.specs.Prelude.{Ok}
 use Rattle.sheet.specs.declared.Starts.{Starts}
 use Rattle.sheet.specs.Line.{size_line, block_line}
 use Rattle.sheet.specs.Run.{block_verdict}
 use Rattle.sheet.specs.Sheet.{Sheet, accepted, counts_within, size_verdict}
+use Rattle.sheet.specs.Answer.{refused_with}
 use Rattle.sheet.specs.Text.{ended, with_line, reading}
 use Rattle.sheet.proofs.Notation.{without, read, load, refusal, faulty}
 use Rattle.sheet.proofs.Made.{counts_with}
@@ -64,7 +65,7 @@ worked_is : read (ended worked) ≡ accepted words places
 unfolding ended read
 worked_is = refl
 
-worked_loads : (load (ended worked) ≡ Read places) × (refusal (ended worked) ≡ 0)
+worked_loads : (load (ended worked) ≡ Ok places) × (refusal (ended worked) ≡ 0)
 unfolding ended load refusal
 worked_loads = (refl, refl)
 
@@ -73,7 +74,7 @@ with_theta_lem : read (ended (worked ++ ("theta 0 3ff0000000000000" ∷ []))) �
 unfolding ended read
 with_theta_lem = refl
 
-theta_left_over : load (ended (worked ++ ("theta 0 3ff0000000000000" ∷ []))) ≡ Refused 2 9
+theta_left_over : load (ended (worked ++ ("theta 0 3ff0000000000000" ∷ []))) ≡ refused_with 2 9
 unfolding ended load
 theta_left_over = refl
 
@@ -121,52 +122,52 @@ no_rows_is = refl
 abbrev but : ℕ → String → List ℕ
 but n l = ended (with_line n l worked)
 
-ill_formed : (load [] ≡ Refused 2 1)
-    × (load (take 160 (ended worked)) ≡ Refused 2 8)
-    × (load (ended (worked ++ ("" ∷ []))) ≡ Refused 2 9)
-    × (load (but 1 "size 3 01 1 1 1") ≡ Refused 2 1)
-    × (load (but 1 "size 3 -1 1 1 1") ≡ Refused 2 1)
-    × (load (but 1 "size 3 +1 1 1 1") ≡ Refused 2 1)
-    × (load (but 1 "size 3  1 1 1") ≡ Refused 2 1)
-    × (load (but 1 "size 3  1 1 1 1") ≡ Refused 2 1)
-    × (load (but 2 "block 1 1 ") ≡ Refused 2 2)
-    × (load (but 2 "block 1_1") ≡ Refused 2 2)
-    × (load (but 2 "block 1 1\r") ≡ Refused 2 2)
-    × (load (but 2 "") ≡ Refused 2 2)
-    × (load (but 3 "zz 00 0 4008000000000000") ≡ Refused 2 3)
-    × (load (but 3 "zz 0 0 400800000000000F") ≡ Refused 2 3)
-    × (load (but 3 "zz 0 0 400800000000000") ≡ Refused 2 3)
-    × (load (but 3 "zz 0 0 40080000000000000") ≡ Refused 2 3)
+ill_formed : (load [] ≡ refused_with 2 1)
+    × (load (take 160 (ended worked)) ≡ refused_with 2 8)
+    × (load (ended (worked ++ ("" ∷ []))) ≡ refused_with 2 9)
+    × (load (but 1 "size 3 01 1 1 1") ≡ refused_with 2 1)
+    × (load (but 1 "size 3 -1 1 1 1") ≡ refused_with 2 1)
+    × (load (but 1 "size 3 +1 1 1 1") ≡ refused_with 2 1)
+    × (load (but 1 "size 3  1 1 1") ≡ refused_with 2 1)
+    × (load (but 1 "size 3  1 1 1 1") ≡ refused_with 2 1)
+    × (load (but 2 "block 1 1 ") ≡ refused_with 2 2)
+    × (load (but 2 "block 1_1") ≡ refused_with 2 2)
+    × (load (but 2 "block 1 1\r") ≡ refused_with 2 2)
+    × (load (but 2 "") ≡ refused_with 2 2)
+    × (load (but 3 "zz 00 0 4008000000000000") ≡ refused_with 2 3)
+    × (load (but 3 "zz 0 0 400800000000000F") ≡ refused_with 2 3)
+    × (load (but 3 "zz 0 0 400800000000000") ≡ refused_with 2 3)
+    × (load (but 3 "zz 0 0 40080000000000000") ≡ refused_with 2 3)
 unfolding ended load
 ill_formed = (refl, refl, refl, refl, refl, refl, refl, refl, refl, refl, refl, refl, refl, refl, refl, refl)
 
 -- a line that is missing has the number of what stands in its place; an index that is prescribed is never out of range
-missing : (load (ended (without 2 worked)) ≡ Refused 2 2)
-    × (load (ended (without 5 worked)) ≡ Refused 2 5)
-    × (load (ended (without 8 worked)) ≡ Refused 2 8)
-    × (load (but 4 "zx 9 0 4000000000000000") ≡ Refused 2 4)
-    × (load (but 5 "zx 0 0 4000000000000000") ≡ Refused 2 5)
+missing : (load (ended (without 2 worked)) ≡ refused_with 2 2)
+    × (load (ended (without 5 worked)) ≡ refused_with 2 5)
+    × (load (ended (without 8 worked)) ≡ refused_with 2 8)
+    × (load (but 4 "zx 9 0 4000000000000000") ≡ refused_with 2 4)
+    × (load (but 5 "zx 0 0 4000000000000000") ≡ refused_with 2 5)
 unfolding ended load
 missing = (refl, refl, refl, refl, refl)
 
 -- ---- 3 and 4, and their order on a line
-not_finite : (load (but 3 "zz 0 0 7ff0000000000000") ≡ Refused 3 3)
-    × (load (but 5 "zy 0 fff0000000000000") ≡ Refused 3 5)
-    × (load (but 8 "yy 7ff8000000000000") ≡ Refused 3 8)
-    × (load (but 3 "zz 0 7 7ff0000000000000") ≡ Refused 3 3)
+not_finite : (load (but 3 "zz 0 0 7ff0000000000000") ≡ refused_with 3 3)
+    × (load (but 5 "zy 0 fff0000000000000") ≡ refused_with 3 5)
+    × (load (but 8 "yy 7ff8000000000000") ≡ refused_with 3 8)
+    × (load (but 3 "zz 0 7 7ff0000000000000") ≡ refused_with 3 3)
 unfolding ended load
 not_finite = (refl, refl, refl, refl)
 
-out_of_range : (load (but 1 "size 0 1 1 1 1") ≡ Refused 4 1)
-    × (load (but 1 "size 1000000001 1 1 1 1") ≡ Refused 4 1)
-    × (load (but 1 "size 3 0 1 1 1") ≡ Refused 4 1)
-    × (load (but 1 "size 3 33 1 1 1") ≡ Refused 4 1)
-    × (load (but 1 "size 3 1 524281 1 1") ≡ Refused 4 1)
-    × (load (but 1 "size 3 1 1 9 1") ≡ Refused 4 1)
-    × (load (but 1 "size 3 1 1 1 2") ≡ Refused 4 1)
-    × (load (but 1 "size 18446744073709551617 1 1 1 1") ≡ Refused 4 1)
-    × (load (but 3 "zz 0 1 4008000000000000") ≡ Refused 4 3)
-    × (load (but 3 "zz 1 0 4008000000000000") ≡ Refused 4 3)
+out_of_range : (load (but 1 "size 0 1 1 1 1") ≡ refused_with 4 1)
+    × (load (but 1 "size 1000000001 1 1 1 1") ≡ refused_with 4 1)
+    × (load (but 1 "size 3 0 1 1 1") ≡ refused_with 4 1)
+    × (load (but 1 "size 3 33 1 1 1") ≡ refused_with 4 1)
+    × (load (but 1 "size 3 1 524281 1 1") ≡ refused_with 4 1)
+    × (load (but 1 "size 3 1 1 9 1") ≡ refused_with 4 1)
+    × (load (but 1 "size 3 1 1 1 2") ≡ refused_with 4 1)
+    × (load (but 1 "size 18446744073709551617 1 1 1 1") ≡ refused_with 4 1)
+    × (load (but 3 "zz 0 1 4008000000000000") ≡ refused_with 4 3)
+    × (load (but 3 "zz 1 0 4008000000000000") ≡ refused_with 4 3)
 unfolding ended load
 out_of_range = (refl, refl, refl, refl, refl, refl, refl, refl, refl, refl)
 
@@ -216,10 +217,10 @@ block_lines_lem = (refl, refl, refl, refl, refl, refl, refl, refl)
 -- in a sheet: what is within the ranges comes to 5 to 9, what is not is refused on its line
 blocks_in_sheet : (refusal (but 2 "block 65535 1") ≡ 8)
     × (refusal (but 2 "block 1 16") ≡ 7)
-    × (load (but 2 "block 0 1") ≡ Refused 4 2)
-    × (load (but 2 "block 65536 1") ≡ Refused 4 2)
-    × (load (but 2 "block 1 0") ≡ Refused 4 2)
-    × (load (but 2 "block 1 17") ≡ Refused 4 2)
+    × (load (but 2 "block 0 1") ≡ refused_with 4 2)
+    × (load (but 2 "block 65536 1") ≡ refused_with 4 2)
+    × (load (but 2 "block 1 0") ≡ refused_with 4 2)
+    × (load (but 2 "block 1 17") ≡ refused_with 4 2)
 unfolding ended load refusal
 blocks_in_sheet = (refl, refl, refl, refl, refl, refl)
 
@@ -253,9 +254,9 @@ unfolding ended refusal faulty crossed
 crossed_is = (refl, refl)
 
 -- zz lines rise, and none comes twice: 2, before 3 and 4
-rising : (load (crossed_but 6 "zz 0 1 3ff0000000000000") ≡ Refused 2 6)
-    × (load (crossed_but 6 "zz 0 2 3ff0000000000000") ≡ Refused 2 6)
-    × (load (crossed_but 7 "zz 0 9 7ff0000000000000") ≡ Refused 2 7)
+rising : (load (crossed_but 6 "zz 0 1 3ff0000000000000") ≡ refused_with 2 6)
+    × (load (crossed_but 6 "zz 0 2 3ff0000000000000") ≡ refused_with 2 6)
+    × (load (crossed_but 7 "zz 0 9 7ff0000000000000") ≡ refused_with 2 7)
 unfolding ended load crossed
 rising = (refl, refl, refl)
 
@@ -270,15 +271,15 @@ unfolding ended refusal crossed no_rows
 whole_sheet = (refl, refl, refl, refl, refl, refl)
 
 -- they name no line, though one is faulty
-whole_sheet_names : (load (ended (with_line 1 "size 5 1 3 2 0" (without 7 crossed))) ≡ Refused 5 0)
-    × (load (ended (with_line 2 "block 2 2" (without 7 crossed))) ≡ Refused 7 0)
-    × (load (ended (with_line 2 "block 4 1" (without 7 crossed))) ≡ Refused 8 0)
+whole_sheet_names : (load (ended (with_line 1 "size 5 1 3 2 0" (without 7 crossed))) ≡ refused_with 5 0)
+    × (load (ended (with_line 2 "block 2 2" (without 7 crossed))) ≡ refused_with 7 0)
+    × (load (ended (with_line 2 "block 4 1" (without 7 crossed))) ≡ refused_with 8 0)
 unfolding ended load crossed
 whole_sheet_names = (refl, refl, refl)
 
 -- ---- 9 names the first faulty line
 -- a word that is +0 or -0
-zero_words : (load (crossed_but 6 "zz 1 1 8000000000000000") ≡ Refused 9 6)
+zero_words : (load (crossed_but 6 "zz 1 1 8000000000000000") ≡ refused_with 9 6)
     × (faulty (crossed_but 6 "zz 1 1 8000000000000000") ≡ 6 ∷ [])
     × (faulty (crossed_but 6 "zz 1 1 0000000000000000") ≡ 6 ∷ [])
 unfolding ended load faulty crossed
@@ -286,7 +287,7 @@ zero_words = (refl, refl, refl)
 
 -- a zero whose mirror is another zero, or not zero: two faulty lines
 zero_mirrors : (faulty (ended (with_line 5 "zz 0 2 0000000000000000" (with_line 7 "zz 2 0 8000000000000000" crossed))) ≡ 5 ∷ 7 ∷ [])
-    × (load (crossed_but 7 "zz 2 0 0000000000000000") ≡ Refused 9 5)
+    × (load (crossed_but 7 "zz 2 0 0000000000000000") ≡ refused_with 9 5)
     × (faulty (crossed_but 7 "zz 2 0 0000000000000000") ≡ 5 ∷ 7 ∷ [])
 unfolding ended load faulty crossed
 zero_mirrors = (refl, refl, refl)
@@ -295,22 +296,22 @@ zero_mirrors = (refl, refl, refl)
 abbrev inside : List ℕ
 inside = ended (with_line 5 "zz 0 1 4000000000000000" (with_line 6 "zz 1 0 4000000000000000" (with_line 7 "zz 1 1 3ff0000000000000" crossed)))
 
-inside_block : (load inside ≡ Refused 9 5) × (faulty inside ≡ 5 ∷ 6 ∷ [])
+inside_block : (load inside ≡ refused_with 9 5) × (faulty inside ≡ 5 ∷ 6 ∷ [])
 unfolding ended load faulty crossed
 inside_block = (refl, refl)
 
 -- mirrors that differ are two faulty lines, of which the one below the diagonal is named; one that is absent leaves one, on either side
-no_mirror : (load (ended (without 7 crossed)) ≡ Refused 9 5)
+no_mirror : (load (ended (without 7 crossed)) ≡ refused_with 9 5)
     × (faulty (ended (without 7 crossed)) ≡ 5 ∷ [])
-    × (load (ended (without 5 crossed)) ≡ Refused 9 6)
-    × (load (crossed_but 7 "zz 2 0 4000000000000001") ≡ Refused 9 5)
+    × (load (ended (without 5 crossed)) ≡ refused_with 9 6)
+    × (load (crossed_but 7 "zz 2 0 4000000000000001") ≡ refused_with 9 5)
     × (faulty (crossed_but 7 "zz 2 0 4000000000000001") ≡ 5 ∷ 7 ∷ [])
 unfolding ended load faulty crossed
 no_mirror = (refl, refl, refl, refl, refl)
 
 -- of several faults the first line, whatever its fault is
-several : (load (ended (with_line 4 "zz 0 0 8000000000000000" (without 7 crossed))) ≡ Refused 9 4)
-    × (load (ended (with_line 8 "zz 2 2 8000000000000000" (with_line 7 "zz 2 0 4000000000000001" crossed))) ≡ Refused 9 5)
+several : (load (ended (with_line 4 "zz 0 0 8000000000000000" (without 7 crossed))) ≡ refused_with 9 4)
+    × (load (ended (with_line 8 "zz 2 2 8000000000000000" (with_line 7 "zz 2 0 4000000000000001" crossed))) ≡ refused_with 9 5)
     × (faulty (ended (with_line 8 "zz 2 2 8000000000000000" (with_line 7 "zz 2 0 4000000000000001" crossed))) ≡ 5 ∷ 7 ∷ 8 ∷ [])
 unfolding ended load faulty crossed
 several = (refl, refl, refl)

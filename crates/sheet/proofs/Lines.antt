@@ -7,10 +7,9 @@ use native.Mathlib.Omega.{arith}
 use borrow.Author.Tests.{leb-true, eqb-true, eqb-false, ne_eqb}
 use lib.Dec.{leb, eqb}
 use lib.ListN.{length, length-append}
-use Rattle.sheet.specs.declared.Cursor.{Cursor}
 use Rattle.sheet.specs.declared.Line.{Line}
 use Rattle.sheet.specs.Line.{Test, verdict_of}
-use Rattle.sheet.specs.Run.{pass_of, lines_of, row_from, rows_from, is_between, kept_from, past_from}
+use Rattle.sheet.specs.Run.{Cursor, pass_of, lines_of, row_from, rows_from, is_between, kept_from, past_from}
 use Rattle.sheet.specs.Whole.{Each}
 
 -- ---- tests

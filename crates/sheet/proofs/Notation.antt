@@ -4,7 +4,9 @@ use Prim.Native.String.{String}
 use mathlib.Core.Bool.{Bool, cond}
 use mathlib.Core.List.{List, [], ◌∷◌, ◌++◌}
 use lib.ListN.{take, drop}
-use Rattle.sheet.specs.declared.Reading.{Reading}
+use Rattle.std.specs.Prelude.{Result}
+use Rattle.sheet.specs.declared.SheetRefusal.{SheetRefusal}
+use Rattle.sheet.specs.declared.Starts.{Starts}
 use Rattle.sheet.specs.Run.{Entry}
 use Rattle.sheet.specs.Sheet.{Outcome, accepted, refused, read_sheet, sheet_of}
 use Rattle.sheet.specs.Fault.{is_fault, fault_number}
@@ -20,7 +22,7 @@ unfoldable pub read : List ℕ → Outcome
 unfolding reading
 read s = read_sheet s
 
-unfoldable pub load : List ℕ → Reading
+unfoldable pub load : List ℕ → Result Starts SheetRefusal
 unfolding read sheet_of
 load s = judged (sheet_of s)
 

@@ -2,18 +2,18 @@
 use Prim.Native.Nat.{ℕ, zero, suc, ◌+◌, ◌≤◌, ◌<◌}
 use mathlib.Core.Path.{◌≡◌, refl, sym, ◌∙◌, subst}
 use mathlib.Core.Logic.{◌⊎◌, inl, inr}
-use mathlib.Core.Bool.{Bool, true, false, ◌&&◌, cond}
+use mathlib.Core.Bool.{Bool, true, false, not, ◌&&◌, cond}
 use mathlib.Core.List.{List, [], ◌∷◌}
 use native.Mathlib.Omega.{arith}
 use borrow.Author.Tests.{eqb-false, lt-ltb}
 use lib.Dec.{ltb, eqb}
 use lib.ListN.{length}
 use Rattle.sheet.specs.declared.Counts.{Counts}
-use Rattle.sheet.specs.declared.Cursor.{Cursor}
 use Rattle.sheet.specs.declared.Starts.{Starts}
 use Rattle.sheet.specs.Line.{zz_tag, tag_to, in_form, size_line, block_line, pair_line, Test, verdict_of}
-use Rattle.sheet.specs.Run.{Kind, ended, before, entry_in, is_between, block_in, word_in, prescribed_tests, prescribed_verdict, block_tests, block_verdict, entry_tests, entry_verdict, blocks_of, entries_from, kind_line, words_of, runs_of, rows_from, pass_of}
+use Rattle.sheet.specs.Run.{Cursor, Kind, ended, before, entry_in, is_between, block_in, word_in, prescribed_tests, prescribed_verdict, block_tests, block_verdict, entry_tests, entry_verdict, blocks_of, entries_from, kind_line, words_of, runs_of, rows_from, pass_of}
 use Rattle.sheet.specs.Sheet.{Sheet, Outcome, accepted, refused, size_tests, size_verdict, word_kinds, outcome_at, read_lines, after_size, read_sheet, sheet_of, alone}
+use Rattle.sheet.specs.Fault.{fault_number, has_slope, covers_rows, any_faulty}
 use Rattle.sheet.proofs.Lines.{both, between, of_line, lines_keep}
 use Rattle.sheet.proofs.Opened.{zz_run, word_runs, sheet_read, starts_read}
 use Rattle.sheet.proofs.Whole.{read_whole}
@@ -134,3 +134,16 @@ alone_refusal s number line e = go (read_sheet s) refl e
 pub long_refused : (s : List ℕ) → 16777216 < length s → sheet_of s ≡ refused 1 0
 unfolding sheet_of read_sheet
 long_refused s h = rw (lt-ltb 16777216 (length s) h) refl
+
+-- 5 to 9, or none
+pub few_faults : (sheet : Sheet) → fault_number sheet ≤ 9
+unfolding fault_number
+few_faults sheet = go (eqb sheet.counts.flag 0) (eqb sheet.counts.k 0) (has_slope sheet) (covers_rows sheet) (any_faulty sheet)
+  where
+    go : (a b c d f : Bool) → cond a 5 (cond b 6 (cond c 7 (cond (not d) 8 (cond f 9 0)))) ≤ 9
+    go true b c d f = omega arith
+    go false true c d f = omega arith
+    go false false true d f = omega arith
+    go false false false false f = omega arith
+    go false false false true true = omega arith
+    go false false false true false = omega arith

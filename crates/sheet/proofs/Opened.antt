@@ -8,9 +8,8 @@ use borrow.Author.Tests.{eqb-true}
 use lib.Dec.{eqb}
 use lib.ListN.{length}
 use Rattle.sheet.specs.declared.Counts.{Counts}
-use Rattle.sheet.specs.declared.Cursor.{Cursor}
 use Rattle.sheet.specs.declared.Starts.{Starts}
-use Rattle.sheet.specs.Run.{Block, Entry, Run, WordRuns, blocks_of, entries_from, runs_of}
+use Rattle.sheet.specs.Run.{Cursor, Block, Entry, Run, WordRuns, blocks_of, entries_from, runs_of}
 use Rattle.sheet.specs.Sheet.{Sheet, sheet_with, starts_from, accepted, refused, word_kinds, outcome_at, read_lines}
 
 outcome_open : (c : Cursor) (a sheet : Sheet) (b starts : Starts) → outcome_at c a b ≡ accepted sheet starts → (c.number ≡ 0) × (a ≡ sheet) × (b ≡ starts)

@@ -8,11 +8,10 @@ use borrow.Author.Tests.{ltb-false, eqb-true}
 use lib.Dec.{ltb, eqb}
 use lib.ListN.{length, get_or}
 use Rattle.sheet.specs.declared.Counts.{Counts}
-use Rattle.sheet.specs.declared.Cursor.{Cursor}
 use Rattle.sheet.specs.declared.Line.{Line}
 use Rattle.sheet.specs.declared.Starts.{Starts}
 use Rattle.sheet.specs.Line.{zz_tag, size_line, block_line, pair_line}
-use Rattle.sheet.specs.Run.{Kind, is_between, block_in, entry_in, word_in, prescribed_tests, prescribed_verdict, block_tests, block_verdict, kind_line, words_of, runs_of, lines_of, rows_from, kept_from, past_from}
+use Rattle.sheet.specs.Run.{Cursor, Kind, is_between, block_in, entry_in, word_in, prescribed_tests, prescribed_verdict, block_tests, block_verdict, kind_line, words_of, runs_of, lines_of, rows_from, kept_from, past_from}
 use Rattle.sheet.specs.Sheet.{Sheet, Outcome, accepted, refused, counts_within, size_tests, size_verdict, word_kinds, read_lines, after_size, read_sheet, sheet_of, alone}
 use Rattle.sheet.specs.Whole.{InRange, BlockInRange, Finite, lines_in, RunsPlaced, Whole}
 use Rattle.sheet.proofs.Lines.{both, between, in_order_lem, ran, each, lines_length, grid_length, triangle_length}

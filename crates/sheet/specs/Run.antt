@@ -1,9 +1,23 @@
 -- Runs of lines (document 01, Record 1): reading goes from line to line, and stops at the first that is refused.
-use Rattle.std.specs.Prelude.{ℕ, zero, suc, ◌+◌, Bool, ◌&&◌, ◌||◌, cond, List, [], ◌∷◌, ◌++◌, ltb, leb, eqb}
-use Rattle.sheet.specs.declared.Cursor.{Cursor}
+use Rattle.std.specs.Prelude.{ℕ, zero, suc, ◌+◌, Bool, ◌&&◌, ◌||◌, cond, List, [], ◌∷◌, ◌++◌, ltb, leb, eqb, Result, Ok, Err}
 use Rattle.sheet.specs.declared.Line.{Line}
+use Rattle.sheet.specs.declared.LineStart.{LineStart}
+use Rattle.sheet.specs.declared.SheetRefusal.{SheetRefusal}
 use Rattle.sheet.specs.Field.{is_finite}
 use Rattle.sheet.specs.Line.{zz_tag, tag_to, in_form, block_line, pair_line, word_line, Test, verdict_of}
+
+-- Where reading stands: the position and the number of the next line, and 0; or the line that was refused, and the refusal's number.
+pub record Cursor : Type 0 where
+  pub at : ℕ
+  pub line : ℕ
+  pub number : ℕ
+
+-- the cursor at the start of a line; and what a reader answers at a cursor: where the next line starts, or the refusal
+abbrev pub cursor_at : LineStart → Cursor
+cursor_at p = record { at = p.at; line = p.line; number = 0 }
+
+abbrev pub reached : Cursor → Result LineStart SheetRefusal
+reached c = cond (eqb c.number 0) (Ok (record { at = c.at; line = c.line })) (Err (record { number = c.number; line = c.line }))
 
 -- past a line with this verdict: at the next line, or still at this one where it is refused. A cursor at a refused line stays.
 unfoldable pub pass_of : Cursor → ℕ → ℕ → Cursor

@@ -1,11 +1,10 @@
 -- A sheet as read (document 01, Record 1), and its refusals 1 to 4: 1 first; then the lines downwards, on a line 2, 3, 4.
 use Rattle.std.specs.Prelude.{ℕ, zero, suc, ◌+◌, Bool, ◌&&◌, cond, List, [], ◌∷◌, length, get_or, ltb, eqb}
 use Rattle.sheet.specs.declared.Counts.{Counts}
-use Rattle.sheet.specs.declared.Cursor.{Cursor}
 use Rattle.sheet.specs.declared.Size.{Size}
 use Rattle.sheet.specs.declared.Starts.{Starts}
 use Rattle.sheet.specs.Line.{zx_tag, zy_tag, xx_tag, xy_tag, yy_tag, in_form, size_line, Test, verdict_of}
-use Rattle.sheet.specs.Run.{Block, Entry, Kind, WordRuns, is_between, rows_from, blocks_of, entries_from, word_kind, runs_of}
+use Rattle.sheet.specs.Run.{Cursor, Block, Entry, Kind, WordRuns, is_between, rows_from, blocks_of, entries_from, word_kind, runs_of}
 
 -- The numbers and words of a sheet. Words are bits: zx by row then c, xx by rows of the lower triangle.
 pub record Sheet : Type 0 where

@@ -3,7 +3,8 @@
 #![tactic(auto)]
 
 // What stands at a position: a number or a word, and the position past the byte that ends it.
-// Where nothing in form stands there, the value is 0 and next is 2^64 - 1, a position at which nothing stands.
+// Where nothing in form stands there, the value is 0 and next is 2^64 - 1, a position at which nothing stands. (An Option of a field and of a line
+// was tried, and read a sheet 7 to 15 percent slower: with a position that is past every byte, reading on needs no test between two fields.)
 #[derive(Clone, Copy)]
 pub struct Field {
     pub value: u64,
@@ -36,12 +37,11 @@ pub struct Size {
     pub next: usize,
 }
 
-// Where reading stands: the position and the number of the next line, and 0; or the line that was refused, and the refusal's number.
+// Where the next line to be read starts: its position in the bytes, and its number.
 #[derive(Clone, Copy)]
-pub struct Cursor {
+pub struct LineStart {
     pub at: usize,
     pub line: u64,
-    pub number: u64,
 }
 
 // Where the lines of a sheet start, tag by tag; and the position and the line's number just past the yy line.
@@ -59,10 +59,9 @@ pub struct Starts {
     pub line: u64,
 }
 
-// What the reader of a sheet answers.
+// Why a sheet is refused: document 01 files refusals by number, 1 to 9 for a sheet. And its line; 0 where it names none.
 #[derive(Clone, Copy)]
-pub enum Reading {
-    Sheet(Starts),
-    // A refusal, 1 to 9, and its line; 0 where it names none.
-    Refused { number: u64, line: u64 },
+pub struct SheetRefusal {
+    pub number: u64,
+    pub line: u64,
 }

@@ -18,12 +18,10 @@ fn levels_at(bytes: &[u8], from: usize, k: u64) -> [u64; 8]
 {
     let mut m: [u64; 8] = [0; 8];
     let mut at = from;
-    let mut i: usize = 0;
-    while (i as u64) < k {
+    for i in 0..k as usize {
         let l = block_line::block_line(bytes, at);
         m[i] = l.first;
         at = l.next;
-        i += 1;
     }
     m
 }
@@ -41,14 +39,12 @@ fn slope_at(bytes: &[u8], from: usize, k: u64) -> bool
     ensures { result ≡ any_of (λ (b : Block). not (eqb b.e 1)) (blocks_at bytes.now k from) }
 {
     let mut at = from;
-    let mut left = k;
-    while 0 < left {
+    for i in 0..k {
         let l = block_line::block_line(bytes, at);
         if l.second != 1 {
             return true;
         }
         at = l.next;
-        left -= 1;
     }
     false
 }
@@ -67,10 +63,8 @@ pub fn start(m: [u64; 8], n: u64) -> u64
     ensures { result ≡ sum (λ i. get_or m i 0) n }
 {
     let mut t: u64 = 0;
-    let mut i: u64 = 0;
-    while i < n {
+    for i in 0..n {
         t += m[i as usize];
-        i += 1;
     }
     t
 }

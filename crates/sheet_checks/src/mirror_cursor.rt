@@ -29,26 +29,16 @@ pub struct Moved {
     pub first: usize,
 }
 
-// The same, with the line at the cursor.
-#[derive(Clone, Copy)]
-pub struct Reached {
-    pub cursor: usize,
-    pub first: usize,
-    pub line: Line,
-}
-
 // The block that holds row i.
 fn block_of(m: [u64; 8], i: u64) -> u64
     ensures { (blocks : List Block) → m ≡ padded 8 (level_list blocks) → length blocks ≤ 8 → i < covered_rows blocks → result ≡ block_of_row blocks i }
 {
     let mut left = i;
-    let mut j: usize = 0;
-    while j < 8 {
+    for j in 0..8usize {
         if left < m[j] {
             return j as u64;
         }
         left -= m[j];
-        j += 1;
     }
     8
 }
@@ -90,8 +80,5 @@ pub fn is_passed(l: Line, o: Line) -> bool
 pub fn earlier(a: usize, b: usize) -> usize
     ensures { result ≡ min a b }
 {
-    if a < b {
-        return a;
-    }
-    b
+    a.min(b)
 }

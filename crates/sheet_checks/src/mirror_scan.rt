@@ -16,15 +16,13 @@ fn first_fault(bytes: &[u8], starts: Starts, n: u64, base: u64, cur: &[usize], k
     ensures { Judged bytes.now starts base (length cur.now) result }
 {
     let mut first = k.first;
-    let mut col = base;
-    while col < k.due {
+    for col in base..k.due {
         let j = (col - base) as usize;
         let at = cur[j];
         let o = pair_line::pair_line(b"zz\t", bytes, at);
         if (o.first == col) & (col < o.second) {
             first = mirror_cursor::earlier(first, at);
         }
-        col += 1;
     }
     first
 }
@@ -46,10 +44,8 @@ pub fn pass(
         due: 0,
         first: starts.zx,
     };
-    let mut i: u64 = 0;
-    while i < n {
+    for i in 0..n {
         k = mirror_step::check_entry(bytes, starts, m, base, cur, i, k);
-        i += 1;
     }
     first_fault(bytes, starts, n, base, cur, k)
 }

@@ -11,14 +11,15 @@ ghost use Rattle.sheet_checks.specs.mirror_cursor.Held.{place_of, Given, Levelle
 ghost use Rattle.sheet_checks.specs.mirror_cursor.Turns.{is_unfit, is_passed, AtCursor, Pass};
 
 use crate::mirror_cursor;
-use crate::mirror_cursor::{Known, Moved, Reached};
+use crate::mirror_cursor::{Known, Moved};
 use sheet::{Line, Starts};
 use sheet_reader::pair_line;
 
 // The cursor of the column of l's row, for an entry l above the diagonal: past every line whose mirror would have come before l. These are faulty.
-fn skip_passed(bytes: &[u8], starts: Starts, due: u64, i: u64, l: Line, c: Moved) -> Reached
+// And the line at the cursor.
+fn skip_passed(bytes: &[u8], starts: Starts, due: u64, i: u64, l: Line, c: Moved) -> (Moved, Line)
     requires { ((n : ℕ) × Given bytes.now starts n × (i < n)) × (l ≡ pair_line zz_tag bytes.now (place_of bytes.now starts i)) × (l.second < l.first) × AtCursor bytes.now starts i due l.second c }
-    ensures { AtCursor bytes.now starts i due l.second (record { cursor = result.cursor; first = result.first }) × (result.line ≡ pair_line zz_tag bytes.now result.cursor) × (is_passed l result.line ≡ false) × (result.first ≤ c.first) }
+    ensures { AtCursor bytes.now starts i due l.second result.0 × (result.1 ≡ pair_line zz_tag bytes.now result.0.cursor) × (is_passed l result.1 ≡ false) × (result.0.first ≤ c.first) }
 {
     let mut at = c.cursor;
     let mut first = c.first;
@@ -28,11 +29,7 @@ fn skip_passed(bytes: &[u8], starts: Starts, due: u64, i: u64, l: Line, c: Moved
         at = o.next;
         o = pair_line::pair_line(b"zz\t", bytes, at);
     }
-    Reached {
-        cursor: at,
-        first: first,
-        line: o,
-    }
+    (Moved { cursor: at, first }, o)
 }
 
 // Entry i, in the line l above the diagonal, at the cursor of its row's column: its mirror is there, with equal bits or not, or it has none.
@@ -40,16 +37,16 @@ fn meet(bytes: &[u8], starts: Starts, at: usize, due: u64, i: u64, l: Line, c: M
     requires { ((n : ℕ) × Given bytes.now starts n × (i < n)) × (at ≡ place_of bytes.now starts i) × (l ≡ pair_line zz_tag bytes.now at) × (l.second < l.first) × AtCursor bytes.now starts i due l.second c }
     ensures { AtCursor bytes.now starts (i + 1) due l.second result × (result.first ≤ c.first) }
 {
-    let p = skip_passed(bytes, starts, due, i, l, c);
-    if mirror_cursor::is_opposite(l, p.line) {
-        if p.line.word == l.word {
+    let (p, o) = skip_passed(bytes, starts, due, i, l, c);
+    if mirror_cursor::is_opposite(l, o) {
+        if o.word == l.word {
             return Moved {
-                cursor: p.line.next,
+                cursor: o.next,
                 first: p.first,
             };
         }
         return Moved {
-            cursor: p.line.next,
+            cursor: o.next,
             first: mirror_cursor::earlier(p.first, p.cursor),
         };
     }

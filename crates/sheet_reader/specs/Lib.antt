@@ -1,1 +1,2 @@
 pub mod sheet_lines
+pub mod word_field

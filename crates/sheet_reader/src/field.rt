@@ -21,19 +21,14 @@ pub const UNFOUND: Field = Field {
 };
 
 // The value of a lower-case hexadecimal digit, and 16 for any other byte.
+#[tactic(auto, unfolding(sheet::specs::Field::digit_of))]
 fn digit(b: u8) -> u64
     ensures { result ≡ digit_of b }
 {
-    if b < 48 {
-        16
-    } else if b < 58 {
-        (b - 48) as u64
-    } else if b < 97 {
-        16
-    } else if b < 103 {
-        (b - 87) as u64
-    } else {
-        16
+    match b {
+        b'0'..=b'9' => u64::from(b - b'0'),
+        b'a'..=b'f' => u64::from(b - b'a') + 10,
+        _ => 16,
     }
 }
 
@@ -42,8 +37,7 @@ fn grow(v: u64, d: u64) -> u64
     requires { (v ≤ cap) × (d < 10) }
     ensures { result ≡ min (v * 10 + d) cap }
 {
-    let w = v * 10 + d;
-    if w < 10000000000 { w } else { 10000000000 }
+    (v * 10 + d).min(10000000000)
 }
 
 // The rest of a number whose first digit was read.
@@ -52,8 +46,7 @@ fn digits(bytes: &[u8], from: usize, end: u8, first: u64) -> Field
     ensures { result ≡ digits_from end first from (drop from bytes.now) }
 {
     let mut v = first;
-    let mut i = from;
-    while i < bytes.len() {
+    for i in from..bytes.len() {
         let b = bytes[i];
         let d = digit(b);
         if d < 10 {
@@ -61,7 +54,6 @@ fn digits(bytes: &[u8], from: usize, end: u8, first: u64) -> Field
                 return UNFOUND;
             }
             v = grow(v, d);
-            i += 1;
         } else {
             if b == end {
                 return Field {

@@ -21,49 +21,40 @@ ghost use Rattle.sheet.specs.Sheet.{read_sheet, sheet_of};
 ghost use Rattle.sheet.specs.Answer.{reading_of};
 
 use field::NOWHERE;
-use sheet::{Cursor, Reading};
+use sheet::{LineStart, SheetRefusal, Starts};
 
 // A sheet, whatever stands behind its yy line.
-pub fn read_prefix(bytes: &[u8]) -> Reading
+pub fn read_prefix(bytes: &[u8]) -> Result<Starts, SheetRefusal>
     ensures { result ≡ reading_of (read_sheet bytes.now) }
 {
     if 16777216 < bytes.len() {
-        return Reading::Refused { number: 1, line: 0 };
+        return Err(SheetRefusal { number: 1, line: 0 });
     }
     let z = size_line::size_line(bytes, 0);
-    let counts = z.counts;
     if z.next == NOWHERE {
-        return Reading::Refused { number: 2, line: 1 };
+        return Err(SheetRefusal { number: 2, line: 1 });
     }
-    if size_ranges::counts_within(counts) {
-        return sheet_lines::lines(
-            bytes,
-            counts,
-            Cursor {
-                at: z.next,
-                line: 2,
-                number: 0,
-            },
-        );
+    let counts = z.counts;
+    if !size_ranges::counts_within(counts) {
+        return Err(SheetRefusal { number: 4, line: 1 });
     }
-    Reading::Refused { number: 4, line: 1 }
+    let second = LineStart {
+        at: z.next,
+        line: 2,
+    };
+    sheet_lines::lines(bytes, counts, second)
 }
 
 // The sheet that load is given: all of the bytes.
-pub fn read_sheet(bytes: &[u8]) -> Reading
+pub fn read_sheet(bytes: &[u8]) -> Result<Starts, SheetRefusal>
     ensures { result ≡ reading_of (sheet_of bytes.now) }
 {
-    let r = read_prefix(bytes);
-    match r {
-        Reading::Sheet(starts) => {
-            if starts.end == bytes.len() {
-                return r;
-            }
-            Reading::Refused {
-                number: 2,
-                line: starts.line,
-            }
-        }
-        Reading::Refused { number, line } => Reading::Refused { number, line },
+    let starts = read_prefix(bytes)?;
+    if starts.end == bytes.len() {
+        return Ok(starts);
     }
+    Err(SheetRefusal {
+        number: 2,
+        line: starts.line,
+    })
 }

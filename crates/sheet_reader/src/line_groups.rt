@@ -1,55 +1,47 @@
 // Reads the runs of lines of a sheet (document 01, Record 1): from line to line, and no further than the first that is refused. What each answers
 // is defined in the crate sheet, specs/Run.antt.
-ghost use Rattle.std.specs.Prelude.{◌≡◌, ◌+◌, ◌*◌, ◌<◌, ◌≤◌, length};
+ghost use Rattle.std.specs.Prelude.{◌≡◌, ◌+◌, ◌*◌, ◌<◌, ◌≤◌, length, IfOk};
 ghost use Rattle.sheet.specs.Line.{word_line};
-ghost use Rattle.sheet.specs.Run.{lines_of, row_from, rows_from, blocks_of, entries_from, prescribed_verdict, word_in, word_kind, words_of};
+ghost use Rattle.sheet.specs.Run.{cursor_at, reached, lines_of, row_from, rows_from, blocks_of, entries_from, prescribed_verdict, word_in, word_kind, words_of};
 
 use crate::field::NOWHERE;
 use crate::{block_line, line_verdict, pair_line, single_line, tag_field, yy_line};
-use sheet::{Cursor, Line};
+use sheet::{Line, LineStart, SheetRefusal};
 
 // The k block lines.
-pub fn blocks(bytes: &[u8], k: u64, c: Cursor) -> Cursor
-    requires { c.line + k < 9223372036854775808 }
-    ensures { (result ≡ (blocks_of bytes.now k c).past) × (result.line ≤ c.line + k) }
+pub fn blocks(bytes: &[u8], k: u64, from: LineStart) -> Result<LineStart, SheetRefusal>
+    requires { from.line + k < 9223372036854775808 }
+    ensures past { result ≡ reached (blocks_of bytes.now k (cursor_at from)).past }
+    ensures few { IfOk result (λ p. p.line ≤ from.line + k) }
 {
-    let mut d = c;
-    let mut i: u64 = 0;
-    while i < k {
-        if d.number != 0 {
-            return d;
-        }
-        let l = block_line::block_line(bytes, d.at);
-        d = line_verdict::block(l, d);
-        i += 1;
+    let mut p = from;
+    for i in 0..k {
+        let l = block_line::block_line(bytes, p.at);
+        p = line_verdict::block(l, p)?;
     }
-    d
+    Ok(p)
 }
 
-// All zz lines: the first line with another tag ends them.
-pub fn entries(bytes: &[u8], q: u64, c: Cursor) -> Cursor
-    requires { c.line + length bytes.now < 9223372036854775808 }
-    ensures { (result ≡ (entries_from (length bytes.now) bytes.now q 0 0 c).past) × (result.line ≤ c.line + length bytes.now) }
+// All zz lines, no more than there are bytes: the first line with another tag ends them.
+pub fn entries(bytes: &[u8], q: u64, from: LineStart) -> Result<LineStart, SheetRefusal>
+    requires { from.line + length bytes.now < 9223372036854775808 }
+    ensures past { result ≡ reached (entries_from (length bytes.now) bytes.now q 0 0 (cursor_at from)).past }
+    ensures few { IfOk result (λ p. p.line ≤ from.line + length bytes.now) }
 {
-    let mut d = c;
+    let mut p = from;
     let mut col: u64 = 0;
     let mut row: u64 = 0;
-    let mut left = bytes.len();
-    while 0 < left {
-        if d.number != 0 {
-            return d;
-        }
-        let t = tag_field::tag(bytes, d.at, b"zz\t");
+    for i in 0..bytes.len() {
+        let t = tag_field::tag(bytes, p.at, b"zz\t");
         if t.next == NOWHERE {
-            return d;
+            return Ok(p);
         }
-        let l = pair_line::pair_line(b"zz\t", bytes, d.at);
-        d = line_verdict::entry(l, q, col, row, d);
+        let l = pair_line::pair_line(b"zz\t", bytes, p.at);
+        p = line_verdict::entry(l, q, col, row, p)?;
         col = l.first;
         row = l.second + 1;
-        left -= 1;
     }
-    d
+    Ok(p)
 }
 
 // A line of `numbers` numbers (2, 1 or 0) and a word.
@@ -66,21 +58,23 @@ fn word_line(bytes: &[u8], t: &[u8], numbers: u64, at: usize) -> Line
 }
 
 // The lines of one row, `width` of them.
-fn row_words(bytes: &[u8], t: &[u8], numbers: u64, row: u64, width: u64, c: Cursor) -> Cursor
-    requires { c.line + width < 9223372036854775808 }
-    ensures { result ≡ (lines_of (word_line numbers t.now bytes.now) prescribed_verdict word_in (row_from row 0 width) c).past }
+fn row_words(
+    bytes: &[u8],
+    t: &[u8],
+    numbers: u64,
+    row: u64,
+    width: u64,
+    from: LineStart,
+) -> Result<LineStart, SheetRefusal>
+    requires { from.line + width < 9223372036854775808 }
+    ensures { result ≡ reached (lines_of (word_line numbers t.now bytes.now) prescribed_verdict word_in (row_from row 0 width) (cursor_at from)).past }
 {
-    let mut d = c;
-    let mut col: u64 = 0;
-    while col < width {
-        if d.number != 0 {
-            return d;
-        }
-        let l = word_line(bytes, t, numbers, d.at);
-        d = line_verdict::prescribed(l, row, col, d);
-        col += 1;
+    let mut p = from;
+    for col in 0..width {
+        let l = word_line(bytes, t, numbers, p.at);
+        p = line_verdict::prescribed(l, row, col, p)?;
     }
-    d
+    Ok(p)
 }
 
 // The lines of `rows` rows, first + step * r of them in row r: each of `numbers` numbers (2, 1 or 0) and a word. They are few, so that the numbers
@@ -92,19 +86,15 @@ pub fn words(
     first: u64,
     step: u64,
     rows: u64,
-    c: Cursor,
-) -> Cursor
-    requires { (rows * (first + step * rows) ≤ 16777216) × (c.line ≤ 4294967296) }
-    ensures { (result ≡ (words_of bytes.now (word_kind t.now numbers (rows_from (λ r. first + step * r) 0 rows)) c).past) × (result.line ≤ c.line + 16777216) }
+    from: LineStart,
+) -> Result<LineStart, SheetRefusal>
+    requires { (rows * (first + step * rows) ≤ 16777216) × (from.line ≤ 4294967296) }
+    ensures past { result ≡ reached (words_of bytes.now (word_kind t.now numbers (rows_from (λ r. first + step * r) 0 rows)) (cursor_at from)).past }
+    ensures few { IfOk result (λ p. p.line ≤ from.line + 16777216) }
 {
-    let mut d = c;
-    let mut r: u64 = 0;
-    while r < rows {
-        if d.number != 0 {
-            return d;
-        }
-        d = row_words(bytes, t, numbers, r, first + step * r, d);
-        r += 1;
+    let mut p = from;
+    for r in 0..rows {
+        p = row_words(bytes, t, numbers, r, first + step * r, p)?;
     }
-    d
+    Ok(p)
 }

@@ -7,7 +7,8 @@ use crate::field::TAB;
 use crate::{field, tag_field, word_field};
 use sheet::Line;
 
-// A tag, two numbers and a word.
+// A tag, two numbers and a word. (A line with one number and one with none have functions of their own, single_line and yy_line: one over the count
+// of numbers would need a loop and an array for two names.)
 pub fn pair_line(t: &[u8], bytes: &[u8], at: usize) -> Line
     ensures { result ≡ pair_line t.now bytes.now at }
 {

@@ -10,8 +10,7 @@ pub fn tag(bytes: &[u8], at: usize, t: &[u8]) -> Field
     ensures { result ≡ tag_to t.now bytes.now at }
 {
     let mut i = at;
-    let mut k: usize = 0;
-    while k < t.len() {
+    for k in 0..t.len() {
         if bytes.len() <= i {
             return UNFOUND;
         }
@@ -19,7 +18,6 @@ pub fn tag(bytes: &[u8], at: usize, t: &[u8]) -> Field
             return UNFOUND;
         }
         i += 1;
-        k += 1;
     }
     Field { value: 0, next: i }
 }

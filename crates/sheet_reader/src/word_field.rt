@@ -2,6 +2,7 @@
 ghost use Rattle.std.specs.Prelude.{◌≡◌, ◌+◌, ◌*◌, ◌<◌, drop};
 ghost use Rattle.sheet.specs.Field.{end_at};
 ghost use Rattle.sheet.specs.Line.{lf, word_to};
+ghost use Rattle.sheet_reader.specs.word_field.Mark.{mark};
 
 use crate::field::{LF, UNFOUND};
 use sheet::Field;
@@ -22,7 +23,7 @@ fn ended(bytes: &[u8], at: usize, v: u64) -> Field
 }
 
 // The value of each byte as a lower-case hexadecimal digit, and 255 where it is none: more than the values of 16 digits together.
-const DIGITS: [u8; 256] = [
+static DIGITS: [u8; 256] = [
     255, 255, 255, 255, 255, 255, 255, 255, 255, 255, 255, 255, 255, 255, 255, 255, 255, 255, 255,
     255, 255, 255, 255, 255, 255, 255, 255, 255, 255, 255, 255, 255, 255, 255, 255, 255, 255, 255,
     255, 255, 255, 255, 255, 255, 255, 255, 255, 255, 0, 1, 2, 3, 4, 5, 6, 7, 8, 9, 255, 255, 255,
@@ -39,8 +40,14 @@ const DIGITS: [u8; 256] = [
     255, 255, 255, 255,
 ];
 
+fn mark(b: u8) -> u64
+    ensures { result ≡ mark b }
+{
+    DIGITS[b as usize] as u64
+}
+
 // A word of 16 lower-case hexadecimal digits, and LF. Which digit comes cannot be guessed, so no branch looks at one: the sum of the entries says
-// behind the last whether all were digits. The table is named once, since each naming copies it.
+// behind the last whether all were digits.
 pub fn word(bytes: &[u8], at: usize) -> Field
     ensures { result ≡ word_to bytes.now at }
 {
@@ -50,15 +57,12 @@ pub fn word(bytes: &[u8], at: usize) -> Field
     if bytes.len() - 17 < at {
         return UNFOUND;
     }
-    let digits = DIGITS;
     let mut v: u64 = 0;
     let mut sum: u64 = 0;
-    let mut k: usize = 0;
-    while k < 16 {
-        let d = digits[bytes[at + k] as usize] as u64;
+    for k in 0..16 {
+        let d = mark(bytes[at + k]);
         v = std::num::wrapping_add_u64(v % 1152921504606846976 * 16, d);
         sum += d;
-        k += 1;
     }
     if 255 <= sum {
         return UNFOUND;

@@ -1,18 +1,18 @@
 -- Load accepts every sheet that no listed condition refuses, and no other; and what it refuses, it refuses with a listed number.
-use Prim.Native.Nat.{ℕ, zero, suc, ◌*◌, ◌≤◌, ◌<◌}
+use Prim.Native.Nat.{ℕ, zero, suc, ◌≤◌, ◌<◌}
 use mathlib.Core.Path.{◌≡◌, refl, sym, ap, subst, ◌∙◌}
 use mathlib.Core.Logic.{◌⊎◌, inl, inr}
-use mathlib.Core.Bool.{Bool, true, false, not, ◌&&◌, cond, true≢false}
+use mathlib.Core.Bool.{Bool, true, false, not, cond, true≢false}
 use mathlib.Core.List.{List, [], ◌∷◌, ◌++◌}
-use mathlib.Core.Option.{Option, none, some}
+use Rattle.std.specs.Prelude.{Option, None, Some, Ok, Err}
 use native.Mathlib.Omega.{arith}
 use borrow.Author.Tests.{eqb-true, eqb-false, ne_eqb}
-use lib.Dec.{ltb, leb, eqb}
+use lib.Dec.{eqb}
 use lib.Ieee.{Float}
 use Rattle.refusal.specs.declared.Refusal.{Refusal}
-use Rattle.refusal.specs.declared.Answer.{Answer}
-use Rattle.refusal.specs.declared.Answer.TheVariants.{Accepted, Refused}
-use Rattle.refusal.specs.Numbers.{refusal, refuse}
+use Rattle.refusal.specs.Numbers.{refusal, refuse, numbers_of}
+use Rattle.refusal.proofs.Meaning.{differ}
+use Rattle.refusal.proofs.Sheet.{sheet_number, nine_line}
 use Rattle.sheet.specs.declared.Starts.{Starts}
 use Rattle.sheet.specs.Sheet.{Sheet, accepted, refused, sheet_of}
 use Rattle.sheet.specs.Sheet as Sheets
@@ -20,14 +20,14 @@ use Rattle.sheet.specs.Fault.{Faulty, has_slope, covers_rows, any_faulty, covere
 use Rattle.sheet.specs.Answer.{checked}
 use Rattle.sheet.specs.Whole.{Each}
 use Rattle.sheet.proofs.Faults.{faulty_line_lem, none_faulty, lines_rise, nine_first}
-use Rattle.sheet.proofs.Numbers.{alone_refusal, long_refused}
+use Rattle.sheet.proofs.Numbers.{alone_refusal, long_refused, few_faults}
 use Rattle.layout.specs.declared.Layout.{Layout}
-use Rattle.layout.specs.declared.Pair.{Pair}
-use Rattle.layout.specs.declared.Pair.TheVariants.{Dense, Sparse, Refused as Denied}
-use Rattle.layout.specs.Gate.{thin, pair_of}
-use Rattle.layout.specs.Shapes.{Target, target, levels, across, pairs}
+use Rattle.layout.specs.declared.GateRefusal.{GateRefusal}
+use Rattle.layout.specs.declared.GateRefusal.TheVariants.{MultiblockFill, CrossGate}
+use Rattle.layout.specs.Gate.{Verdict, gate_number}
+use Rattle.layout.specs.Shapes.{Target, target, across, pairs}
 use Rattle.workspace.specs.Answers.{untouched}
-use Rattle.workspace.specs.Loaded.{count_of, of_pair, one_each, pair_in, or_refused, first_refused_pair, sorted_layout, layout_of_sheet}
+use Rattle.workspace.specs.Loaded.{pair_in, or_refused, first_refused_pair, sorted_layout, layout_of_sheet}
 use Rattle.workspace.specs.Load.{has_room, after_gate, load_sheet, load_of}
 use Rattle.sheet_text.specs.Listed.{
   Listed,
@@ -45,6 +45,7 @@ use Rattle.sheet_text.specs.Listed.{
 use Rattle.sheet.proofs.Whole.{not_accepted, alone_read}
 use Rattle.workspace.proofs.Valid.{allowed_pairs}
 use Rattle.sheet_text.proofs.Long.{one_long}
+use Rattle.std.specs.Prelude.{Result, Ok, Err}
 
 -- ---- the pairs of k blocks: (i, j) with j < i < k
 abbrev Below : ℕ → Target → Type 0
@@ -65,55 +66,40 @@ pairs_below k zero h = tt
 pairs_below k (suc n) h = both_below k (pairs n) (across n n) (pairs_below k n (omega arith)) (across_below k n n (omega arith) (omega arith))
 
 module _ (sheet : Sheet) (y : Layout) where
-  -- what the gate refuses, it refuses with 10 or 11
-  pub ten_or_eleven : (i j n : ℕ) → pair_in sheet y i j ≡ Denied n → (n ≡ 10) ⊎ (n ≡ 11)
-  unfolding pair_in pair_of
-  ten_or_eleven i j n e =
-      let cells : ℕ = levels y i * levels y j in
-      go (leb cells 100000) (ltb 2 y.k) (one_each sheet y i j && thin (count_of (of_pair y i j) sheet.zz) cells) e
-    where
-      go : (a b c : Bool) → cond a Dense (cond b (Denied 10) (cond c Sparse (Denied 11))) ≡ Denied n → (n ≡ 10) ⊎ (n ≡ 11)
-      go true b c e = absurd (let z : ◌≡◌ {A = ℕ} 0 1 = cc in omega arith)
-      go false true c e = inl (let z : 10 ≡ n = cc in sym z)
-      go false false true e = absurd (let z : ◌≡◌ {A = ℕ} 0 1 = cc in omega arith)
-      go false false false e = inr (let z : 11 ≡ n = cc in sym z)
-
   -- the refusal found is that of one of the pairs
-  found : (k : ℕ) (l : List Target) → Each (Below k) l → (r : Refusal) → first_refused_pair sheet y l ≡ some r
-      → (i : ℕ) × (j : ℕ) × (i < k) × (j < i) × (pair_in sheet y i j ≡ Denied r.number)
+  abbrev Found : ℕ → Refusal → Type 0
+  Found k r = (i : ℕ) × (j : ℕ) × (e : GateRefusal) × (i < k) × (j < i) × (pair_in sheet y i j ≡ Err e) × (refusal (gate_number e) i j ≡ r)
+
+  found : (k : ℕ) (l : List Target) → Each (Below k) l → (r : Refusal) → first_refused_pair sheet y l ≡ Some r → Found k r
   unfolding first_refused_pair
   found k [] a r e = absurd (let z : ◌≡◌ {A = ℕ} 0 1 = cc in omega arith)
   found k (t ∷ l) a r e = go (found k l a.1 r) (pair_in sheet y t.row t.col) refl e
     where
-      go : (first_refused_pair sheet y l ≡ some r → (i : ℕ) × (j : ℕ) × (i < k) × (j < i) × (pair_in sheet y i j ≡ Denied r.number))
-          → (p : Pair) → pair_in sheet y t.row t.col ≡ p → or_refused p t (first_refused_pair sheet y l) ≡ some r
-          → (i : ℕ) × (j : ℕ) × (i < k) × (j < i) × (pair_in sheet y i j ≡ Denied r.number)
-      go f Dense q e = f e
-      go f Sparse q e = f e
-      go f (Denied n) q e = let z : n ≡ r.number = cc in (t.row, t.col, a.0.0, a.0.1, q ∙ ap Denied z)
+      go : (first_refused_pair sheet y l ≡ Some r → Found k r) → (p : Verdict) → pair_in sheet y t.row t.col ≡ p → or_refused p t (first_refused_pair sheet y l) ≡ Some r → Found k r
+      go f (Ok stored) q e = f e
+      go f (Err x) q e = let z : refusal (gate_number x) t.row t.col ≡ r = cc in (t.row, t.col, x, a.0.0, a.0.1, q, z)
 
   -- the gate does not refuse the pair: so it is with each pair of k blocks, where none is found
   abbrev Allowed : ℕ → ℕ → Type 0
-  Allowed i j = (n : ℕ) → pair_in sheet y i j ≡ Denied n → ⊥
+  Allowed i j = (r : GateRefusal) → pair_in sheet y i j ≡ Err r → ⊥
 
-  alone_allowed : (i j : ℕ) → first_refused_pair sheet y (target i j ∷ []) ≡ none → Allowed i j
+  alone_allowed : (i j : ℕ) → first_refused_pair sheet y (target i j ∷ []) ≡ None → Allowed i j
   unfolding first_refused_pair
-  alone_allowed i j e n q =
-      let z : some (refusal n i j) ≡ none = sym (ap (λ (p : Pair). or_refused p (target i j) none) q) ∙ e in
+  alone_allowed i j e r q =
+      let z : Some (refusal (gate_number r) i j) ≡ None = sym (ap (λ (p : Verdict). or_refused p (target i j) None) q) ∙ e in
       let o : ◌≡◌ {A = ℕ} 0 1 = cc in
       omega arith
 
   -- and back, of one pair
-  pub allowed_alone : (i j : ℕ) → Allowed i j → first_refused_pair sheet y (target i j ∷ []) ≡ none
+  pub allowed_alone : (i j : ℕ) → Allowed i j → first_refused_pair sheet y (target i j ∷ []) ≡ None
   unfolding first_refused_pair
   allowed_alone i j h = go (pair_in sheet y i j) refl
     where
-      go : (p : Pair) → pair_in sheet y i j ≡ p → or_refused p (target i j) none ≡ none
-      go Dense e = refl
-      go Sparse e = refl
-      go (Denied n) e = absurd (h n e)
+      go : (p : Verdict) → pair_in sheet y i j ≡ p → or_refused p (target i j) None ≡ None
+      go (Ok stored) e = refl
+      go (Err r) e = absurd (h r e)
 
-  pairs_allowed : (k : ℕ) → first_refused_pair sheet y (pairs k) ≡ none → (i j : ℕ) → i < k → j < i → Allowed i j
+  pairs_allowed : (k : ℕ) → first_refused_pair sheet y (pairs k) ≡ None → (i j : ℕ) → i < k → j < i → Allowed i j
   pairs_allowed k e i j h g = alone_allowed i j (allowed_pairs sheet y k e i j h g)
 
 -- ---- 5 to 9 by their tests, in the order in which load looks
@@ -121,38 +107,45 @@ abbrev chain : Bool → Bool → Bool → Bool → Bool → ℕ
 chain a b c d f = cond a 5 (cond b 6 (cond c 7 (cond (not d) 8 (cond f 9 0))))
 
 -- 5 to 8 do not apply
-record None (sheet : Sheet) : Type 0 where
+record Clear (sheet : Sheet) : Type 0 where
   flag : eqb sheet.counts.flag 0 ≡ false
   k : eqb sheet.counts.k 0 ≡ false
   slope : has_slope sheet ≡ false
   covers : covers_rows sheet ≡ true
 
-none_of : (sheet : Sheet) → fault_number sheet ≡ 0 → None sheet
+none_of : (sheet : Sheet) → fault_number sheet ≡ 0 → Clear sheet
 unfolding fault_number
 none_of sheet e = go (eqb sheet.counts.flag 0) (eqb sheet.counts.k 0) (has_slope sheet) (covers_rows sheet) (any_faulty sheet) refl refl refl refl e
   where
-    go : (a b c d f : Bool) → eqb sheet.counts.flag 0 ≡ a → eqb sheet.counts.k 0 ≡ b → has_slope sheet ≡ c → covers_rows sheet ≡ d → chain a b c d f ≡ 0 → None sheet
+    go : (a b c d f : Bool) → eqb sheet.counts.flag 0 ≡ a → eqb sheet.counts.k 0 ≡ b → has_slope sheet ≡ c → covers_rows sheet ≡ d → chain a b c d f ≡ 0 → Clear sheet
     go true b c d f p q r s e = absurd (omega arith)
     go false true c d f p q r s e = absurd (omega arith)
     go false false true d f p q r s e = absurd (omega arith)
     go false false false false f p q r s e = absurd (omega arith)
     go false false false true f p q r s e = record { flag = p; k = q; slope = r; covers = s }
 
--- a refusal is not an acceptance
-refused_not : (r : Refusal) → Refused r ≡ Accepted → ⊥
-refused_not r e = let z : ◌≡◌ {A = ℕ} 0 1 = cc in omega arith
-
 module _ (s h : List ℕ) (w : List Float) where
   -- the bytes hold a sheet that no test of load refuses
   record Fine (sheet : Sheet) (starts : Starts) : Type 0 where
     read : sheet_of s ≡ accepted sheet starts
     whole : fault_number sheet ≡ 0
-    gate : first_refused_pair sheet (layout_of_sheet sheet) (pairs (layout_of_sheet sheet).k) ≡ none
+    gate : first_refused_pair sheet (layout_of_sheet sheet) (pairs (layout_of_sheet sheet).k) ≡ None
     room : has_room (layout_of_sheet sheet) h w ≡ true
 
   -- ---- an answer: accepted, and all is fine; or refused with a number that is listed
-  abbrev Says : Answer → Type 0
-  Says a = ((a ≡ Accepted) × (sheet : Sheet) × (starts : Starts) × Fine sheet starts) ⊎ ((r : Refusal) × (a ≡ Refused r) × Listed s h w r.number)
+  abbrev Says : Result Unit Refusal → Type 0
+  Says a = ((a ≡ (Ok tt)) × (sheet : Sheet) × (starts : Starts) × Fine sheet starts) ⊎ ((r : Refusal) × (a ≡ Err r) × Listed s h w (numbers_of r).number)
+
+  -- a refusal of the sheet has its number
+  by_sheet : (number line : ℕ) → 1 ≤ number → number ≤ 9 → Listed s h w number → Listed s h w (numbers_of (refusal number line 0)).number
+  by_sheet number line l u = subst (Listed s h w) (sym (sheet_number number line l u))
+
+  few_numbers : (number line : ℕ) → sheet_of s ≡ refused number line → (1 ≤ number) × (number ≤ 9)
+  few_numbers number line e = go (alone_refusal s number line e)
+    where
+      go : ((number ≡ 1) × (line ≡ 0)) ⊎ ((2 ≤ number) × (number ≤ 4) × (1 ≤ line)) → (1 ≤ number) × (number ≤ 9)
+      go (inl (n, l)) = (omega arith, omega arith)
+      go (inr r) = (omega (arith, r.0), omega (arith, r.1))
 
   -- 1 to 4
   pub bytes_listed : (number line : ℕ) → sheet_of s ≡ refused number line → Listed s h w number
@@ -179,16 +172,15 @@ module _ (s h : List ℕ) (w : List Float) where
         go false false false true false pa pb pc pd pf e = absurd (omega arith)
 
     -- 10 and 11
-    pair_listed : (r : Refusal) → first_refused_pair sheet (layout_of_sheet sheet) (pairs (layout_of_sheet sheet).k) ≡ some r → Listed s h w r.number
+    pair_listed : (r : Refusal) → first_refused_pair sheet (layout_of_sheet sheet) (pairs (layout_of_sheet sheet).k) ≡ Some r → Listed s h w (numbers_of r).number
     unfolding layout_of_sheet sorted_layout
     pair_listed r e =
         let f = found sheet (layout_of_sheet sheet) sheet.counts.k (pairs sheet.counts.k) (pairs_below sheet.counts.k sheet.counts.k (omega arith)) r e in
-        go f.0 f.1 f.2 f.3 f.4 (ten_or_eleven sheet (layout_of_sheet sheet) f.0 f.1 r.number f.4)
+        subst (λ (x : Refusal). Listed s h w (numbers_of x).number) f.6 (go f.0 f.1 f.2 f.3 f.4 f.5)
       where
-        go : (i j : ℕ) → i < sheet.counts.k → j < i → pair_in sheet (layout_of_sheet sheet) i j ≡ Denied r.number → (r.number ≡ 10) ⊎ (r.number ≡ 11)
-            → Listed s h w r.number
-        go i j a b q (inl n) = subst (Listed s h w) (sym n) (multiblock_fill sheet starts read i j a b (q ∙ ap Denied n))
-        go i j a b q (inr n) = subst (Listed s h w) (sym n) (cross_gate sheet starts read i j a b (q ∙ ap Denied n))
+        go : (i j : ℕ) (e : GateRefusal) → i < sheet.counts.k → j < i → pair_in sheet (layout_of_sheet sheet) i j ≡ Err e → Listed s h w (numbers_of (refusal (gate_number e) i j)).number
+        go i j MultiblockFill a b q = multiblock_fill sheet starts read i j a b q
+        go i j CrossGate a b q = cross_gate sheet starts read i j a b q
 
     -- a sheet that 1 to 9 do not refuse: 10 to 12, or all is fine
     sheet_says : fault_number sheet ≡ 0 → Says (load_sheet sheet h w).answer
@@ -197,19 +189,25 @@ module _ (s h : List ℕ) (w : List Float) where
       where
         go : (g : Option Refusal) → first_refused_pair sheet (layout_of_sheet sheet) (pairs (layout_of_sheet sheet).k) ≡ g → (b : Bool) → has_room (layout_of_sheet sheet) h w ≡ b
             → Says (after_gate g sheet (layout_of_sheet sheet) h w).answer
-        go (some r) e b q = inr (r, refl, pair_listed r e)
-        go none e true q = inl (rw q refl, sheet, starts, record { read = read; whole = whole; gate = e; room = q })
-        go none e false q = inr (refusal 12 0 0, rw q refl, too_short sheet starts read q)
+        go (Some r) e b q = inr (r, refl, pair_listed r e)
+        go None e true q = inl (rw q refl, sheet, starts, record { read = read; whole = whole; gate = e; room = q })
+        go None e false q = inr (refusal 12 0 0, rw q refl, too_short sheet starts read q)
 
     checked_says : (b : Bool) → eqb (fault_number sheet) 0 ≡ b → Says (cond b (load_sheet sheet h w) (untouched h w (fault_number sheet) (named_line sheet) 0)).answer
     checked_says true e = sheet_says (eqb-true (fault_number sheet) 0 e)
-    checked_says false e = inr (refusal (fault_number sheet) (named_line sheet) 0, refl, sheet_listed (fault_number sheet) (some_number (eqb-false (fault_number sheet) 0 e)) refl)
+    checked_says false e =
+        let n : 0 < fault_number sheet = some_number (eqb-false (fault_number sheet) 0 e) in
+        inr (
+          refusal (fault_number sheet) (named_line sheet) 0,
+          refl,
+          by_sheet (fault_number sheet) (named_line sheet) (omega arith) (few_faults sheet) (sheet_listed (fault_number sheet) n refl),
+        )
       where
         some_number : (fault_number sheet ≡ 0 → ⊥) → 0 < fault_number sheet
         some_number f = omega arith
 
   parsed_says : (p : Sheets.Outcome) → sheet_of s ≡ p → Says (checked (λ number line. untouched h w number line 0) (λ sheet starts. load_sheet sheet h w) p).answer
-  parsed_says (refused number line) e = inr (refusal number line 0, refl, bytes_listed number line e)
+  parsed_says (refused number line) e = let n = few_numbers number line e in inr (refusal number line 0, refl, by_sheet number line n.0 n.1 (bytes_listed number line e))
   parsed_says (accepted sheet starts) e = checked_says sheet starts e (eqb (fault_number sheet) 0) refl
 
   says : Says (load_of s h w).answer
@@ -222,11 +220,11 @@ module _ (s h : List ℕ) (w : List Float) where
     this : (other : Sheet) (more : Starts) → sheet_of s ≡ accepted other more → other ≡ sheet
     this other more e = let q : accepted other more ≡ accepted sheet starts = sym e ∙ f.read in cc
 
-    pair_free : (other : Sheet) → other ≡ sheet → (n i j : ℕ) → i < other.counts.k → j < i → pair_in other (layout_of_sheet other) i j ≡ Denied n → ⊥
+    pair_free : (other : Sheet) → other ≡ sheet → (r : GateRefusal) (i j : ℕ) → i < other.counts.k → j < i → pair_in other (layout_of_sheet other) i j ≡ Err r → ⊥
     unfolding layout_of_sheet sorted_layout
-    pair_free other q n i j a b g =
-        pairs_allowed sheet (layout_of_sheet sheet) sheet.counts.k f.gate i j (subst (λ (x : Sheet). i < x.counts.k) q a) b n
-        (subst (λ (x : Sheet). pair_in x (layout_of_sheet x) i j ≡ Denied n) q g)
+    pair_free other q r i j a b g =
+        pairs_allowed sheet (layout_of_sheet sheet) sheet.counts.k f.gate i j (subst (λ (x : Sheet). i < x.counts.k) q a) b r
+        (subst (λ (x : Sheet). pair_in x (layout_of_sheet x) i j ≡ Err r) q g)
 
     none_listed : (n : ℕ) → Listed s h w n → ⊥
     none_listed n (too_long g) = not_accepted 1 0 sheet starts (sym (long_refused s g) ∙ f.read)
@@ -239,27 +237,28 @@ module _ (s h : List ℕ) (w : List Float) where
     none_listed n (dim_mismatch other more e g) =
         subst (λ (x : Sheet). x.counts.q ≡ covered_rows x.blocks → ⊥) (this other more e) g (eqb-true _ _ (none_of sheet f.whole).covers)
     none_listed n (faulty other more e line g) = none_faulty sheet f.whole line (subst (λ (x : Sheet). Faulty x line) (this other more e) g)
-    none_listed n (multiblock_fill other more e i j a b g) = pair_free other (this other more e) 10 i j a b g
-    none_listed n (cross_gate other more e i j a b g) = pair_free other (this other more e) 11 i j a b g
+    none_listed n (multiblock_fill other more e i j a b g) = pair_free other (this other more e) MultiblockFill i j a b g
+    none_listed n (cross_gate other more e i j a b g) = pair_free other (this other more e) CrossGate i j a b g
     none_listed n (too_short other more e g) =
         true≢false (sym f.room ∙ subst (λ (x : Sheet). has_room (layout_of_sheet x) h w ≡ false) (this other more e) g)
 
   -- THE CLAIM, both ways: accepted is what no row of the table refuses.
-  pub accepted_iff : ((load_of s h w).answer ≡ Accepted → (n : ℕ) → Listed s h w n → ⊥) × (((n : ℕ) → Listed s h w n → ⊥) → (load_of s h w).answer ≡ Accepted)
+  pub accepted_iff : ((load_of s h w).answer ≡ (Ok tt) → (n : ℕ) → Listed s h w n → ⊥) × (((n : ℕ) → Listed s h w n → ⊥) → (load_of s h w).answer ≡ (Ok tt))
   accepted_iff = go says
     where
       go : Says (load_of s h w).answer
-          → ((load_of s h w).answer ≡ Accepted → (n : ℕ) → Listed s h w n → ⊥) × (((n : ℕ) → Listed s h w n → ⊥) → (load_of s h w).answer ≡ Accepted)
+          → ((load_of s h w).answer ≡ (Ok tt) → (n : ℕ) → Listed s h w n → ⊥) × (((n : ℕ) → Listed s h w n → ⊥) → (load_of s h w).answer ≡ (Ok tt))
       go (inl (a, sheet, starts, f)) = (λ e. none_listed sheet starts f, λ free. a)
-      go (inr (r, a, x)) = (λ e. absurd (refused_not r (sym a ∙ e)), λ free. absurd (free r.number x))
+      go (inr (r, a, x)) = (λ e. absurd (differ (sym e ∙ a)), λ free. absurd (free (numbers_of r).number x))
 
   -- A refused answer names a row of the table whose condition holds.
-  pub refused_listed : (r : Refusal) → (load_of s h w).answer ≡ Refused r → Listed s h w r.number
+  pub refused_listed : (r : Refusal) → (load_of s h w).answer ≡ Err r → Listed s h w (numbers_of r).number
   refused_listed r e = go says
     where
-      go : Says (load_of s h w).answer → Listed s h w r.number
-      go (inl f) = absurd (refused_not r (sym e ∙ f.0))
-      go (inr (t, a, x)) = let q : Refused t ≡ Refused r = sym a ∙ e in let z : t ≡ r = cc in subst (λ (u : Refusal). Listed s h w u.number) z x
+      go : Says (load_of s h w).answer → Listed s h w (numbers_of r).number
+      go (inl f) = absurd (differ (sym f.0 ∙ e))
+      go (inr (t, a, x)) =
+          let q : ◌≡◌ {A = Result Unit Refusal} (Err t) (Err r) = sym a ∙ e in let z : t ≡ r = cc in subst (λ (u : Refusal). Listed s h w (numbers_of u).number) z x
 
   -- ---- 9 names the first faulty line (document 02, item 1)
   -- it comes only from row 9: of a sheet that is read, with a fault
@@ -280,22 +279,28 @@ module _ (s h : List ℕ) (w : List Float) where
   of_nine n (too_short sheet starts r g) e = absurd (omega arith)
 
   -- THE CLAIM: the line named is faulty, and no earlier one is.
-  pub nine_names_first : (r : Refusal) → (load_of s h w).answer ≡ Refused r → r.number ≡ 9
-      → (sheet : Sheet) × (starts : Starts) × (sheet_of s ≡ accepted sheet starts) × FirstFaulty sheet r.first
+  pub nine_names_first : (r : Refusal) → (load_of s h w).answer ≡ Err r → (numbers_of r).number ≡ 9
+      → (sheet : Sheet) × (starts : Starts) × (sheet_of s ≡ accepted sheet starts) × FirstFaulty sheet (numbers_of r).first
   unfolding load_of
   nine_names_first r e nine =
-      let f = of_nine r.number (refused_listed r e) nine in
+      let f = of_nine (numbers_of r).number (refused_listed r e) nine in
       let sheet : Sheet = f.0 in
-      let come : Answer = refuse (fault_number sheet) (named_line sheet) 0 in
-      let same : come ≡ Refused r =
+      let come : Result Unit Refusal = refuse (fault_number sheet) (named_line sheet) 0 in
+      let same : come ≡ Err r =
       sym
       (ap (λ (p : Sheets.Outcome). (checked (λ number line. untouched h w number line 0) (λ sheet starts. load_sheet sheet h w) p).answer) f.2
       ∙ ap (λ (b : Bool). (cond b (load_sheet sheet h w) (untouched h w (fault_number sheet) (named_line sheet) 0)).answer) (ne_eqb (fault_number sheet) 0 f.3))
       ∙ e in
-      let number : fault_number sheet ≡ r.number = cc in
-      let line : named_line sheet ≡ r.first = cc in (
+      let is : refusal (fault_number sheet) (named_line sheet) 0 ≡ r = cc in
+      let number : fault_number sheet ≡ 9 =
+      sym (sheet_number (fault_number sheet) (named_line sheet) (positive f.3) (few_faults sheet)) ∙ ap (λ (x : Refusal). (numbers_of x).number) is ∙ nine in
+      let line : named_line sheet ≡ (numbers_of r).first =
+      sym (nine_line (fault_number sheet) (named_line sheet) number) ∙ ap (λ (x : Refusal). (numbers_of x).first) is in (
         sheet,
         f.1,
         f.2,
-        subst (FirstFaulty sheet) line (nine_first sheet (lines_rise s sheet f.1 (alone_read s sheet f.1 f.2).0) (number ∙ nine)),
+        subst (FirstFaulty sheet) line (nine_first sheet (lines_rise s sheet f.1 (alone_read s sheet f.1 f.2).0) number),
       )
+    where
+      positive : {n : ℕ} → (n ≡ 0 → ⊥) → 1 ≤ n
+      positive f = omega arith

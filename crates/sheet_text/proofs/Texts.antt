@@ -1,7 +1,6 @@
 -- THE CLAIM: load accepts the texts of acceptable sheets, where there is room, and nothing else.
 use Prim.Native.Nat.{ℕ, ◌≤◌, ◌<◌}
 use mathlib.Core.Path.{◌≡◌, refl, sym, subst, ◌∙◌}
-use mathlib.Core.Logic.{◌⊎◌, inl, inr}
 use mathlib.Core.Bool.{Bool, true, false, not, ◌||◌, true≢false}
 use mathlib.Core.List.{List, [], ◌∷◌}
 use native.Mathlib.Omega.{arith}
@@ -9,7 +8,6 @@ use borrow.Author.Tests.{eqb-true, eqb-false, eq-eqb}
 use lib.Dec.{eqb}
 use lib.ListN.{length}
 use lib.Ieee.{Float}
-use Rattle.refusal.specs.declared.Answer.TheVariants.{Accepted}
 use Rattle.sheet.specs.declared.Starts.{Starts}
 use Rattle.sheet.specs.Run.{Block}
 use Rattle.sheet.specs.Sheet.{Sheet, accepted, refused, sheet_of}
@@ -19,7 +17,9 @@ use Rattle.sheet.specs.Whole.{Each}
 use Rattle.sheet.proofs.Whole.{read_whole, alone_read, not_accepted}
 use Rattle.sheet_text.proofs.written.Read.{written_read}
 use Rattle.sheet_text.proofs.written.OnlySheet.{read_written}
-use Rattle.layout.specs.declared.Pair.TheVariants.{Refused as Denied}
+use Rattle.std.specs.Prelude.{Err, Ok}
+use Rattle.layout.specs.declared.GateRefusal.{GateRefusal}
+use Rattle.layout.specs.declared.GateRefusal.TheVariants.{MultiblockFill, CrossGate}
 use Rattle.workspace.specs.Loaded.{pair_in, layout_of_sheet}
 use Rattle.workspace.specs.Load.{has_room, load_of}
 use Rattle.sheet_text.specs.Acceptable.{Acceptable}
@@ -36,7 +36,7 @@ use Rattle.sheet_text.specs.Listed.{
   cross_gate,
   too_short,
 }
-use Rattle.sheet_text.proofs.Accepts.{ten_or_eleven, bytes_listed, accepted_iff}
+use Rattle.sheet_text.proofs.Accepts.{bytes_listed, accepted_iff}
 
 -- ---- an e that is not 1, or none
 slope_in : (bs : List Block) → (any_of (λ (b : Block). not (eqb b.e 1)) bs ≡ true → ⊥) → Each (λ (b : Block). b.e ≡ 1) bs
@@ -66,10 +66,10 @@ module _ (s h : List ℕ) (w : List Float) where
   acceptable : ((n : ℕ) → Listed s h w n → ⊥) → (sheet : Sheet) × Acceptable s h w sheet
   acceptable free = go (sheet_of s) refl
     where
-      denied : (sheet : Sheet) (starts : Starts) → sheet_of s ≡ accepted sheet starts → (i j n : ℕ) → i < sheet.counts.k → j < i
-          → pair_in sheet (layout_of_sheet sheet) i j ≡ Denied n → (n ≡ 10) ⊎ (n ≡ 11) → ⊥
-      denied sheet starts e i j n a b q (inl m) = free 10 (multiblock_fill sheet starts e i j a b (rw m at q))
-      denied sheet starts e i j n a b q (inr m) = free 11 (cross_gate sheet starts e i j a b (rw m at q))
+      denied : (sheet : Sheet) (starts : Starts) → sheet_of s ≡ accepted sheet starts → (i j : ℕ) (r : GateRefusal) → i < sheet.counts.k → j < i
+          → pair_in sheet (layout_of_sheet sheet) i j ≡ Err r → ⊥
+      denied sheet starts e i j MultiblockFill a b q = free 10 (multiblock_fill sheet starts e i j a b q)
+      denied sheet starts e i j CrossGate a b q = free 11 (cross_gate sheet starts e i j a b q)
 
       go : (o : Sheets.Outcome) → sheet_of s ≡ o → (sheet : Sheet) × Acceptable s h w sheet
       go (refused number line) e = absurd (free number (bytes_listed s h w number line e))
@@ -90,7 +90,7 @@ module _ (s h : List ℕ) (w : List Float) where
                     intercepts = slope_in sheet.blocks (λ q. free 7 (slopes sheet starts e q));
                     covers = are_equal _ _ (λ q. free 8 (dim_mismatch sheet starts e q));
                     sound = λ x m f. free 9 (faulty sheet starts e x.line (x, m, refl, f));
-                    gate = λ i j n a b q. denied sheet starts e i j n a b q (ten_or_eleven sheet (layout_of_sheet sheet) i j n q);
+                    gate = λ i j r a b q. denied sheet starts e i j r a b q;
                   };
               room = is_true _ (λ q. free 12 (too_short sheet starts e q));
             },
@@ -102,8 +102,8 @@ module _ (s h : List ℕ) (w : List Float) where
     this : {other : Sheet} {more : Starts} → sheet_of s ≡ accepted other more → sheet ≡ other
     this {other} {more} e = let q : accepted sheet starts ≡ accepted other more = sym read ∙ e in cc
 
-    refused_pair : (other : Sheet) → sheet ≡ other → (i j n : ℕ) → i < other.counts.k → j < i → pair_in other (layout_of_sheet other) i j ≡ Denied n → ⊥
-    refused_pair other q = subst (λ (x : Sheet). (i j n : ℕ) → i < x.counts.k → j < i → pair_in x (layout_of_sheet x) i j ≡ Denied n → ⊥) q a.passes.gate
+    refused_pair : (other : Sheet) → sheet ≡ other → (i j : ℕ) (r : GateRefusal) → i < other.counts.k → j < i → pair_in other (layout_of_sheet other) i j ≡ Err r → ⊥
+    refused_pair other q = subst (λ (x : Sheet). (i j : ℕ) (r : GateRefusal) → i < x.counts.k → j < i → pair_in x (layout_of_sheet x) i j ≡ Err r → ⊥) q a.passes.gate
 
     unlisted : (n : ℕ) → Listed s h w n → ⊥
     unlisted n (too_long g) = omega (arith, a.short)
@@ -113,13 +113,13 @@ module _ (s h : List ℕ) (w : List Float) where
     unlisted n (slopes other more e g) = true≢false (sym g ∙ subst (λ (x : Sheet). has_slope x ≡ false) (this e) (no_slope sheet.blocks a.passes.intercepts))
     unlisted n (dim_mismatch other more e g) = g (subst (λ (x : Sheet). x.counts.q ≡ covered_rows x.blocks) (this e) a.passes.covers)
     unlisted n (faulty other more e line g) = let f = subst (λ (x : Sheet). Faulty x line) (sym (this e)) g in a.passes.sound f.0 f.1 f.3
-    unlisted n (multiblock_fill other more e i j x y g) = refused_pair other (this e) i j 10 x y g
-    unlisted n (cross_gate other more e i j x y g) = refused_pair other (this e) i j 11 x y g
+    unlisted n (multiblock_fill other more e i j x y g) = refused_pair other (this e) i j MultiblockFill x y g
+    unlisted n (cross_gate other more e i j x y g) = refused_pair other (this e) i j CrossGate x y g
     unlisted n (too_short other more e g) = true≢false (sym a.room ∙ subst (λ (x : Sheet). has_room (layout_of_sheet x) h w ≡ false) (sym (this e)) g)
 
   -- THE CLAIM, both ways
-  pub accepted_exactly : ((load_of s h w).answer ≡ Accepted → (sheet : Sheet) × Acceptable s h w sheet)
-      × ((sheet : Sheet) → Acceptable s h w sheet → (load_of s h w).answer ≡ Accepted)
+  pub accepted_exactly : ((load_of s h w).answer ≡ (Ok tt) → (sheet : Sheet) × Acceptable s h w sheet)
+      × ((sheet : Sheet) → Acceptable s h w sheet → (load_of s h w).answer ≡ (Ok tt))
   accepted_exactly =
       let i = accepted_iff s h w in (
         λ e. acceptable (i.0 e),

@@ -1,13 +1,13 @@
 -- Which bytes and lent lists load accepts, said without a reader: the text of a sheet in form, of at most 16,777,216 bytes, that no row from 5 to 11 of
 -- document 01's table "Refused because of the input" refuses, and room for its workspace. proofs/Texts.antt shows that load accepts these and no others.
-use Rattle.std.specs.Prelude.{ℕ, ◌≤◌, ◌<◌, ◌≡◌, true, length, Float}
+use Rattle.std.specs.Prelude.{ℕ, ◌≤◌, ◌<◌, ◌≡◌, true, length, Float, Err}
 use mathlib.Core.List.{List, Memᴰ}
 use Rattle.sheet.specs.Run.{Block, Entry}
 use Rattle.sheet.specs.Sheet.{Sheet}
 use Rattle.sheet.specs.Fault.{covered_rows, Fault}
 use Rattle.sheet.specs.Whole.{Each}
 use Rattle.sheet_text.specs.written.Written.{text_of, InForm}
-use Rattle.layout.specs.declared.Pair.TheVariants.{Refused}
+use Rattle.layout.specs.declared.GateRefusal.{GateRefusal}
 use Rattle.workspace.specs.Loaded.{pair_in, layout_of_sheet}
 use Rattle.workspace.specs.Load.{has_room}
 
@@ -26,7 +26,7 @@ pub record Passes (sheet : Sheet) : Type 0 where
   -- 9, "`zz` word ±0, off-diagonal inside a block, or without a mirror of equal bits"
   pub sound : (e : Entry) → Memᴰ e sheet.zz → Fault sheet e → ⊥
   -- 10 and 11, a pair that the gate refuses
-  pub gate : (i j n : ℕ) → i < sheet.counts.k → j < i → pair_in sheet (layout_of_sheet sheet) i j ≡ Refused n → ⊥
+  pub gate : (i j : ℕ) (e : GateRefusal) → i < sheet.counts.k → j < i → pair_in sheet (layout_of_sheet sheet) i j ≡ Err e → ⊥
 
 pub record Acceptable (s h : List ℕ) (w : List Float) (sheet : Sheet) : Type 0 where
   -- 1, "sheet too long"

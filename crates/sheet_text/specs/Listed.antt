@@ -1,11 +1,11 @@
 -- Document 01's table "Refused because of the input", rows 1 to 12, as conditions on the bytes s and the lent lists h and w. Rows 2, 3 and 4 are one
 -- condition, the reader's own first verdict, which has the order of the lines in it; rows 5 to 12 each ask that the reader accepts, and what the row says.
 -- proofs/Accepts.antt shows that load accepts exactly where none holds.
-use Rattle.std.specs.Prelude.{ℕ, ◌≤◌, ◌<◌, ◌≡◌, true, false, List, length, Float}
+use Rattle.std.specs.Prelude.{ℕ, ◌≤◌, ◌<◌, ◌≡◌, true, false, List, length, Float, Err}
 use Rattle.sheet.specs.declared.Starts.{Starts}
 use Rattle.sheet.specs.Sheet.{Sheet, accepted, refused, sheet_of}
 use Rattle.sheet.specs.Fault.{covered_rows, has_slope, Faulty}
-use Rattle.layout.specs.declared.Pair.TheVariants.{Refused}
+use Rattle.layout.specs.declared.GateRefusal.TheVariants.{MultiblockFill, CrossGate}
 use Rattle.workspace.specs.Loaded.{pair_in, layout_of_sheet}
 use Rattle.workspace.specs.Load.{has_room}
 
@@ -26,9 +26,9 @@ pub data Listed (s : List ℕ) (h : List ℕ) (w : List Float) : ℕ → Type 0 
   faulty : (sheet : Sheet) (starts : Starts) → sheet_of s ≡ accepted sheet starts → (line : ℕ) → Faulty sheet line → Listed s h w 9
   -- 10, "k > 2 and a pair above 100,000 cells (multiblock_fill)"
   multiblock_fill : (sheet : Sheet) (starts : Starts) → sheet_of s ≡ accepted sheet starts → (i j : ℕ) → i < sheet.counts.k → j < i
-      → pair_in sheet (layout_of_sheet sheet) i j ≡ Refused 10 → Listed s h w 10
+      → pair_in sheet (layout_of_sheet sheet) i j ≡ Err MultiblockFill → Listed s h w 10
   -- 11, "pair fails the gate (cross_gate)"
   cross_gate : (sheet : Sheet) (starts : Starts) → sheet_of s ≡ accepted sheet starts → (i j : ℕ) → i < sheet.counts.k → j < i
-      → pair_in sheet (layout_of_sheet sheet) i j ≡ Refused 11 → Listed s h w 11
+      → pair_in sheet (layout_of_sheet sheet) i j ≡ Err CrossGate → Listed s h w 11
   -- 12, "workspace too short"
   too_short : (sheet : Sheet) (starts : Starts) → sheet_of s ≡ accepted sheet starts → has_room (layout_of_sheet sheet) h w ≡ false → Listed s h w 12

@@ -5,27 +5,21 @@ use mathlib.Core.Bool.{Bool, true}
 use mathlib.Core.List.{List}
 use mathlib.Core.Option.{none, some}
 use native.Mathlib.Omega.{arith}
-use lib.ListN.{length, replicate, length-replicate}
-use lib.Seq.{take_all}
+use lib.ListN.{length, replicate}
 use lib.Ieee.{Float}
-use Rattle.storage.specs.Runs.{tab}
 use Rattle.storage.specs.Shape.{packed, size_of}
-use Rattle.storage.specs.Part.{store}
-use Rattle.storage.proofs.Cells.{default_at, take_tab}
 use Rattle.rules.specs.Arithmetic.{ieee}
 use Rattle.rules.specs.Sums.{dot}
 use Rattle.rules.specs.Cholesky.{at}
-use Rattle.re_lower.specs.declared.Pivots.{Pivots}
-use Rattle.re_lower.specs.declared.Pivots.TheVariants.{Accepted, Refused as RowRefused}
-use Rattle.re_lower.proofs.Blocks.{accepted_none, refused_some, store_whole}
-use Rattle.block_runs.specs.axpy.Axpy.{run}
+use Rattle.std.specs.Prelude.{Ok, Err}
+use Rattle.re_lower.specs.Lower.{Pivots}
+use Rattle.re_lower.specs.declared.RefusedPivot.{RefusedPivot}
+use Rattle.re_lower.proofs.Blocks.{accepted_none, refused_some}
 use Rattle.re_factor.proofs.Pivotal.{Doubles}
 use Rattle.layout.specs.declared.Layout.{Layout}
 use Rattle.heading_format.specs.Heading.{layout_of, valid_layout}
 use Rattle.refusal.specs.Numbers.{refusal}
 use Rattle.profile.specs.declared.Solution.{Solution}
-use Rattle.profile.specs.declared.Solve.{Solve}
-use Rattle.profile.specs.declared.Solve.TheVariants.{Solved as Done, Refused}
 use Rattle.profile.specs.Finish.{cross_product, v_of, w_of, beta, fixed_rhs, sigma2, solution_of, result_list, refused_row}
 use Rattle.solution_finish.specs.l_x.Factor.{triangle_at, FixedFactored}
 use Rattle.solution_vectors.specs.result_places.Places.{lx_at, result_length_of, Products}
@@ -34,22 +28,16 @@ use Rattle.solution_finish.specs.result_laws.Ready.{Ready}
 use Rattle.solution_finish.proofs.result_laws.Factor.{factor_room, triangle_doubles, same_row, is_ready}
 use Rattle.solution_finish.specs.result_parts.Finished.{Finished, scalars_with}
 use Rattle.solution_finish.specs.Outcome.{finish_of}
-
--- a list cleared whole
-pub cleared : (v v' : List Float) → v' ≡ run 0 (length v) (λ i. ieee.zero) v → v' ≡ replicate (length v) ieee.zero
-cleared v v' e =
-    let z : List Float = replicate (length v) ieee.zero in
-    let n : length z ≡ length v = length-replicate (length v) ieee.zero in
-    let k : tab (length v) (λ i. ieee.zero) ≡ z = sym (take_tab ieee.zero (length v) (λ i. ieee.zero) z (omega arith) (λ i h. default_at ieee.zero (length v) i)) ∙ take_all (length v) z (omega arith) in
-    e ∙ ap (λ (l : List Float). store 0 l v) k ∙ store_whole z v (omega arith)
+use Rattle.std.specs.Prelude.{Result, Ok, Err}
+use Rattle.refusal.specs.declared.Refusal.{Refusal}
 
 -- ---- the two ways out
 module _ (h : List ℕ) (w : List Float) (reml : Bool) (n : ℕ) where
   pub outcome_solved : none ≡ refused_row h w → (s : Solution) (v : List Float) → s ≡ solution_of h w reml → v ≡ result_list h w
-      → (Done s ≡ (finish_of h w reml n).answer) × (v ≡ (finish_of h w reml n).result)
-  outcome_solved k s v a b = rw (← k) (ap Done a, b)
+      → (Ok s ≡ (finish_of h w reml n).answer) × (v ≡ (finish_of h w reml n).result)
+  outcome_solved k s v a b = rw (← k) (ap Ok a, b)
 
-  outcome_refused : (r : ℕ) → some r ≡ refused_row h w → (s : Solve) (v : List Float) → s ≡ Refused (refusal 27 r 0) → v ≡ replicate n ieee.zero
+  outcome_refused : (r : ℕ) → some r ≡ refused_row h w → (s : Result Solution Refusal) (v : List Float) → s ≡ Err (refusal 27 r 0) → v ≡ replicate n ieee.zero
       → (s ≡ (finish_of h w reml n).answer) × (v ≡ (finish_of h w reml n).result)
   outcome_refused r k s v a b = rw (← k) (a, b)
 
@@ -77,14 +65,14 @@ module _ (h : List ℕ) (w : List Float) (y : Layout) (e : y ≡ layout_of h) wh
       d' : FixedFactored (lx_at y) y.p v₁ v₂ p
       d' = subst (λ (k : ℕ). FixedFactored k y.p v₁ v₂ p) is_f d
 
-      pub accept_ready : p ≡ Accepted → Ready h w y v₂
+      pub accept_ready : p ≡ Ok tt → Ready h w y v₂
       accept_ready a = is_ready h w y e v₁ long c.triangle c.solved c.right v₂ (d'.exit a)
 
-      pub none_refused : p ≡ Accepted → none ≡ refused_row h w
+      pub none_refused : p ≡ Ok tt → none ≡ refused_row h w
       none_refused a = sym (accepted_none _ (sym a ∙ d'.answer)) ∙ same_row h w y e v₁ long c.triangle
 
       -- the row of the first pivot that is not above 0
-      pub finish_refused : (r : ℕ) → p ≡ RowRefused r → (reml : Bool) (n : ℕ) → length v₂ ≡ n → (s : Solve) (v : List Float) → s ≡ Refused (refusal 27 r 0)
+      pub finish_refused : (x : RefusedPivot) → p ≡ Err x → (reml : Bool) (n : ℕ) → length v₂ ≡ n → (s : Result Solution Refusal) (v : List Float) → s ≡ Err (refusal 27 x.row 0)
           → v ≡ replicate (length v₂) ieee.zero → (s ≡ (finish_of h w reml n).answer) × (v ≡ (finish_of h w reml n).result)
-      finish_refused r a reml n m s v q z =
-          outcome_refused h w reml n r (sym (refused_some _ r (sym a ∙ d'.answer)) ∙ same_row h w y e v₁ long c.triangle) s v q (z ∙ ap (λ (i : ℕ). replicate i ieee.zero) m)
+      finish_refused x a reml n m s v q z =
+          outcome_refused h w reml n x.row (sym (refused_some _ x.row (sym a ∙ d'.answer)) ∙ same_row h w y e v₁ long c.triangle) s v q (z ∙ ap (λ (i : ℕ). replicate i ieee.zero) m)

@@ -3,7 +3,7 @@ ghost use Rattle.std.specs.Prelude.{◌+◌, ◌≤◌, length};
 ghost use Rattle.storage.specs.Shape.{packed, size_of};
 ghost use Rattle.solution_finish.specs.beta.Beta.{Effects};
 
-use block_runs::run_copies;
+use block_runs::runs;
 use cross_matvec::column_sums;
 use re_factor::block_solve;
 use storage::Block;
@@ -20,10 +20,10 @@ pub fn solve_beta(v: &mut [f64], off: usize, p: usize) -> f64
         rows: p,
         cols: p,
     };
-    run_copies::read(&mut b, p, v, 0);
+    runs::copy(&mut b, 0, p, v, 0);
     block_solve::forward(&mut b, 0, v, factor);
     block_solve::backward(&mut b, 0, v, factor);
     let r = column_sums::one(&b, 0, p, v, 0);
-    run_copies::put(v, 0, p, 0, p, &b);
+    runs::copy(v, 0, p, &b, 0);
     r
 }

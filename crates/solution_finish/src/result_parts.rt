@@ -3,7 +3,6 @@
 ghost use Rattle.std.specs.Prelude.{◌≡◌, length};
 ghost use Rattle.storage.specs.Runs.{start, triangle};
 ghost use Rattle.storage.specs.Part.{part};
-ghost use Rattle.heading_format.specs.Fits.{Fits};
 ghost use Rattle.profile.specs.Finish.{flattened, fixed_factor};
 ghost use Rattle.solution_vectors.specs.result_places.Places.{lx_at, result_length_of};
 ghost use Rattle.solution_finish.specs.result_laws.Ready.{Ready};
@@ -11,46 +10,39 @@ ghost use Rattle.solution_finish.specs.result_parts.Finished.{Finished, scalars_
 
 use crate::{b_vector, beta, u_vector};
 use deviance::{deviance_tail, deviance_value};
-use layout::Layout;
 use profile::Solution;
+use solution_vectors::lent::Workspace;
 use solution_vectors::result_places;
 use storage::Block;
 
 // beta, u, then b. The answer is beta times its right side.
-pub fn make_parts(layout: Layout, heading: &[u32], doubles: &[f64], v: &mut [f64]) -> f64
-    requires { Fits layout heading.now (length doubles.now) × Ready heading.now doubles.now layout v.old }
-    ensures { Finished heading.now doubles.now layout v.new result }
+pub fn make_parts(lent: Workspace, v: &mut [f64]) -> f64
+    requires { Ready lent.heading.now lent.doubles.now lent.layout v.old }
+    ensures { Finished lent.entry.heading.now lent.entry.doubles.now lent.entry.layout v.new result }
 {
-    let p = layout.p as usize;
-    let q = layout.q as usize;
-    let factor = result_places::l_x_at(layout);
-    let response = result_places::w_at(layout, p);
+    let p = lent.layout.p as usize;
+    let q = lent.layout.q as usize;
+    let factor = result_places::l_x_at(lent.layout);
+    let response = result_places::w_at(lent.layout, p);
     let r = beta::solve_beta(v, factor, p);
     u_vector::write_u(v, p + q, response, response + q, q, p);
-    b_vector::write_b(layout, heading, doubles, v);
+    b_vector::write_b(lent, v);
     r
 }
 
 // sigma2 = r2 / d, which is not tested, and the deviance with it.
-pub fn scalars(
-    layout: Layout,
-    heading: &[u32],
-    doubles: &[f64],
-    v: &[f64],
-    reml: bool,
-    r2: f64,
-) -> Solution
-    requires fits { Fits layout heading.now (length doubles.now) × (length v.now ≡ result_length_of layout) }
-    requires v_value { part (lx_at layout) (start triangle layout.p) v.now ≡ flattened (fixed_factor heading.now doubles.now) }
-    ensures { result ≡ scalars_with heading.now doubles.now reml r2 }
+pub fn scalars(lent: Workspace, v: &[f64], reml: bool, r2: f64) -> Solution
+    requires long { length v.now ≡ result_length_of lent.layout }
+    requires v_value { part (lx_at lent.layout) (start triangle lent.layout.p) v.now ≡ flattened (fixed_factor lent.heading.now lent.doubles.now) }
+    ensures { result ≡ scalars_with lent.entry.heading.now lent.entry.doubles.now reml r2 }
 {
-    let d = deviance_value::freedom(layout, reml);
+    let d = deviance_value::freedom(lent.layout, reml);
     let sigma2 = r2 / d;
-    let logdet = deviance_tail::log_determinant(layout, doubles);
+    let logdet = deviance_tail::log_determinant(lent.layout, lent.doubles);
     let factor = Block {
-        at: result_places::l_x_at(layout),
-        rows: layout.p as usize,
-        cols: layout.p as usize,
+        at: result_places::l_x_at(lent.layout),
+        rows: lent.layout.p as usize,
+        cols: lent.layout.p as usize,
     };
     let deviance = deviance_value::value(v, factor, d, sigma2, logdet, reml);
     Solution { deviance, sigma2 }

@@ -10,11 +10,9 @@ fn row_sum(v: &[f64], from: usize, q: usize, p: usize) -> f64
 {
     let mut s = 0.0;
     let mut at = from;
-    let mut j = 0;
-    while j < p {
+    for j in 0..p {
         s = s + v[at] * v[j];
         at += q;
-        j += 1;
     }
     s
 }
@@ -24,9 +22,7 @@ pub fn write_u(v: &mut [f64], u: usize, wy: usize, first: usize, q: usize, p: us
     requires { (p ≤ u) × (u + q ≤ wy) × (wy + q ≤ first) × (first + p * q ≤ length v.old) }
     ensures { v.new ≡ offsets_left u wy first q p v.old }
 {
-    let mut i = 0;
-    while i < q {
+    for i in 0..q {
         v[u + i] = v[wy + i] - row_sum(v, first + i, q, p);
-        i += 1;
     }
 }

@@ -2,6 +2,7 @@
 // specs/Vectors.antt says what the solves make of it, proofs/Vectors.antt that blocks stored one by one are the vector.
 #![tactic(auto)]
 
+pub mod lent;
 pub mod result_places;
 pub mod solve_laws;
 

@@ -1,14 +1,14 @@
 // The digits of a root from a table of the inverse root: the upper 32, then the lower 21, with the exact remainder of each.
 
-ghost use Rattle.std.specs.Prelude.{◌≡◌, ◌+◌, ◌-◌, ◌*◌, ◌^◌, ◌<◌, ◌≤◌};
+ghost use Rattle.std.specs.Prelude.{◌≡◌, ◌+◌, ◌-◌, ◌*◌, ◌^◌, ◌<◌, ◌≤◌, IfSome};
 ghost use Rattle.square_root.specs.whole_root.Whole.{rounded};
 
-use crate::{bisection, rounding};
+use crate::whole_root::Radicand;
 
 // The inverse root of u = 1 to 4 is a - b*d + c*d^2 - e*d^3 + f*d^4, in units of 2^-31, where i numbers 16 equal stretches
 // from 1 to 2 and 16 from 2 to 4, and d is how far u is into its stretch, from 0 to 1: the values at the Chebyshev nodes,
 // a lower by 5 (tools/inverse_root.py). Nothing is proved of that: a bad row would cost time and not the result.
-// The rows are a match, which compiles to a table in read-only memory.
+// The rows are a match, which compiles to a table in read-only memory, and whose bounds the check finds alone: the proof of an array would repeat it.
 // Here a * 2^32 + b.
 fn line(i: u64) -> u64
     ensures { (2 ^ 62 ≤ result) × (result < 2 ^ 63) }
@@ -104,37 +104,46 @@ pub fn inverse(q: u64, b: u64) -> u64
     l / 4294967296 - l % 67108864 * d / 4294967296 + bend * dd / 4294967296
 }
 
-// The lower 21 digits c from what the upper digits s leave: rest + g * g is m * 2^52, where g = s * 2^21 + c.
-fn lower(m: u64, v: u64, s: u64, r: u64) -> u64
-    requires { (2 ^ 52 ≤ m) × (m ≤ 2 ^ 54 - 2) × (v < 2 ^ 32 - 4) × (s < 2 ^ 32) × (r < 2 ^ 38) × (r + s * s ≡ m * 1024) }
-    ensures { result ≡ rounded (m * 2 ^ 52) }
+// The lower 21 digits c from what the upper digits s leave: rest + g * g is the radicand, where g = s * 2^21 + c. checked_sub costs a twentieth of
+// the time of a root here.
+fn lower(x: Radicand, v: u64, s: u64, r: u64) -> Option<u64>
+    requires { (v < 2 ^ 32 - 4) × (s < 2 ^ 32) × (r < 2 ^ 38) × (r + s * s ≡ x.m * 1024) }
+    ensures { IfSome result (λ g. g ≡ rounded (x.m * 2 ^ 52)) }
 {
     let c = r / 256 * (v + 4) / 17179869184;
     if s * c > r * 1048576 {
-        return bisection::bisected(m);
+        return None;
     }
     let t = r * 1048576 - s * c;
-    if t >= 1099511627776 {
-        return bisection::bisected(m);
+    if t >= 1099511627776 || c * c > t * 4194304 {
+        return None;
     }
-    if c * c > t * 4194304 {
-        return bisection::bisected(m);
-    }
-    rounding::from_remainder(m, s * 2097152 + c, t * 4194304 - c * c)
+    x.root_from_remainder(s * 2097152 + c, t * 4194304 - c * c)
 }
 
-// The rounded root of m * 2^52, given about 2^31 over the root of m / 2^52: the root's upper 32 digits s leave r.
-pub fn root_from_inverse(m: u64, v: u64) -> u64
-    requires { (2 ^ 52 ≤ m) × (m ≤ 2 ^ 54 - 2) × (v < 2 ^ 32 - 4) }
-    ensures { result ≡ rounded (m * 2 ^ 52) }
+// The rounded root, given about 2^31 over the root of m / 2^52: the root's upper 32 digits s leave r. None where v is too far off.
+fn root_from_inverse(x: Radicand, v: u64) -> Option<u64>
+    requires { v < 2 ^ 32 - 4 }
+    ensures { IfSome result (λ g. g ≡ rounded (x.m * 2 ^ 52)) }
 {
-    let s = m / 4194304 * v / 1073741824 % 4294967296;
-    if s * s > m * 1024 {
-        return bisection::bisected(m);
+    let s = x.m / 4194304 * v / 1073741824 % 4294967296;
+    if s * s > x.m * 1024 {
+        return None;
     }
-    let r = m * 1024 - s * s;
+    let r = x.m * 1024 - s * s;
     if r >= 274877906944 {
-        return bisection::bisected(m);
+        return None;
     }
-    lower(m, v, s, r)
+    lower(x, v, s, r)
+}
+
+// The rounded root, given about 2^31 over the root of m / 2^52.
+pub fn root_near(x: Radicand, v: u64) -> u64
+    requires { v < 2 ^ 32 - 4 }
+    ensures { result ≡ rounded (x.m * 2 ^ 52) }
+{
+    match root_from_inverse(x, v) {
+        Some(s) => s,
+        None => x.root(),
+    }
 }

@@ -1,10 +1,8 @@
 // The square root of a double: the nearest double, by whole-number squares (document 01, Record 4).
 #![tactic(auto)]
 
-mod bisection;
 mod inverse_table;
 mod parts;
-mod rounding;
 mod whole_root;
 
 ghost use Rattle.std.specs.Prelude.{◌≡◌};
@@ -20,7 +18,7 @@ pub fn sqrt(x: f64) -> f64
     match double::classify(x) {
         Kind::Positive(p) => parts::of_parts(p),
         Kind::Zero => x,
-        Kind::Negative => 0.0 / 0.0,
+        Kind::Negative => f64::NAN,
         Kind::PlusInfinity => x,
         Kind::NotANumber => x,
     }

@@ -10,7 +10,7 @@ use crate::step_result::StepResult;
 use crate::{factor_step, step_check};
 use heading_format::Progress;
 use layout::Layout;
-use refusal::Answer;
+use refusal::Refusal;
 use step_blocks::{solve_block, subtract_block};
 use update::StepName;
 
@@ -30,7 +30,7 @@ fn apply_subtract(
     subtract_block::subtract(layout, heading, doubles, i, j, x);
     let place = step_check::target_place(i, j);
     StepResult {
-        answer: Answer::Accepted,
+        answer: Ok(()),
         progress: progress.mark(place, x + 1),
     }
 }
@@ -50,7 +50,7 @@ fn apply_solve(
     solve_block::solve(layout, heading, doubles, i, j);
     let place = step_check::target_place(i, j);
     StepResult {
-        answer: Answer::Accepted,
+        answer: Ok(()),
         progress: progress.mark(place, j + 1),
     }
 }

@@ -9,8 +9,7 @@ use crate::{step_check, step_result};
 use heading::idle_progress;
 use heading_format::Progress;
 use layout::Layout;
-use re_lower::Pivots;
-use refusal::{Answer, Refusal};
+use refusal::Refusal;
 use step_blocks::factor_block;
 
 // C(j): its own block, the sum, and one step more; or, where a pivot is refused, the working doubles +0.0 and no update.
@@ -25,22 +24,21 @@ pub fn apply_factor(
     ensures { Applied layout progress heading.now doubles.old doubles.new (C j) result }
 {
     match factor_block::factor(layout, heading, doubles, j) {
-        Pivots::Refused(r) => {
+        Err(refused) => {
             step_result::clear_working(layout, doubles);
             let idle = idle_progress::idle(layout.k);
             StepResult {
-                answer: Answer::Refused(Refusal {
-                    number: 26,
-                    first: j,
-                    second: r as u64,
+                answer: Err(Refusal::PivotRefused {
+                    block: j,
+                    row: refused.row as u64,
                 }),
                 progress: idle,
             }
         }
-        Pivots::Accepted => {
+        Ok(()) => {
             let place = step_check::target_place(j, j);
             StepResult {
-                answer: Answer::Accepted,
+                answer: Ok(()),
                 progress: progress.mark(place, j + 1),
             }
         }

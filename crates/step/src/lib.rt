@@ -17,11 +17,11 @@ ghost use Rattle.update.specs.Calls.{refused_by, on_pivot, step_of};
 ghost use Rattle.heading_format.specs.Fits.{Fits};
 
 use heading::writer;
-use refusal::{Answer, Refusal};
+use refusal::Refusal;
 use update::StepName;
 
 // A step that is ready, on a workspace: the moved progress is written into its heading.
-pub fn apply_ready(heading: &mut [u32], doubles: &mut [f64], name: StepName) -> Answer
+pub fn apply_ready(heading: &mut [u32], doubles: &mut [f64], name: StepName) -> Result<(), Refusal>
     requires { Fits (layout_of heading.old) heading.old (length doubles.old) × IsStep (layout_of heading.old).k (step_of_name name) × (1 ≤ (progress_of heading.old).left) }
     ensures { record { answer = result; left = workspace heading.new doubles.new } ≡ on_pivot heading.old doubles.old (refused_by heading.old doubles.old (step_of_name name)) (step_of_name name) }
 {
@@ -33,34 +33,23 @@ pub fn apply_ready(heading: &mut [u32], doubles: &mut [f64], name: StepName) -> 
 }
 
 // A step of a workspace: 22, 21, 23, 24; else it is taken.
-fn step_valid(heading: &mut [u32], doubles: &mut [f64], name: StepName) -> Answer
+fn step_valid(heading: &mut [u32], doubles: &mut [f64], name: StepName) -> Result<(), Refusal>
     requires { valid_heading heading.old (length doubles.old) ≡ true }
     ensures { record { answer = result; left = workspace heading.new doubles.new } ≡ step_of heading.old doubles.old (step_of_name name) }
 {
     let layout = heading::layout(heading);
     let progress = heading::progress(heading);
-    let number = step_check::fault(layout.k, progress, name);
-    if number == 0 {
-        return apply_ready(heading, doubles, name);
-    }
-    Answer::Refused(Refusal {
-        number,
-        first: 0,
-        second: 0,
-    })
+    step_check::check(layout.k, progress, name)?;
+    apply_ready(heading, doubles, name)
 }
 
 // A step (Record 4). Any numbers, doubles and name may be given; refused with 20, 22, 21, 23 or 24 all is left untouched, with 26 the working doubles are
 // +0.0 and there is no update.
-pub fn step(heading: &mut [u32], doubles: &mut [f64], name: StepName) -> Answer
+pub fn step(heading: &mut [u32], doubles: &mut [f64], name: StepName) -> Result<(), Refusal>
     ensures { (meaning result ≡ meaning (step_of heading.old doubles.old (step_of_name name)).answer) × (workspace heading.new doubles.new ≡ (step_of heading.old doubles.old (step_of_name name)).left) }
 {
-    if heading_check::is_valid_heading(heading, doubles.len()) {
-        return step_valid(heading, doubles, name);
+    if !heading_check::is_valid_heading(heading, doubles.len()) {
+        return Err(Refusal::NoWorkspace);
     }
-    Answer::Refused(Refusal {
-        number: 20,
-        first: 0,
-        second: 0,
-    })
+    step_valid(heading, doubles, name)
 }

@@ -10,6 +10,7 @@ ghost use Rattle.step.specs.step_check.Faults.{name_fault, fault_of};
 ghost use Rattle.heading_format.specs.Parts.{most_targets};
 
 use heading_format::{Progress, State};
+use refusal::Refusal;
 use update::StepName;
 
 // The place of target (i, j) among all, which stand by rows.
@@ -74,32 +75,30 @@ pub fn forerunners_done(progress: Progress, name: StepName) -> bool
     }
 }
 
-// The first of 21, 23 and 24 that a name meets, 0 where the step is ready.
-fn name_fault(k: u64, progress: Progress, name: StepName) -> u64
+// The first of 21, 23 and 24 that a name meets.
+fn check_name(k: u64, progress: Progress, name: StepName) -> Result<(), Refusal>
     requires { k ≤ 8 }
     ensures { result ≡ name_fault (is_step k (step_of_name name)) (done (stage_of progress) (step_of_name name)) (all (done (stage_of progress)) (forerunners (step_of_name name))) }
 {
-    if is_step(k, name) {
-        if is_done(progress, name) {
-            return 23;
-        }
-        if forerunners_done(progress, name) {
-            return 0;
-        }
-        return 24;
+    if !is_step(k, name) {
+        return Err(Refusal::NoSuchStep);
     }
-    21
+    if is_done(progress, name) {
+        return Err(Refusal::StepDone);
+    }
+    if !forerunners_done(progress, name) {
+        return Err(Refusal::ForerunnerMissing);
+    }
+    Ok(())
 }
 
 // The same after 22: no update is under way.
-pub fn fault(k: u64, progress: Progress, name: StepName) -> u64
+pub fn check(k: u64, progress: Progress, name: StepName) -> Result<(), Refusal>
     requires { k ≤ 8 }
     ensures { result ≡ fault_of k progress (step_of_name name) }
 {
-    let state = progress.state;
-    match state {
-        State::Idle => 22,
-        State::UnderWay => name_fault(k, progress, name),
-        State::Finished => 22,
+    match progress.state {
+        State::UnderWay => check_name(k, progress, name),
+        State::Idle | State::Finished => Err(Refusal::NoUpdate),
     }
 }

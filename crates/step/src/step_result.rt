@@ -6,12 +6,12 @@ ghost use Rattle.heading_format.specs.Fits.{Room};
 use block_places::places;
 use heading_format::Progress;
 use layout::Layout;
-use refusal::Answer;
+use refusal::Refusal;
 
 // What a step answers, and the progress that it hands back.
 #[derive(Clone, Copy)]
 pub struct StepResult {
-    pub answer: Answer,
+    pub answer: Result<(), Refusal>,
     pub progress: Progress,
 }
 
@@ -21,10 +21,6 @@ pub fn clear_working(layout: Layout, doubles: &mut [f64])
     ensures { doubles.new ≡ cleared layout doubles.old }
 {
     let from = places::theta_at(layout);
-    let n = places::working_end(layout) - from;
-    let mut i = 0;
-    while i < n {
-        doubles[from + i] = 0.0;
-        i += 1;
-    }
+    let end = places::working_end(layout);
+    doubles[from..end].fill(0.0);
 }

@@ -11,11 +11,11 @@ ghost use Rattle.step_blocks.specs.factor_logs.Factors.{BlockFactored, Factors};
 use crate::factor_logs;
 use block_places::block_kinds;
 use layout::{FactorKind, Layout};
-use re_lower::Pivots;
+use re_lower::RefusedPivot;
 use storage::Block;
 
 // C on block b, by its kind.
-fn factor_block(doubles: &mut [f64], kind: FactorKind, b: Block) -> Pivots
+fn factor_block(doubles: &mut [f64], kind: FactorKind, b: Block) -> Result<(), RefusedPivot>
     requires { Lies (length doubles.old) (as_factor kind b) × (kind ≡ Packed → b.rows ≤ 316) }
     ensures { BlockFactored (as_factor kind b) doubles.old doubles.new result }
 {
@@ -26,18 +26,18 @@ fn factor_block(doubles: &mut [f64], kind: FactorKind, b: Block) -> Pivots
 }
 
 // C(j): its own block and the running sum, unless a pivot is refused; then its own block at most.
-pub fn factor(layout: Layout, heading: &[u32], doubles: &mut [f64], j: u64) -> Pivots
+pub fn factor(
+    layout: Layout,
+    heading: &[u32],
+    doubles: &mut [f64],
+    j: u64,
+) -> Result<(), RefusedPivot>
     requires { Fits layout heading.now (length doubles.old) × IsStep layout.k (C j) }
     ensures { Factors layout heading.now doubles.old doubles.new j result }
 {
     let b = block_places::block(layout, j, j);
     let kind = block_kinds::factor_kind(layout, j);
-    let p = factor_block(doubles, kind, b);
-    match p {
-        Pivots::Refused(r) => Pivots::Refused(r),
-        Pivots::Accepted => {
-            factor_logs::add_logs(layout, doubles, kind, b, j);
-            Pivots::Accepted
-        }
-    }
+    factor_block(doubles, kind, b)?;
+    factor_logs::add_logs(layout, doubles, kind, b, j);
+    Ok(())
 }

@@ -9,57 +9,40 @@ ghost use Rattle.std.specs.Prelude.{◌≤◌};
 use std::io;
 use std::io::{ErrorKind, Read, Write};
 
-// A line's word; more is false behind the last line.
-#[derive(Clone, Copy)]
-pub struct Word {
-    pub more: bool,
-    pub word: u64,
-}
-
-// A byte's value, so that a sum of it fits.
-fn wide(b: u8) -> u64 {
-    b as u64
-}
-
 // The word that a line's digits spell. The letters have 6 in their upper half and lie ten less one behind the digits.
 fn spelt(line: &[u8; 17]) -> u64 {
-    let mut w: u64 = 0;
-    let mut i: usize = 0;
-    while i < 16 {
-        let b = wide(line[i]);
-        w = w % 0x1000000000000000 * 16 + (b % 16 + b / 64 * 9) % 16;
-        i += 1;
-    }
-    w
-}
-
-// The next line. Where the list ends before or within it, what is missing counts as bytes 0.
-pub fn read_word(list: &mut impl Read) -> io::Result<Word> {
-    let mut line = [0u8; 17];
-    let more = match list.read_exact(&mut line) {
-        Ok(()) => true,
-        Err(e) if e.kind() == ErrorKind::UnexpectedEof => false,
-        Err(e) => return Err(e),
-    };
-    Ok(Word {
-        more,
-        word: spelt(&line),
+    line[..16].iter().fold(0, |w, b| {
+        let b = u64::from(*b);
+        w % 0x1000000000000000 * 16 + (b % 16 + b / 64 * 9) % 16
     })
 }
 
-// Fills m from its word `from` to before `end` by lines.
-pub fn read_words(
-    list: &mut impl Read,
-    m: &mut [u64; 65536],
-    from: usize,
-    end: usize,
-) -> io::Result<()>
-    requires { end ≤ 65536 }
-{
-    let mut i = from;
-    while i < end {
-        m[i] = read_word(list)?.word;
-        i += 1;
+// Whether the list has a line more. Where it ends before or within that, the bytes that are missing stay as they were.
+fn read_line(list: &mut impl Read, line: &mut [u8; 17]) -> io::Result<bool> {
+    match list.read_exact(line) {
+        Ok(()) => Ok(true),
+        Err(e) if e.kind() == ErrorKind::UnexpectedEof => Ok(false),
+        Err(e) => Err(e),
+    }
+}
+
+// The next line's word, if there is one.
+pub fn next_word(list: &mut impl Read) -> io::Result<Option<u64>> {
+    let mut line = [0u8; 17];
+    Ok(read_line(list, &mut line)?.then(|| spelt(&line)))
+}
+
+// The word of a line that has to be there. Where the list ends before or within it, what is missing counts as bytes 0.
+pub fn read_word(list: &mut impl Read) -> io::Result<u64> {
+    let mut line = [0u8; 17];
+    read_line(list, &mut line)?;
+    Ok(spelt(&line))
+}
+
+// Fills m by lines.
+pub fn read_words(list: &mut impl Read, m: &mut [u64]) -> io::Result<()> {
+    for word in m.iter_mut() {
+        *word = read_word(list)?;
     }
     Ok(())
 }
@@ -68,10 +51,7 @@ pub fn read_words(
 pub fn size(x: u64, most: usize) -> usize
     ensures { result ≤ most }
 {
-    if x > most as u64 {
-        return most;
-    }
-    x as usize
+    x.min(most as u64) as usize
 }
 
 // A blank and a number.

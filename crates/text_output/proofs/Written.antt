@@ -1,12 +1,12 @@
 -- What is written from a place on, and where it ends: one byte, a text, and one text behind another.
-use Prim.Native.Nat.{ℕ, ◌+◌, ◌≤◌, ◌<◌}
+use Prim.Native.Nat.{ℕ, ◌+◌, ◌≤◌}
 use mathlib.Core.Path.{◌≡◌, sym, ap, ap₂, ◌∙◌}
-use mathlib.Core.List.{List, [], ◌∷◌, ◌++◌}
+use mathlib.Core.List.{List, [], ◌∷◌, ◌++◌, append_assoc}
 use native.Mathlib.Nat.{add-zero}
-use native.Mathlib.Numerals.{add-one}
 use native.Mathlib.Omega.{arith}
-use lib.ListN.{length, get_or, take, set, length-append}
-use lib.Seq.{take-suc, take_all, length-take-le}
+use lib.ListN.{length, take, drop, set, length-append}
+use lib.Seq.{drop-drop}
+use borrow.Rule.Slice.PartMut.{put_mid}
 use Rattle.storage.specs.Part.{store}
 use Rattle.text_output.specs.Written.{Put}
 use Rattle.storage.proofs.Parts.{length_store, store_nil, store_one, store_more}
@@ -30,16 +30,10 @@ byte_put at b w fits =
     ap₂ (λ (v : List ℕ) (k : ℕ). set v k b) (sym (store_nil at w)) (sym (add-zero at))
     ∙ store_one at [] w (omega arith) b (omega arith)
 
--- ---- a text, of which i bytes are written: none, one more, and all
-pub text_none : (at : ℕ) (l w : List ℕ) → w ≡ store at (take 0 l) w
-text_none at l w = sym (store_nil at w)
-
-pub text_more : (at : ℕ) (l w₀ : List ℕ) (i : ℕ) (w : List ℕ) → at + length l ≤ length w₀ → i < length l → w ≡ store at (take i l) w₀ → set w (at + i) (get_or l i 0) ≡ store at (take (i + 1) l) w₀
-text_more at l w₀ i w fits more so =
-    let e : length (take i l) ≡ i = length-take-le i l (omega arith) in
-    ap₂ (λ (v : List ℕ) (k : ℕ). set v (at + k) (get_or l i 0)) so (sym e)
-    ∙ store_one at (take i l) w₀ (omega (arith, e)) (get_or l i 0) (omega (arith, e))
-    ∙ ap (λ (m : List ℕ). store at m w₀) (sym (take-suc l i 0 more) ∙ ap (λ (k : ℕ). take k l) (sym (add-one i)))
-
-pub text_all : (at : ℕ) (l w₀ : List ℕ) (i : ℕ) (w : List ℕ) → length l ≤ i → w ≡ store at (take i l) w₀ → w ≡ store at l w₀
-text_all at l w₀ i w h so = so ∙ ap (λ (m : List ℕ). store at m w₀) (take_all i l h)
+-- a text that is copied into its place
+pub copy_put : (at n : ℕ) (l m w : List ℕ) → n ≡ length l → m ≡ l → put_mid at n w m ≡ store at l w
+unfolding store
+copy_put at n l m w e f =
+    ap₂ (λ (k : ℕ) (v : List ℕ). take at w ++ (v ++ drop k (drop at w))) e f
+    ∙ ap (λ (v : List ℕ). take at w ++ (l ++ v)) (drop-drop (length l) at w)
+    ∙ sym (append_assoc (take at w) l (drop (at + length l) w))

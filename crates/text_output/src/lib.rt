@@ -28,15 +28,13 @@ pub fn put_text(out: &mut [u8], at: usize, text: &[u8]) -> usize
     requires { at + length text.now ≤ length out.old }
     ensures { (result ≡ at + length text.now) × (out.new ≡ store at text.now out.old) }
 {
-    let mut i: usize = 0;
-    while i < text.len() {
-        out[at + i] = text[i];
-        i += 1;
-    }
-    at + i
+    let end = at + text.len();
+    out[at..end].copy_from_slice(text);
+    end
 }
 
-// A number in decimal, where there is room for just its digits: those of its tenth, and the last.
+// A number in decimal, where there is room for just its digits: those of its tenth, and the last. A `write!` into lent bytes promises what it
+// wrote only where it answers Ok, and not that it does, so the digits are made here.
 fn put_digits(out: &mut [u8], at: usize, x: u64) -> usize
     requires { at + length (number x) ≤ length out.old }
     ensures { (result ≡ at + length (number x)) × (out.new ≡ store at (number x) out.old) }

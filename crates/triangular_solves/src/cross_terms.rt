@@ -2,7 +2,6 @@
 // another block of it, at the places of a layout. What is left is defined in the crate solution_vectors.
 ghost use Rattle.std.specs.Prelude.{◌≡◌, true, ◌+◌, ◌≤◌, ◌<◌, length, drop};
 ghost use Rattle.heading_format.specs.Heading.{valid_layout};
-ghost use Rattle.heading_format.specs.Fits.{Fits};
 ghost use Rattle.workspace.specs.Loaded.{row_start};
 ghost use Rattle.block_places.specs.Working.{working};
 ghost use Rattle.solution_vectors.specs.Vectors.{subtracted_forward, subtracted_backward};
@@ -11,6 +10,7 @@ ghost use Rattle.heading_format.specs.Parts.{heading_length};
 use cross_matvec::{matvec_t, sparse_matvec, sparse_matvec_t};
 use heading_format::parts;
 use layout::Layout;
+use solution_vectors::lent::Workspace;
 use storage::Block;
 
 // A cross block, and where the blocks of the vector start that have its rows and its columns.
@@ -42,45 +42,29 @@ fn entry_rows(heading: &[u32]) -> &[u32]
 }
 
 // Going forward: block i less cross block (i, j) times block j.
-pub fn subtract_forward(
-    layout: Layout,
-    heading: &[u32],
-    doubles: &[f64],
-    v: &mut [f64],
-    from: usize,
-    i: u64,
-    j: u64,
-)
-    requires { Fits layout heading.now (length doubles.now) × (j < i) × (i < layout.k) × (from + layout.q ≤ length v.old) }
-    ensures { v.new ≡ subtracted_forward heading.now doubles.now layout from i j v.old }
+pub fn subtract_forward(lent: Workspace, v: &mut [f64], from: usize, i: u64, j: u64)
+    requires { (j < i) × (i < lent.layout.k) × (from + lent.layout.q ≤ length v.old) }
+    ensures { v.new ≡ subtracted_forward lent.entry.heading.now lent.entry.doubles.now lent.entry.layout from i j v.old }
 {
-    let p = pair_at(layout, v, from, i, j);
-    if layout.sparse {
-        let rows = entry_rows(heading);
-        sparse_matvec::sparse_matvec_sub(v, p.rows, p.cols, doubles, p.a, rows);
+    let p = pair_at(lent.layout, v, from, i, j);
+    if lent.layout.sparse {
+        let rows = entry_rows(lent.heading);
+        sparse_matvec::sparse_matvec_sub(v, p.rows, p.cols, lent.doubles, p.a, rows);
         return;
     }
-    cross_matvec::matvec_sub(v, p.rows, p.cols, doubles, p.a);
+    cross_matvec::matvec_sub(v, p.rows, p.cols, lent.doubles, p.a);
 }
 
 // Going backward: block i less the transpose of cross block (j, i) times block j.
-pub fn subtract_backward(
-    layout: Layout,
-    heading: &[u32],
-    doubles: &[f64],
-    v: &mut [f64],
-    from: usize,
-    j: u64,
-    i: u64,
-)
-    requires { Fits layout heading.now (length doubles.now) × (i < j) × (j < layout.k) × (from + layout.q ≤ length v.old) }
-    ensures { v.new ≡ subtracted_backward heading.now doubles.now layout from j i v.old }
+pub fn subtract_backward(lent: Workspace, v: &mut [f64], from: usize, j: u64, i: u64)
+    requires { (i < j) × (j < lent.layout.k) × (from + lent.layout.q ≤ length v.old) }
+    ensures { v.new ≡ subtracted_backward lent.entry.heading.now lent.entry.doubles.now lent.entry.layout from j i v.old }
 {
-    let p = pair_at(layout, v, from, j, i);
-    if layout.sparse {
-        let rows = entry_rows(heading);
-        sparse_matvec_t::sparse_matvec_t_sub(v, p.cols, p.rows, doubles, p.a, rows);
+    let p = pair_at(lent.layout, v, from, j, i);
+    if lent.layout.sparse {
+        let rows = entry_rows(lent.heading);
+        sparse_matvec_t::sparse_matvec_t_sub(v, p.cols, p.rows, lent.doubles, p.a, rows);
         return;
     }
-    matvec_t::matvec_t_sub(v, p.cols, p.rows, doubles, p.a);
+    matvec_t::matvec_t_sub(v, p.cols, p.rows, lent.doubles, p.a);
 }

@@ -8,7 +8,6 @@ use lib.ListN.{replicate, drop}
 use lib.Ieee.{Float, nan}
 use Rattle.step_order.specs.Steps.{Step, C, T, rust_order, S}
 use Rattle.layout.specs.declared.Layout.{Layout}
-use Rattle.refusal.specs.declared.Answer.TheVariants.{Accepted}
 use Rattle.heading_format.specs.declared.State.TheVariants.{Idle}
 use Rattle.layout.specs.Shapes as Shapes
 use Rattle.heading_format.specs.Heading.{written, progress_of, progress_numbers, idle}
@@ -22,6 +21,7 @@ use Rattle.update.specs.Compute.{steps}
 use Rattle.update.specs.Working.{logged}
 use Rattle.update.specs.Calls.{begin_of, step_of, run_of}
 use Rattle.layout.proofs.Made.{layout_with}
+use Rattle.std.specs.Prelude.{Ok}
 
 abbrev one : Float
 one = word 0x3ff0000000000000
@@ -47,7 +47,7 @@ enough : Shapes.doubles_needed layout ≡ 31
 unfolding leaves
 enough = refl
 
-accepted : begun.answer ≡ Accepted
+accepted : begun.answer ≡ (Ok tt)
 unfolding begun
 accepted = refl
 

@@ -1,5 +1,5 @@
 -- Begin and the steps as functions of heading, doubles and arguments, refused ones included (document 01, Records 4 and 5, "Refused because of the state").
-use Rattle.std.specs.Prelude.{ℕ, suc, ◌+◌, Bool, true, false, List, [], ◌∷◌, eqb, length, Float}
+use Rattle.std.specs.Prelude.{ℕ, suc, ◌+◌, Bool, true, false, List, [], ◌∷◌, eqb, length, Float, Result, Ok, Err}
 use Rattle.std.proofs.Math.Option.{Option, none, some}
 use Rattle.storage.specs.Runs.{start, triangle}
 use Rattle.storage.specs.Part.{store}
@@ -9,8 +9,6 @@ use Rattle.rules.specs.Arithmetic.{ieee}
 use Rattle.heading_format.specs.declared.Progress.{Progress}
 use Rattle.heading_format.specs.declared.State.{State}
 use Rattle.heading_format.specs.declared.State.TheVariants.{Idle, UnderWay, Finished}
-use Rattle.refusal.specs.declared.Answer.{Answer}
-use Rattle.refusal.specs.declared.Answer.TheVariants.{Accepted, Refused}
 use Rattle.refusal.specs.Numbers.{refuse}
 use Rattle.heading_format.specs.Marked.{marked}
 use Rattle.layout.specs.Shapes.{Target, pick, targets, theta_at, working_at, sum_at, theta_length}
@@ -18,6 +16,7 @@ use Rattle.heading_format.specs.Heading.{layout_of, progress_of, stage_of, entry
 use Rattle.workspace.specs.Memory.{Workspace, loaded_block, working_block, loaded_some, log_sum, heading_with, cleared}
 use Rattle.workspace.specs.Answers.{Outcome, workspace, untouched, first_infinite, unless_at}
 use Rattle.update.specs.Working.{rules_of, scaled}
+use Rattle.refusal.specs.declared.Refusal.{Refusal}
 
 -- ---- progress
 -- one step more
@@ -47,7 +46,7 @@ unfolding valid_heading begun first_infinite
 begin_of h w theta =
     pick (valid_heading h (length w))
     (pick (eqb (length theta) (theta_length (layout_of h)))
-    (unless_at (first_infinite 0 theta) (λ i. untouched h w 14 0 i) (record { answer = Accepted; left = begun h w theta }))
+    (unless_at (first_infinite 0 theta) (λ i. untouched h w 14 0 i) (record { answer = Ok tt; left = begun h w theta }))
     (untouched h w 13 0 0))
     (untouched h w 20 0 0)
 
@@ -88,7 +87,7 @@ module _ (h : List ℕ) (w : List Float) where
   dropped = workspace (heading_with h (idle (layout_of h).k)) (cleared (layout_of h) w)
 
   abbrev pub on_pivot : Option ℕ → Step → Outcome
-  on_pivot none s = record { answer = Accepted; left = stepped s }
+  on_pivot none s = record { answer = Ok tt; left = stepped s }
   on_pivot (some r) s = record { answer = refuse 26 (col s) r; left = dropped }
 
   -- 20, 22, 21, 23, 24, 26
@@ -105,13 +104,13 @@ module _ (h : List ℕ) (w : List Float) where
       (untouched h w 20 0 0)
 
 -- ---- steps in turn, to the end of the list or to the first that is not accepted
-abbrev pub go_on : Answer → Outcome → (Workspace → Outcome) → Outcome
-go_on Accepted o next = next o.left
-go_on (Refused r) o next = o
+abbrev pub go_on : Result Unit Refusal → Outcome → (Workspace → Outcome) → Outcome
+go_on (Ok tt) o next = next o.left
+go_on (Err r) o next = o
 
 unfoldable pub run_of : Workspace → List Step → Outcome
 unfolding step_of
-run_of v [] = record { answer = Accepted; left = v }
+run_of v [] = record { answer = Ok tt; left = v }
 run_of v (s ∷ l) =
     let o = step_of v.heading v.doubles s in
     go_on o.answer o (λ u. run_of u l)

@@ -19,7 +19,9 @@ use Rattle.sheet.proofs.Made.{counts_with}
 use Rattle.sheet.proofs.Faults.{member_each}
 use Rattle.sheet_text.specs.written.Written.{Word, WordEach, Numbered, InForm}
 use Rattle.layout.specs.declared.Layout.{Layout}
-use Rattle.layout.specs.declared.Pair.TheVariants.{Dense, Refused}
+use Rattle.std.specs.Prelude.{Ok, Err}
+use Rattle.layout.specs.declared.Storage.TheVariants.{Dense}
+use Rattle.layout.specs.declared.GateRefusal.{GateRefusal}
 use Rattle.layout.specs.Blocks.{sum, sorted}
 use Rattle.layout.specs.Gate.{pair_of}
 use Rattle.layout.specs.Shapes.{levels, sheet_index}
@@ -217,7 +219,7 @@ module _ (y : Layout) where
             ∙ is_false (eqb y.k 2 && one_each sheet_for made 1 0) (λ e. none_each d ((and-eq-true_iff (eqb y.k 2) (one_each sheet_for made 1 0)).0 e).1))
 
     -- a pair of at most 100,000 cells, whatever its entries
-    dense : y.sparse ≡ false → (i j : ℕ) → i < y.k → j < i → pair_in sheet_for made i j ≡ Dense
+    dense : y.sparse ≡ false → (i j : ℕ) → i < y.k → j < i → pair_in sheet_for made i j ≡ Ok Dense
     unfolding pair_in pair_of
     dense s i j h g =
         rw (le-leb (levels made i * levels made j) 100000
@@ -249,8 +251,8 @@ module _ (y : Layout) where
             false≢true (ap is_sparse (sym (dense s 1 0 (omega arith) (omega arith))) ∙ t.1)))
 
     -- so the gate refuses no pair
-    gate : (i j n : ℕ) → i < y.k → j < i → pair_in sheet_for made i j ≡ Refused n → ⊥
-    gate i j n h g e = go y.sparse refl
+    gate : (i j : ℕ) (r : GateRefusal) → i < y.k → j < i → pair_in sheet_for made i j ≡ Err r → ⊥
+    gate i j r h g e = go y.sparse refl
       where
         go : (b : Bool) → y.sparse ≡ b → ⊥
         go true s =
@@ -258,7 +260,7 @@ module _ (y : Layout) where
             let a : i ≡ 1 = omega arith in
             let b : j ≡ 0 = omega arith in
             false≢true (ap is_sparse (sym e ∙ ap₂ (λ (i j : ℕ). pair_in sheet_for made i j) a b) ∙ sparse s)
-        go false s = let z : Dense ≡ Refused n = sym (dense s i j h g) ∙ e in let o : ◌≡◌ {A = ℕ} 0 1 = cc in omega arith
+        go false s = let z : Ok Dense ≡ Err r = sym (dense s i j h g) ∙ e in let o : ◌≡◌ {A = ℕ} 0 1 = cc in omega arith
 
     -- THE CLAIM: the layout is that of this sheet, which 5 to 11 do not refuse
     pub layout_made : LayoutOf y sheet_for

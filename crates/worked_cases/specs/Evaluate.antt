@@ -1,23 +1,20 @@
 -- The calls on the worked sheet, with all that has to be unfolded to compute them.
-use Rattle.std.specs.Prelude.{ℕ, ◌-◌, Bool, false, true, List, [], ◌∷◌, ◌++◌, length, replicate, Float}
+use Rattle.std.specs.Prelude.{ℕ, ◌-◌, Bool, false, true, List, [], ◌∷◌, ◌++◌, length, replicate, Float, Result, Ok, Err}
 use Rattle.std.specs.Float.Ieee as Ieee
 use Rattle.std.specs.Float.{binary64}
 use Rattle.step_order.specs.Steps.{Step, rust_order}
 use Rattle.sheet.specs.Text.{ended, with_line, reading}
 use Rattle.sheet.specs.Sheet.{Outcome, accepted, refused, read_sheet, Sheet}
 use Rattle.refusal.specs.declared.Refusal.{Refusal}
+use Rattle.refusal.specs.declared.Numbers.{Numbers}
 use Rattle.refusal.specs.Numbers.{refusal_of}
-use Rattle.layout.specs.declared.Pair.{Pair}
-use Rattle.layout.specs.Gate.{pair_of}
+use Rattle.layout.specs.Gate.{Verdict, pair_of}
 use Rattle.workspace.specs.Answers.{untouched, Outcome as Call}
 use Rattle.workspace.specs.Load as Load
 use Rattle.workspace.specs.Load.{load_of}
 use Rattle.workspace.specs.Compute.{words}
 use Rattle.update.specs.Compute.{steps}
 use Rattle.update.specs.Calls.{begin_of, run_of, begun, stepped}
-use Rattle.profile.specs.declared.DevianceAnswer.{DevianceAnswer}
-use Rattle.profile.specs.declared.Solve.{Solve}
-use Rattle.profile.specs.declared.Solve.TheVariants.{Solved, Refused}
 use Rattle.profile.specs.Deviance.{profile_of, log_determinant}
 use Rattle.profile.specs.Finish.{Solving, solve_of, result_list}
 use Rattle.factor_output.specs.Program as Program
@@ -27,6 +24,8 @@ use Rattle.layout.specs.declared.Layout.{Layout}
 use Rattle.workspace.specs.Memory.{Workspace}
 use Rattle.workspace.specs.Loaded.{with_storage, layout_of_sheet}
 use Rattle.heading_format.specs.Parts.{heading_length}
+use Rattle.profile.specs.declared.Deviance.{Deviance}
+use Rattle.profile.specs.declared.Solution.{Solution}
 
 unfoldable pub sheet_bytes : List ℕ
 unfolding ended
@@ -72,14 +71,14 @@ solving s theta reml =
     let w = (finished s theta).left in
     solve_of w.heading w.doubles reml (replicate 6 (Ieee.of_bits binary64 0))
 
-unfoldable pub profiled : List ℕ → ℕ → Bool → DevianceAnswer
+unfoldable pub profiled : List ℕ → ℕ → Bool → Result Deviance Refusal
 unfolding loaded profile_of
 profiled s theta reml = let w = (loaded s).left in (profile_of w.heading w.doubles (Ieee.of_bits binary64 theta ∷ []) reml).answer
 
-unfoldable pub sigma2_bits : Solve → ℕ
+unfoldable pub sigma2_bits : Result Solution Refusal → ℕ
 unfolding Ieee.to_bits
-sigma2_bits (Solved s) = Ieee.to_bits binary64 s.sigma2
-sigma2_bits (Refused r) = 0
+sigma2_bits (Ok s) = Ieee.to_bits binary64 s.sigma2
+sigma2_bits (Err r) = 0
 
 -- ---- sheets of several blocks, in a workspace of 200 doubles
 unfoldable pub theta_in : List ℕ → Outcome → List Float
@@ -126,12 +125,12 @@ unfolding rust_order
 step_counts [] = []
 step_counts (c ∷ l) = length (rust_order (c.blocks - 1)) ∷ step_counts l
 
-unfoldable pub gate_verdicts : List GateCase → List Pair
+unfoldable pub gate_verdicts : List GateCase → List Verdict
 unfolding steps pair_of
 gate_verdicts [] = []
 gate_verdicts (g ∷ l) = pair_of g.k g.rows g.cols g.one_each g.entries ∷ gate_verdicts l
 
-unfoldable pub step_refusals : List StepCase → List Refusal
+unfoldable pub step_refusals : List StepCase → List Numbers
 unfolding steps_done
 step_refusals [] = []
 step_refusals (c ∷ l) = refusal_of (steps_done sheet_bytes one_word c.steps).answer ∷ step_refusals l
@@ -141,10 +140,10 @@ abbrev pub counts_said : List CountCase → List ℕ
 counts_said [] = []
 counts_said (c ∷ l) = c.steps ∷ counts_said l
 
-abbrev pub verdicts_said : List GateCase → List Pair
+abbrev pub verdicts_said : List GateCase → List Verdict
 verdicts_said [] = []
 verdicts_said (g ∷ l) = g.verdict ∷ verdicts_said l
 
-abbrev pub refusals_said : List StepCase → List Refusal
+abbrev pub refusals_said : List StepCase → List Numbers
 refusals_said [] = []
 refusals_said (c ∷ l) = c.refusal ∷ refusals_said l

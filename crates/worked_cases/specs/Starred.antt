@@ -1,13 +1,11 @@
 -- The starred cases of document 01 as one proposition over the definitions.
-use Rattle.std.specs.Prelude.{◌≡◌, true, false}
+use Rattle.std.specs.Prelude.{◌≡◌, true, false, Ok}
 use Rattle.std.specs.Float.Ieee as Ieee
 use Rattle.std.specs.Float.{binary64}
 use Rattle.logarithm.specs.Ln.{ln_of}
 use Rattle.workspace.specs.Compute.{words}
-use Rattle.refusal.specs.declared.Answer.TheVariants.{Accepted}
 use Rattle.heading_format.specs.Heading.{progress_of}
 use Rattle.profile.specs.declared.Deviance.TheVariants.{NoScale}
-use Rattle.profile.specs.declared.DevianceAnswer.TheVariants.{Given}
 use Rattle.factor_output.specs.Program.{print_of}
 use Rattle.worked_cases.specs.Table.{one_word, two_word, half_word, third_word, zero_word, two_ln2_word, solution_words, count_cases, gate_cases, step_cases}
 use Rattle.worked_cases.specs.Evaluate.{sheet_bytes, input_bytes, output_bytes, one_reading_bytes, loaded, log_determinant_bits, solving, profiled, sigma2_bits, step_counts, gate_verdicts, step_refusals, counts_said, verdicts_said, refusals_said}
@@ -16,7 +14,7 @@ pub record Starred : Type 0 where
   -- the input's bytes give the output, byte for byte, through sheet, load, begin, the Rust's order and the printing
   pub worked : print_of input_bytes ≡ output_bytes
   -- the sheet alone loads; four steps are left
-  pub loads : (loaded sheet_bytes).answer ≡ Accepted
+  pub loads : (loaded sheet_bytes).answer ≡ (Ok tt)
   pub four_steps : (progress_of (loaded sheet_bytes).left.heading).left ≡ 4
   -- logdet 2 ln 2
   pub determinant : log_determinant_bits sheet_bytes one_word ≡ two_ln2_word
@@ -33,4 +31,4 @@ pub record Starred : Type 0 where
   -- theta 0: logdet +0
   pub theta_zero : log_determinant_bits sheet_bytes zero_word ≡ zero_word
   -- REML with n = p: no scale
-  pub no_scale_reml : profiled one_reading_bytes one_word true ≡ Given NoScale
+  pub no_scale_reml : profiled one_reading_bytes one_word true ≡ Ok NoScale

@@ -1,11 +1,12 @@
 -- Document 01, "Worked sheets": what is said of the worked input (crate factor_output, specs/Worked), and the other starred cases.
-use Rattle.std.specs.Prelude.{ℕ, Bool, true, false, List, [], ◌∷◌}
+use Rattle.std.specs.Prelude.{ℕ, Bool, true, false, List, [], ◌∷◌, Ok, Err}
 use Prim.Native.String.{String}
-use Rattle.refusal.specs.declared.Refusal.{Refusal}
-use Rattle.refusal.specs.Numbers.{refusal}
+use Rattle.refusal.specs.declared.Numbers.{Numbers}
+use Rattle.refusal.specs.Numbers.{numbers}
 use Rattle.step_order.specs.Steps.{Step, C, T}
-use Rattle.layout.specs.declared.Pair.{Pair}
-use Rattle.layout.specs.declared.Pair.TheVariants.{Dense, Sparse, Refused}
+use Rattle.layout.specs.declared.Storage.TheVariants.{Dense, Sparse}
+use Rattle.layout.specs.declared.GateRefusal.TheVariants.{CrossGate}
+use Rattle.layout.specs.Gate.{Verdict}
 
 -- the size line of the same sheet with n = p
 abbrev pub one_reading_line : String
@@ -50,21 +51,21 @@ pub record GateCase : Type 0 where
   pub cols : ℕ
   pub one_each : Bool
   pub entries : ℕ
-  pub verdict : Pair
+  pub verdict : Verdict
 
 abbrev pub gate_cases : List GateCase
 gate_cases =
-    record { k = 2; rows = 2; cols = 50000; one_each = true; entries = 50000; verdict = Dense }
-    ∷ record { k = 2; rows = 2; cols = 50001; one_each = true; entries = 50001; verdict = Refused 11 }
-    ∷ record { k = 2; rows = 3; cols = 33334; one_each = true; entries = 33334; verdict = Sparse }
-    ∷ record { k = 8; rows = 316; cols = 316; one_each = false; entries = 99856; verdict = Dense }
+    record { k = 2; rows = 2; cols = 50000; one_each = true; entries = 50000; verdict = Ok Dense }
+    ∷ record { k = 2; rows = 2; cols = 50001; one_each = true; entries = 50001; verdict = Err CrossGate }
+    ∷ record { k = 2; rows = 3; cols = 33334; one_each = true; entries = 33334; verdict = Ok Sparse }
+    ∷ record { k = 8; rows = 316; cols = 316; one_each = false; entries = 99856; verdict = Ok Dense }
     ∷ []
 
 -- ---- steps from the worked sheet just begun, and what the last of them answers
 pub record StepCase : Type 0 where
   pub steps : List Step
-  pub refusal : Refusal
+  pub refusal : Numbers
 
 abbrev pub step_cases : List StepCase
 step_cases =
-    record { steps = T 1 0 ∷ []; refusal = refusal 24 0 0 } ∷ record { steps = C 0 ∷ C 0 ∷ []; refusal = refusal 23 0 0 } ∷ []
+    record { steps = T 1 0 ∷ []; refusal = numbers 24 0 0 } ∷ record { steps = C 0 ∷ C 0 ∷ []; refusal = numbers 23 0 0 } ∷ []

@@ -7,8 +7,7 @@ use mathlib.Core.List.{List, [], ◌∷◌, ◌++◌}
 use mathlib.Core.Option.{some}
 use lib.ListN.{replicate, set, take, drop}
 use lib.Ieee.{nan, inf}
-use Rattle.refusal.specs.declared.Answer.TheVariants.{Accepted}
-use Rattle.refusal.specs.Numbers.{refusal, refusal_of, refuse}
+use Rattle.refusal.specs.Numbers.{numbers, refusal_of, refuse}
 use Rattle.storage.specs.Runs.{tab}
 use Rattle.sheet.specs.Text.{reading}
 use Rattle.sheet.specs.Run.{Entry}
@@ -23,6 +22,7 @@ use Rattle.workspace.specs.Load.{load_sheet, load_of}
 use Rattle.workspace.specs.Response.{Response, response, replace_of}
 use Rattle.heading_format.specs.Parts.{progress_at, progress_end, heading_length}
 use Rattle.sheet.proofs.Made.{counts_with}
+use Rattle.std.specs.Prelude.{Ok}
 
 abbrev at : ℕ → ℕ → ℕ → Entry
 at col row w = record { line = 0; col = col; row = row; word = w }
@@ -69,7 +69,7 @@ unfolding loaded
 heading_rest = refl
 
 -- 31 doubles are enough, 30 are 12 and stay as they are
-just_enough : (loaded 31).answer ≡ Accepted
+just_enough : (loaded 31).answer ≡ (Ok tt)
 unfolding loaded
 just_enough = refl
 
@@ -97,19 +97,19 @@ unfolding replaced
 response_writes = refl
 
 -- every length before any word, and the place of a word
-lengths_first : refusal_of (replaced (response (word 20 ∷ nan ∷ word 22 ∷ []) [] (nan ∷ []))).answer ≡ refusal 13 1 0
+lengths_first : refusal_of (replaced (response (word 20 ∷ nan ∷ word 22 ∷ []) [] (nan ∷ []))).answer ≡ numbers 13 1 0
 unfolding replaced
 lengths_first = refl
 
-last_length : refusal_of (replaced (response (word 20 ∷ nan ∷ word 22 ∷ []) (nan ∷ []) [])).answer ≡ refusal 13 2 0
+last_length : refusal_of (replaced (response (word 20 ∷ nan ∷ word 22 ∷ []) (nan ∷ []) [])).answer ≡ numbers 13 2 0
 unfolding replaced
 last_length = refl
 
-second_word : refusal_of (replaced (response (word 20 ∷ nan ∷ word 22 ∷ []) (nan ∷ []) (nan ∷ []))).answer ≡ refusal 14 0 1
+second_word : refusal_of (replaced (response (word 20 ∷ nan ∷ word 22 ∷ []) (nan ∷ []) (nan ∷ []))).answer ≡ numbers 14 0 1
 unfolding replaced
 second_word = refl
 
-third_list : refusal_of (replaced (response (word 20 ∷ word 21 ∷ word 22 ∷ []) (word 23 ∷ []) (inf true ∷ []))).answer ≡ refusal 14 2 0
+third_list : refusal_of (replaced (response (word 20 ∷ word 21 ∷ word 22 ∷ []) (word 23 ∷ []) (inf true ∷ []))).answer ≡ numbers 14 2 0
 unfolding replaced
 third_list = refl
 

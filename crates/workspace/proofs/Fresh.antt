@@ -3,15 +3,13 @@ use Prim.Native.Nat.{ℕ, ◌≤◌}
 use mathlib.Core.Path.{◌≡◌, refl, sym, ap}
 use mathlib.Core.Bool.{Bool, true, false, cond, true≢false, and-eq-true_iff}
 use mathlib.Core.List.{List}
-use mathlib.Core.Option.{Option, none, some}
+use Rattle.std.specs.Prelude.{Option, None, Some}
 use native.Mathlib.Omega.{arith}
 use lib.Dec.{leb, eqb}
 use lib.ListN.{length}
 use lib.Ieee.{Float}
 use borrow.Author.Tests.{leb-true, eqb-true}
 use Rattle.refusal.specs.declared.Refusal.{Refusal}
-use Rattle.refusal.specs.declared.Answer.{Answer}
-use Rattle.refusal.specs.declared.Answer.TheVariants.{Accepted, Refused}
 use Rattle.storage.specs.Part.{store}
 use Rattle.storage.proofs.Parts.{length_store}
 use Rattle.sheet.specs.Sheet.{Sheet, accepted, refused, sheet_of}
@@ -26,10 +24,11 @@ use Rattle.workspace.specs.Loaded.{first_refused_pair, layout_of_sheet}
 use Rattle.workspace.specs.Load.{heading_of, doubles_of, has_room, after_gate, load_sheet, load_of}
 use Rattle.workspace.proofs.Lengths.{length_doubles}
 use Rattle.workspace.proofs.ValidHeading.{load_stored}
+use Rattle.std.specs.Prelude.{Result, Ok, Err}
 
-abbrev is_accepted : Answer → Bool
-is_accepted Accepted = true
-is_accepted (Refused r) = false
+abbrev is_accepted : Result Unit Refusal → Bool
+is_accepted (Ok tt) = true
+is_accepted (Err r) = false
 
 -- an accepted outcome is a workspace
 abbrev Good : Outcome → Type 0
@@ -45,9 +44,9 @@ module _ (h : List ℕ) (w : List Float) where
   room_good sheet y false f = refused_good 12 0 0
 
   gate_good : (sheet : Sheet) (y : Layout) (g : Option Refusal)
-      → (g ≡ none → has_room y h w ≡ true → Good (accept (store 0 (heading_of sheet y) h) (store 0 (doubles_of sheet y) w))) → Good (after_gate g sheet y h w)
-  gate_good sheet y none f = room_good sheet y (has_room y h w) (f refl)
-  gate_good sheet y (some r) f = λ e. absurd (true≢false (sym e))
+      → (g ≡ None → has_room y h w ≡ true → Good (accept (store 0 (heading_of sheet y) h) (store 0 (doubles_of sheet y) w))) → Good (after_gate g sheet y h w)
+  gate_good sheet y None f = room_good sheet y (has_room y h w) (f refl)
+  gate_good sheet y (Some r) f = λ e. absurd (true≢false (sym e))
 
   module _ (s : List ℕ) where
     sheet_good : (sheet : Sheet) (starts : _) → sheet_of s ≡ accepted sheet starts → fault_number sheet ≡ 0 → Good (load_sheet sheet h w)
@@ -69,6 +68,6 @@ module _ (h : List ℕ) (w : List Float) where
     parsed_good (accepted sheet starts) e = checked_good sheet (eqb (fault_number sheet) 0) (λ b. sheet_good sheet starts e (eqb-true (fault_number sheet) 0 b))
 
     -- "20 never comes", of a workspace just loaded
-    pub loads_valid_heading : (load_of s h w).answer ≡ Accepted → let v = (load_of s h w).left in valid_heading v.heading (length v.doubles) ≡ true
+    pub loads_valid_heading : (load_of s h w).answer ≡ (Ok tt) → let v = (load_of s h w).left in valid_heading v.heading (length v.doubles) ≡ true
     unfolding load_of
     loads_valid_heading e = parsed_good (sheet_of s) refl (ap is_accepted e)

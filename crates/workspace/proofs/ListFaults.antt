@@ -1,6 +1,6 @@
 -- Where nothing is wrong with the lists of a response, each has its prescribed length and only finite numbers, and a finite double has a finite word.
 use Prim.Native.Nat.{ℕ, zero, suc, ◌+◌, ◌/◌, ◌%◌}
-use mathlib.Core.Path.{◌≡◌, refl, ap₂}
+use mathlib.Core.Path.{◌≡◌, refl, sym, ap₂}
 use mathlib.Core.Bool.{Bool, true, false, not, cond}
 use mathlib.Core.List.{List, [], ◌∷◌}
 use mathlib.Core.Option.{Option, none, some}
@@ -10,7 +10,9 @@ use lib.ListN.{length}
 use lib.Ieee.{Float, nan, inf, binary64, odd, of_fields, of_bits, ones}
 use borrow.Author.Tests.{eqb-true, eqb-false}
 use Rattle.refusal.specs.declared.Refusal.{Refusal}
-use Rattle.refusal.specs.Numbers.{refusal}
+use Rattle.refusal.specs.Numbers.{refuse}
+use Rattle.refusal.proofs.Meaning.{differ}
+use Rattle.std.specs.Prelude.{Result, Ok, Err}
 use Rattle.sheet.specs.Field as Field
 use Rattle.sheet.specs.Whole.{Each, Finite}
 use Rattle.layout.specs.declared.Layout.{Layout}
@@ -19,26 +21,23 @@ use Rattle.workspace.specs.Answers.{is_finite, first_infinite, unless_at, length
 use Rattle.workspace.specs.Loaded.{double}
 use Rattle.workspace.specs.Response.{Response, lists_of, response_lengths, Prescribed}
 
--- where the first of two has number 0, both have
-neither : (f g : Refusal) → (first_of f g).number ≡ 0 → (f.number ≡ 0) × (g.number ≡ 0)
-neither f g e = go (eqb f.number 0) refl e
-  where
-    go : (b : Bool) → eqb f.number 0 ≡ b → (pick b g f).number ≡ 0 → (f.number ≡ 0) × (g.number ≡ 0)
-    go true q e = (eqb-true f.number 0 q, e)
-    go false q e = absurd (eqb-false f.number 0 q e)
+-- where the first of two is no refusal, neither is
+neither : (f g : Result Unit Refusal) → first_of f g ≡ Ok tt → (f ≡ Ok tt) × (g ≡ Ok tt)
+neither (Ok tt) g e = (refl, e)
+neither (Err r) g e = absurd (differ (sym e))
 
 -- no fault: every list has its length
-all_right : (i : ℕ) (prescribed actual : List ℕ) → length prescribed ≡ length actual → (length_fault i prescribed actual).number ≡ 0 → actual ≡ prescribed
+all_right : (i : ℕ) (prescribed actual : List ℕ) → length prescribed ≡ length actual → length_fault i prescribed actual ≡ Ok tt → actual ≡ prescribed
 unfolding length_fault
 all_right i [] [] m e = refl
 all_right i [] (x ∷ actual) m e = absurd (omega arith)
 all_right i (n ∷ prescribed) [] m e = absurd (omega arith)
 all_right i (n ∷ prescribed) (x ∷ actual) m e = go (all_right (suc i) prescribed actual (omega arith)) (eqb x n) refl e
   where
-    go : ((length_fault (suc i) prescribed actual).number ≡ 0 → actual ≡ prescribed) → (b : Bool) → eqb x n ≡ b
-        → (pick b (length_fault (suc i) prescribed actual) (refusal 13 i 0)).number ≡ 0 → x ∷ actual ≡ n ∷ prescribed
+    go : (length_fault (suc i) prescribed actual ≡ Ok tt → actual ≡ prescribed) → (b : Bool) → eqb x n ≡ b
+        → pick b (length_fault (suc i) prescribed actual) (refuse 13 i 0) ≡ Ok tt → x ∷ actual ≡ n ∷ prescribed
     go rest true q e = ap₂ (λ (a : ℕ) (l : List ℕ). a ∷ l) (eqb-true x n q) (rest e)
-    go rest false q e = absurd (omega arith)
+    go rest false q e = absurd (differ (sym e))
 
 -- every number of a list is finite
 abbrev pub AllFinite : List Float → Type 0
@@ -55,18 +54,18 @@ none_infinite i (x ∷ l) e = go (none_infinite (suc i) l) (is_finite x) refl e
     go rest false q e = absurd (let z : ◌≡◌ {A = ℕ} 0 1 = cc in omega arith)
 
 -- no fault: every number of every list is finite
-no_infinite : (i : ℕ) (lists : List (List Float)) → (word_fault i lists).number ≡ 0 → Each AllFinite lists
+no_infinite : (i : ℕ) (lists : List (List Float)) → word_fault i lists ≡ Ok tt → Each AllFinite lists
 unfolding word_fault
 no_infinite i [] e = tt
 no_infinite i (l ∷ lists) e = go (no_infinite (suc i) lists) (first_infinite 0 l) refl e
   where
-    go : ((word_fault (suc i) lists).number ≡ 0 → Each AllFinite lists) → (o : Option ℕ) → first_infinite 0 l ≡ o
-        → (unless_at o (λ a. refusal 14 i a) (word_fault (suc i) lists)).number ≡ 0 → Each AllFinite (l ∷ lists)
+    go : (word_fault (suc i) lists ≡ Ok tt → Each AllFinite lists) → (o : Option ℕ) → first_infinite 0 l ≡ o
+        → unless_at o (λ a. refuse 14 i a) (word_fault (suc i) lists) ≡ Ok tt → Each AllFinite (l ∷ lists)
     go rest none q e = (none_infinite 0 l q, rest e)
-    go rest (some a) q e = absurd (omega arith)
+    go rest (some a) q e = absurd (differ (sym e))
 
 -- a response without a fault
-pub no_fault : (y : Layout) (r : Response) → (list_fault (response_lengths y) (lists_of r)).number ≡ 0 → Prescribed y r × Each AllFinite (lists_of r)
+pub no_fault : (y : Layout) (r : Response) → list_fault (response_lengths y) (lists_of r) ≡ Ok tt → Prescribed y r × Each AllFinite (lists_of r)
 no_fault y r e =
     let n = neither (length_fault 0 (response_lengths y) (lengths (lists_of r))) (word_fault 0 (lists_of r)) e in
     (all_right 0 (response_lengths y) (lengths (lists_of r)) refl n.0, no_infinite 0 (lists_of r) n.1)

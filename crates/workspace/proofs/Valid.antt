@@ -4,7 +4,7 @@ use mathlib.Core.Path.{◌≡◌, refl, sym, ap, ap₂, subst, ◌∙◌}
 use mathlib.Core.Bool.{Bool, true, false, not, ◌&&◌, cond, and-eq-true_iff}
 use mathlib.Core.List.{List, [], ◌∷◌, ◌++◌}
 use mathlib.Core.Logic.{◌⊎◌, inl, inr, by_cases}
-use mathlib.Core.Option.{none}
+use Rattle.std.specs.Prelude.{None, Ok, Err}
 use native.Mathlib.Decide.{dec_lt}
 use native.Mathlib.Omega.{arith}
 use lib.Dec.{ltb, leb, eqb}
@@ -17,10 +17,10 @@ use Rattle.sheet.specs.Fault.{covered_rows, block_of_row, fault_number, has_slop
 use Rattle.sheet.specs.Whole.{Each, BlockInRange}
 use Rattle.sheet.proofs.Whole.{read_whole, alone_read}
 use Rattle.layout.specs.declared.Layout.{Layout}
-use Rattle.layout.specs.declared.Pair.{Pair}
-use Rattle.layout.specs.declared.Pair.TheVariants.{Dense, Sparse, Refused as Denied}
+use Rattle.layout.specs.declared.Storage.TheVariants.{Dense, Sparse}
+use Rattle.layout.specs.declared.GateRefusal.TheVariants.{MultiblockFill, CrossGate}
 use Rattle.layout.specs.Blocks.{insert, sorted, sum, each, padded}
-use Rattle.layout.specs.Gate.{thin, pair_of}
+use Rattle.layout.specs.Gate.{Verdict, thin, pair_of}
 use Rattle.layout.specs.Shapes.{Target, target, levels, across, pairs}
 use Rattle.layout.proofs.Sums.{sum_same, sum_front, sum_over, over_sorted, padded_at, each_at}
 use Rattle.heading_format.specs.Heading.{every, bit, within, same, sheet_levels, is_dense, is_sparse, valid_pair, valid_layout}
@@ -296,38 +296,37 @@ module _ (sheet : Sheet) (y : Layout) (sparse diagonal : Bool) where
 -- ---- no pair is refused
 
 module _ (sheet : Sheet) (y : Layout) where
-  allowed_parts : (l r : List Target) → first_refused_pair sheet y (l ++ r) ≡ none → (first_refused_pair sheet y l ≡ none) × (first_refused_pair sheet y r ≡ none)
+  allowed_parts : (l r : List Target) → first_refused_pair sheet y (l ++ r) ≡ None → (first_refused_pair sheet y l ≡ None) × (first_refused_pair sheet y r ≡ None)
   unfolding first_refused_pair
   allowed_parts [] r e = (refl, e)
   allowed_parts (t ∷ l) r e = step (allowed_parts l r) (pair_in sheet y t.row t.col) e
     where
-      step : (first_refused_pair sheet y (l ++ r) ≡ none → (first_refused_pair sheet y l ≡ none) × (first_refused_pair sheet y r ≡ none)) → (p : Pair)
-          → or_refused p t (first_refused_pair sheet y (l ++ r)) ≡ none → (or_refused p t (first_refused_pair sheet y l) ≡ none) × (first_refused_pair sheet y r ≡ none)
-      step f Dense e = f e
-      step f Sparse e = f e
-      step f (Denied n) e = absurd (let z : ◌≡◌ {A = ℕ} 0 1 = cc in omega arith)
+      step : (first_refused_pair sheet y (l ++ r) ≡ None → (first_refused_pair sheet y l ≡ None) × (first_refused_pair sheet y r ≡ None)) → (p : Verdict)
+          → or_refused p t (first_refused_pair sheet y (l ++ r)) ≡ None → (or_refused p t (first_refused_pair sheet y l) ≡ None) × (first_refused_pair sheet y r ≡ None)
+      step f (Ok stored) e = f e
+      step f (Err refused) e = absurd (let z : ◌≡◌ {A = ℕ} 0 1 = cc in omega arith)
 
-  allowed_across : (i n : ℕ) → first_refused_pair sheet y (across i n) ≡ none → (j : ℕ) → j < n → first_refused_pair sheet y (target i j ∷ []) ≡ none
+  allowed_across : (i n : ℕ) → first_refused_pair sheet y (across i n) ≡ None → (j : ℕ) → j < n → first_refused_pair sheet y (target i j ∷ []) ≡ None
   unfolding across
   allowed_across i zero e j h = absurd (omega arith)
   allowed_across i (suc n) e j h =
       let r = allowed_parts (across i n) (target i n ∷ []) e in
       by_cases (dec_lt j n) (λ l. allowed_across i n r.0 j l)
-      (λ l. let z : n ≡ j = omega arith in subst (λ (x : ℕ). first_refused_pair sheet y (target i x ∷ []) ≡ none) z r.1)
+      (λ l. let z : n ≡ j = omega arith in subst (λ (x : ℕ). first_refused_pair sheet y (target i x ∷ []) ≡ None) z r.1)
 
-  pub allowed_pairs : (k : ℕ) → first_refused_pair sheet y (pairs k) ≡ none → (i j : ℕ) → i < k → j < i → first_refused_pair sheet y (target i j ∷ []) ≡ none
+  pub allowed_pairs : (k : ℕ) → first_refused_pair sheet y (pairs k) ≡ None → (i j : ℕ) → i < k → j < i → first_refused_pair sheet y (target i j ∷ []) ≡ None
   unfolding pairs
   allowed_pairs zero e i j h g = absurd (omega arith)
   allowed_pairs (suc k) e i j h g =
       let r = allowed_parts (pairs k) (across k k) e in
       by_cases (dec_lt i k) (λ l. allowed_pairs k r.0 i j l g)
-      (λ l. let z : k ≡ i = omega arith in subst (λ (x : ℕ). first_refused_pair sheet y (target x j ∷ []) ≡ none) z (allowed_across k k r.1 j (omega arith)))
+      (λ l. let z : k ≡ i = omega arith in subst (λ (x : ℕ). first_refused_pair sheet y (target x j ∷ []) ≡ None) z (allowed_across k k r.1 j (omega arith)))
 
 -- the gate's answer with these tests: few cells, more than two blocks, one entry in each column and thin
-abbrev answer : Bool → Bool → Bool → Pair
-answer a b c = cond a Dense (cond b (Denied 10) (cond c Sparse (Denied 11)))
+abbrev answer : Bool → Bool → Bool → Verdict
+answer a b c = cond a (Ok Dense) (cond b (Err MultiblockFill) (cond c (Ok Sparse) (Err CrossGate)))
 
-two_blocks_lem : (t : Target) (a b one thin thin' : Bool) → (one ≡ true → thin ≡ thin') → or_refused (answer a b (one && thin)) t none ≡ none
+two_blocks_lem : (t : Target) (a b one thin thin' : Bool) → (one ≡ true → thin ≡ thin') → or_refused (answer a b (one && thin)) t None ≡ None
     → cond (is_sparse (answer a b (one && thin))) (is_sparse (answer a b (one && thin'))) (is_dense (answer a b (one && thin'))) ≡ true
 two_blocks_lem t true b one thin thin' h e = refl
 two_blocks_lem t false true one thin thin' h e = absurd (let z : ◌≡◌ {A = ℕ} 0 1 = cc in omega arith)
@@ -335,13 +334,13 @@ two_blocks_lem t false false false thin thin' h e = absurd (let z : ◌≡◌ {A
 two_blocks_lem t false false true false thin' h e = absurd (let z : ◌≡◌ {A = ℕ} 0 1 = cc in omega arith)
 two_blocks_lem t false false true true thin' h e = rw (sym (h refl)) refl
 
-more_blocks : (t : Target) (a b c d : Bool) → b ≡ true → or_refused (answer a b c) t none ≡ none → is_dense (answer a b d) ≡ true
+more_blocks : (t : Target) (a b c d : Bool) → b ≡ true → or_refused (answer a b c) t None ≡ None → is_dense (answer a b d) ≡ true
 more_blocks t true b c d h e = refl
 more_blocks t false true c d h e = absurd (let z : ◌≡◌ {A = ℕ} 0 1 = cc in omega arith)
 more_blocks t false false c d h e = absurd (let z : ◌≡◌ {A = ℕ} 0 1 = cc in omega arith)
 
 module _ (sheet : Sheet) (y : Layout) (sp : y.sparse ≡ eqb y.k 2 && is_sparse (pair_in sheet y 1 0)) (di : y.diagonal ≡ eqb y.k 2 && one_each sheet y 1 0) where
-  one_pair : y.k ≡ 2 → first_refused_pair sheet y (target 1 0 ∷ []) ≡ none → valid_pair y 1 0 ≡ true
+  one_pair : y.k ≡ 2 → first_refused_pair sheet y (target 1 0 ∷ []) ≡ None → valid_pair y 1 0 ≡ true
   unfolding first_refused_pair pair_in pair_of
   one_pair k e =
       let q : eqb y.k 2 ≡ true = eq-eqb y.k 2 k in
@@ -352,7 +351,7 @@ module _ (sheet : Sheet) (y : Layout) (sp : y.sparse ≡ eqb y.k 2 && is_sparse 
       ∙ two_blocks_lem (target 1 0) (leb cells 100000) (ltb 2 y.k) (one_each sheet y 1 0) (thin (count_of (of_pair y 1 0) sheet.zz) cells) (thin (levels y 0) cells)
       (λ o. ap (λ (n : ℕ). thin n cells) (one_each_count sheet y 1 0 o)) e
 
-  other_pair : (i j : ℕ) → 2 < y.k → first_refused_pair sheet y (target i j ∷ []) ≡ none → valid_pair y i j ≡ true
+  other_pair : (i j : ℕ) → 2 < y.k → first_refused_pair sheet y (target i j ∷ []) ≡ None → valid_pair y i j ≡ true
   unfolding first_refused_pair pair_in pair_of
   other_pair i j k e =
       let q : eqb y.k 2 ≡ false = ne_eqb y.k 2 (λ z. omega arith) in
@@ -362,7 +361,7 @@ module _ (sheet : Sheet) (y : Layout) (sp : y.sparse ≡ eqb y.k 2 && is_sparse 
       ∙ more_blocks (target i j) (leb cells 100000) (ltb 2 y.k) (one_each sheet y i j && thin (count_of (of_pair y i j) sheet.zz) cells)
       (y.diagonal && thin (levels y j) cells) (lt-ltb 2 y.k k) e
 
-  pub pair_valid : (i j : ℕ) → i < y.k → j < i → first_refused_pair sheet y (target i j ∷ []) ≡ none → valid_pair y i j ≡ true
+  pub pair_valid : (i j : ℕ) → i < y.k → j < i → first_refused_pair sheet y (target i j ∷ []) ≡ None → valid_pair y i j ≡ true
   pair_valid i j h g e =
       by_cases (dec_lt 2 y.k) (λ l. other_pair i j l e)
       (λ l.
@@ -371,13 +370,13 @@ module _ (sheet : Sheet) (y : Layout) (sp : y.sparse ≡ eqb y.k 2 && is_sparse 
       let b : 0 ≡ j = omega arith in
       subst (λ (x : ℕ). valid_pair y x j ≡ true) a
       (subst (λ (x : ℕ). valid_pair y 1 x ≡ true) b
-      (one_pair k (subst (λ (x : ℕ). first_refused_pair sheet y (target 1 x ∷ []) ≡ none) (sym b) (subst (λ (x : ℕ). first_refused_pair sheet y (target x j ∷ []) ≡ none) (sym a) e)))))
+      (one_pair k (subst (λ (x : ℕ). first_refused_pair sheet y (target 1 x ∷ []) ≡ None) (sym b) (subst (λ (x : ℕ). first_refused_pair sheet y (target x j ∷ []) ≡ None) (sym a) e)))))
 
 -- ---- how the layout says that it is stored
 
 pub sparse_is : (sheet : Sheet) → (layout_of_sheet sheet).sparse ≡ eqb (layout_of_sheet sheet).k 2 && is_sparse (pair_in sheet (layout_of_sheet sheet) 1 0)
 unfolding layout_of_sheet
-sparse_is sheet = ap (λ (p : Pair). eqb (sorted_layout sheet).k 2 && is_sparse p) (sym (stored_pair sheet (sorted_layout sheet) (layout_of_sheet sheet).sparse (layout_of_sheet sheet).diagonal 1 0))
+sparse_is sheet = ap (λ (p : Verdict). eqb (sorted_layout sheet).k 2 && is_sparse p) (sym (stored_pair sheet (sorted_layout sheet) (layout_of_sheet sheet).sparse (layout_of_sheet sheet).diagonal 1 0))
 
 pub diagonal_is : (sheet : Sheet) → (layout_of_sheet sheet).diagonal ≡ eqb (layout_of_sheet sheet).k 2 && one_each sheet (layout_of_sheet sheet) 1 0
 unfolding layout_of_sheet
@@ -431,7 +430,7 @@ sparse_columns sheet s =
 pub shaped_valid : (sheet : Sheet) → (1 ≤ sheet.counts.n) × (sheet.counts.n ≤ 1000000000) → (1 ≤ sheet.counts.p) × (sheet.counts.p ≤ 32)
     → (1 ≤ sheet.counts.k) × (sheet.counts.k ≤ 8) → Each BlockInRange sheet.blocks → length sheet.blocks ≡ sheet.counts.k
     → sheet.counts.q ≡ covered_rows sheet.blocks
-    → ((i j : ℕ) → i < sheet.counts.k → j < i → first_refused_pair sheet (layout_of_sheet sheet) (target i j ∷ []) ≡ none) → valid_layout (layout_of_sheet sheet) ≡ true
+    → ((i j : ℕ) → i < sheet.counts.k → j < i → first_refused_pair sheet (layout_of_sheet sheet) (target i j ∷ []) ≡ None) → valid_layout (layout_of_sheet sheet) ≡ true
 unfolding layout_of_sheet sorted_layout
 shaped_valid sheet n p k blocks count covers gate =
     let y : Layout = layout_of_sheet sheet in
@@ -442,7 +441,7 @@ shaped_valid sheet n p k blocks count covers gate =
 
 -- the same of bytes that are read
 pub sheet_valid : (s : List ℕ) (sheet : Sheet) (starts : Starts) → sheet_of s ≡ accepted sheet starts → fault_number sheet ≡ 0
-    → first_refused_pair sheet (layout_of_sheet sheet) (pairs (layout_of_sheet sheet).k) ≡ none → valid_layout (layout_of_sheet sheet) ≡ true
+    → first_refused_pair sheet (layout_of_sheet sheet) (pairs (layout_of_sheet sheet).k) ≡ None → valid_layout (layout_of_sheet sheet) ≡ true
 unfolding layout_of_sheet sorted_layout
 sheet_valid s sheet starts read fine gate =
     let shape = (read_whole s sheet starts (alone_read s sheet starts read).0).shape in

@@ -3,7 +3,7 @@ use Prim.Native.Nat.{ℕ, suc, ◌+◌, ◌-◌, ◌≤◌, ◌<◌}
 use mathlib.Core.Path.{◌≡◌, refl, sym, ap, subst, ◌∙◌}
 use mathlib.Core.Bool.{Bool, true, false, cond, and-eq-true_iff}
 use mathlib.Core.List.{List, [], ◌∷◌, ◌++◌, append_assoc, append-nil}
-use mathlib.Core.Option.{none}
+use Rattle.std.specs.Prelude.{None}
 use native.Mathlib.Omega.{arith}
 use lib.Dec.{ltb, leb, eqb}
 use lib.ListN.{length, get_or, drop, length-append, length-replicate, get_or-append}
@@ -92,7 +92,7 @@ layout_valid_heading sheet rest doubles ok room =
     (length-replicate {A = ℕ} most_targets 0) (λ s. rows_right sheet y rest (sparse_columns sheet s).1 y.sparse s) room
 
 module _ (s : List ℕ) (sheet : Sheet) (starts : Starts) (read : sheet_of s ≡ accepted sheet starts) (fine : fault_number sheet ≡ 0)
-    (gate : first_refused_pair sheet (layout_of_sheet sheet) (pairs (layout_of_sheet sheet).k) ≡ none) (doubles : ℕ) (room : doubles_needed (layout_of_sheet sheet) ≤ doubles) where
+    (gate : first_refused_pair sheet (layout_of_sheet sheet) (pairs (layout_of_sheet sheet).k) ≡ None) (doubles : ℕ) (room : doubles_needed (layout_of_sheet sheet) ≤ doubles) where
   -- the heading that load makes, with doubles enough
   pub load_valid_heading : valid_heading (heading_of sheet (layout_of_sheet sheet)) doubles ≡ true
   load_valid_heading =

@@ -1,6 +1,6 @@
 -- Load as a function of bytes, heading and doubles to answer, heading and doubles (document 01, Record 3, "Refused because of the input").
 use Rattle.std.specs.Prelude.{ℕ, Bool, ◌&&◌, List, [], ◌++◌, leb, length, Float}
-use Rattle.std.proofs.Math.Option.{Option, none, some}
+use Rattle.std.specs.Prelude.{Option, None, Some}
 use Rattle.storage.specs.Runs.{tab}
 use Rattle.storage.specs.Part.{store}
 use Rattle.sheet.specs.Sheet.{Sheet, sheet_of}
@@ -30,8 +30,8 @@ abbrev pub has_room : Layout → List ℕ → List Float → Bool
 has_room y h w = leb (numbers_needed y) (length h) && leb (doubles_needed y) (length w)
 
 abbrev pub after_gate : Option Refusal → Sheet → Layout → List ℕ → List Float → Outcome
-after_gate (some r) sheet y h w = unchanged h w r
-after_gate none sheet y h w = pick (has_room y h w) (accept (store 0 (heading_of sheet y) h) (store 0 (doubles_of sheet y) w)) (untouched h w 12 0 0)
+after_gate (Some r) sheet y h w = unchanged h w r
+after_gate None sheet y h w = pick (has_room y h w) (accept (store 0 (heading_of sheet y) h) (store 0 (doubles_of sheet y) w)) (untouched h w 12 0 0)
 
 -- a sheet without a fault: 10 and 11, then 12; nothing past the formula is written
 unfoldable pub load_sheet : Sheet → List ℕ → List Float → Outcome

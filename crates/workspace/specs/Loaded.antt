@@ -1,6 +1,5 @@
 -- What load makes of a sheet (document 01, Records 2 and 3): its layout with the gate's verdict, and the loaded numbers.
-use Rattle.std.specs.Prelude.{ℕ, zero, suc, ◌+◌, ◌-◌, ◌*◌, Bool, false, ◌&&◌, cond, List, [], ◌∷◌, ◌++◌, ltb, leb, eqb, get_or, Float}
-use Rattle.std.proofs.Math.Option.{Option, none, some}
+use Rattle.std.specs.Prelude.{ℕ, zero, suc, ◌+◌, ◌-◌, ◌*◌, Bool, false, ◌&&◌, cond, List, [], ◌∷◌, ◌++◌, ltb, leb, eqb, get_or, Float, Option, None, Some, Ok, Err}
 use Rattle.std.specs.Float.Ieee as Ieee
 use Rattle.std.specs.Float.{binary64}
 use Rattle.storage.specs.Runs.{start, triangle}
@@ -8,11 +7,10 @@ use Rattle.storage.specs.Shape.{fill}
 use Rattle.sheet.specs.Run.{Block, Entry}
 use Rattle.sheet.specs.Sheet.{Sheet}
 use Rattle.layout.specs.declared.Layout.{Layout}
-use Rattle.layout.specs.declared.Pair.{Pair}
-use Rattle.layout.specs.declared.Pair.TheVariants.{Dense, Sparse, Refused as Denied}
 use Rattle.refusal.specs.declared.Refusal.{Refusal}
+use Rattle.refusal.specs.Numbers.{refusal}
 use Rattle.layout.specs.Blocks.{sum, each, sorted, padded}
-use Rattle.layout.specs.Gate.{pair_of, diagonal_of}
+use Rattle.layout.specs.Gate.{Verdict, gate_number, pair_of, diagonal_of}
 use Rattle.layout.specs.Shapes.{Target, pick, levels, loaded_shape, targets, response_row, sheet_index, block_rows}
 use Rattle.heading_format.specs.Heading.{every, is_sparse, sheet_levels}
 
@@ -61,19 +59,18 @@ module _ (sheet : Sheet) (y : Layout) where
   one_each i j = every (λ c. eqb (count_of (of_column y i j c) sheet.zz) 1) (block_rows y j)
 
   -- what the gate says of pair (i, j)
-  unfoldable pub pair_in : ℕ → ℕ → Pair
+  unfoldable pub pair_in : ℕ → ℕ → Verdict
   unfolding count_of every pair_of
   pair_in i j = pair_of y.k (levels y i) (levels y j) (one_each i j) (count_of (of_pair y i j) sheet.zz)
 
 -- the first pair that the gate refuses, pairs in turn: 10 or 11, j, jj
-abbrev pub or_refused : Pair → Target → Option Refusal → Option Refusal
-or_refused Dense t rest = rest
-or_refused Sparse t rest = rest
-or_refused (Denied n) t rest = some (record { number = n; first = t.row; second = t.col })
+abbrev pub or_refused : Verdict → Target → Option Refusal → Option Refusal
+or_refused (Ok stored) t rest = rest
+or_refused (Err e) t rest = Some (refusal (gate_number e) t.row t.col)
 
 unfoldable pub first_refused_pair : Sheet → Layout → List Target → Option Refusal
 unfolding pair_in
-first_refused_pair sheet y [] = none
+first_refused_pair sheet y [] = None
 first_refused_pair sheet y (t ∷ l) = or_refused (pair_in sheet y t.row t.col) t (first_refused_pair sheet y l)
 
 -- ---- the layout of a sheet

@@ -4,12 +4,12 @@ use mathlib.Core.Path.{sym, ◌∙◌}
 use Rattle.begin.proofs.Outcome.{not_valid_heading}
 use Rattle.begin.proofs.begin.Goals as goal
 
-pub begin_valid-requires : goal.begin_valid-requires
-begin_valid-requires c = sym c.is_valid_heading.ensures ∙ c.if-is_valid_heading.true
+pub returns-then-not-is_valid_heading : goal.returns-then-not-is_valid_heading
+returns-then-not-is_valid_heading c = let a = c.args in
+    outcome_means _ _ _ (not_valid_heading a.heading.now a.doubles.now a.theta.now (sym c.is_valid_heading.ensures ∙ c.if-not-is_valid_heading.true))
 
-pub returns-then-is_valid_heading : goal.returns-then-is_valid_heading
-returns-then-is_valid_heading c = outcome_means _ _ _ c.begin_valid.ensures
+pub begin_valid-requires : goal.begin_valid-requires
+begin_valid-requires c = sym c.is_valid_heading.ensures ∙ c.if-not-is_valid_heading.false
 
 pub returns : goal.returns
-returns c = let a = c.args in
-    outcome_means _ _ _ (not_valid_heading a.heading.now a.doubles.now a.theta.now (sym c.is_valid_heading.ensures ∙ c.if-is_valid_heading.false) _ c.refused.ensures)
+returns c = outcome_means _ _ _ c.begin_valid.ensures

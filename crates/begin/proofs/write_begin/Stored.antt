@@ -1,6 +1,6 @@
 -- Blocks begun one after the other, each out of the list as it then is, are those that begin is defined by: no loaded double is written.
 use Prim.Native.Nat.{ℕ, zero, suc, ◌+◌, ◌≤◌, ◌<◌}
-use mathlib.Core.Path.{◌≡◌, refl, sym, ap, ap₂, ◌∙◌}
+use mathlib.Core.Path.{◌≡◌, refl, sym, ap, ◌∙◌}
 use mathlib.Core.Bool.{false}
 use mathlib.Core.List.{List, [], ◌∷◌, ◌++◌}
 use mathlib.Core.Logic.{inl}
@@ -125,11 +125,11 @@ pub stored_one : (w : List Float) (at : ℕ) (v : Float) → at < length w → s
 stored_one w at v h = simp (store_nil, add-zero) at (store_one at [] w (omega arith) v (omega arith))
 
 -- theta, copied one by one
-pub theta_stored : (theta w v : List Float) (at k : ℕ) → k ≡ length theta → v ≡ run (at + 0) k (double theta) w → v ≡ store at theta w
+pub theta_stored : (theta w v : List Float) (at k : ℕ) → k ≡ length theta → v ≡ run at k (λ i. double theta (0 + i)) w → v ≡ store at theta w
 theta_stored theta w v at k e q =
     q
-    ∙ ap₂ (λ (a : ℕ) (l : List Float). store a l w) (add-zero at)
-    (sym (take_tab nan k (double theta) theta (omega arith) (λ i l. refl)) ∙ take_all k theta (omega arith))
+    ∙ ap (λ (l : List Float). store at l w)
+    (sym (take_tab nan k _ theta (omega arith) (λ i l. ap (double theta) (omega arith))) ∙ take_all k theta (omega arith))
 
 -- theta, the blocks and the sum
 pub doubles_begun : (y : Layout) (theta w v₁ v₂ : List Float) (at sum : ℕ) → at ≡ theta_at y → sum ≡ sum_at y → v₁ ≡ store at theta w

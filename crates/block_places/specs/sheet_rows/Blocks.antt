@@ -5,7 +5,6 @@ use Rattle.layout.specs.Shapes.{loaded_at}
 use Rattle.layout.specs.Blocks.{sum}
 use Rattle.heading_format.specs.Heading.{sheet_levels}
 use Rattle.workspace.specs.Loaded.{row_start, in_block}
-use Rattle.block_places.specs.declared.sheet_rows.Map.{Map}
 
 -- the one of the first n sorted blocks that has row x, or k where none has
 unfoldable pub block_of_row : Layout → ℕ → ℕ → ℕ
@@ -20,8 +19,3 @@ FirstRows y l = (j : ℕ) → j < y.k → get_or l j 0 ≡ row_start y j
 -- where each loaded block starts among the doubles
 abbrev pub BlockStarts : Layout → List ℕ → Type 0
 BlockStarts y l = (i j : ℕ) → j ≤ i → i ≤ y.k → get_or l (i * 9 + j) 0 ≡ loaded_at y i j
-
--- a layout's map has both
-pub record Maps (y : Layout) (m : Map) : Type 0 where
-  pub first : FirstRows y m.first
-  pub at : BlockStarts y m.at

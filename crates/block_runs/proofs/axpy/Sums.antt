@@ -1,24 +1,28 @@
 -- Sums that are broken off and taken up again, for plus and minus alike.
-use Prim.Native.Nat.{ℕ, zero, suc, ◌+◌, ◌-◌, ◌*◌, ◌≤◌, ◌<◌}
+use Prim.Native.Nat.{ℕ, zero, suc, ◌+◌, ◌-◌, ◌*◌, ◌/◌, ◌≤◌, ◌<◌}
 use mathlib.Core.Path.{◌≡◌, refl, sym, ap, ap₂, ◌∙◌}
 use mathlib.Core.Bool.{Bool, true, false}
 use mathlib.Core.List.{List}
-use native.Mathlib.Nat.{add-zero, add-suc}
+use mathlib.Core.Logic.{inr}
+use native.Mathlib.Nat.{add-zero, add-suc, mul-le-mul_left}
+use native.Mathlib.Numerals.{add-one}
 use native.Mathlib.Omega.{arith}
 use lib.ListN.{length}
 use lib.Ieee.{Float, nan, sub}
+use Rattle.std.proofs.Math.Nat.{div-mul-le_self}
 use Rattle.storage.specs.Runs.{start, dense, tab}
 use Rattle.storage.specs.Shape.{columns, size_of}
 use Rattle.storage.specs.Part.{store}
-use Rattle.storage.proofs.Starts.{start_dense, start_le}
+use Rattle.storage.proofs.Starts.{start_dense, start_below, start_le}
 use Rattle.storage.proofs.Cells.{length_tab, get_or_tab, tab_ext, take_tab}
 use Rattle.storage.proofs.Parts.{length_store, store_in, store_store, store_part}
+use Rattle.storage.proofs.Filling.{Filling, filling_else}
 use Rattle.rules.specs.Arithmetic.{ieee}
 use Rattle.rules.specs.Sums.{all, sum_from, subtract_from}
 use Rattle.rules.proofs.Products.{times_swap, times_negated}
 use Rattle.block_runs.specs.blocks.Blocks.{block}
 use Rattle.block_runs.proofs.blocks.Laws.{read_block, has_dense}
-use Rattle.block_runs.specs.axpy.Axpy.{at, run, along, one_more, four_more, products, Some, add_or_subtract, signed_of}
+use Rattle.block_runs.specs.axpy.Axpy.{at, run, along, products, add_or_subtract, signed_of}
 
 -- the sums of the rules
 pub sum_along : (s : Float) (a b : ℕ → Float) (n : ℕ) → along ieee.plus s a b n ≡ sum_from ieee s (all ieee) a b n
@@ -68,14 +72,14 @@ read_run to n g w fits i k l e =
 
 module _ (f : Float → Float → Float) (acc : List Float) (n : ℕ) (w : List Float) (a rows : ℕ) (v : List Float) (b step r : ℕ)
     (room : n ≤ length acc) (narrow : n ≤ rows) (one : r < step) where
-  pub none_added : acc ≡ products f acc n w a rows v b step r 0
+  none_added : acc ≡ products f acc n w a rows v b step r 0
   unfolding along
   none_added =
       sym (store_part 0 n acc (omega arith)) ∙ ap (λ (l : List Float). store 0 l acc)
       (take_tab nan n (at acc) acc room (λ i l. refl))
 
   -- x products and k more
-  pub more_added : (x k p q : ℕ) (acc₁ acc₂ : List Float) → p ≡ a + start (dense rows) x → q ≡ b + start (dense step) x
+  more_added : (x k p q : ℕ) (acc₁ acc₂ : List Float) → p ≡ a + start (dense rows) x → q ≡ b + start (dense step) x
       → a + size_of (columns rows (x + k)) ≤ length w → b + size_of (columns step (x + k)) ≤ length v
       → acc₁ ≡ products f acc n w a rows v b step r x → acc₂ ≡ products f acc₁ n w p rows v q step r k
       → acc₂ ≡ products f acc n w a rows v b step r (x + k)
@@ -101,49 +105,33 @@ module _ (f : Float → Float → Float) (acc : List Float) (n : ℕ) (w : List 
           sym (read_block (columns rows x) a w i y (a + (start (dense rows) y + i)) (has_dense rows x i y h l) (omega (arith, start_le (dense rows) x (x + k) (omega arith))) refl)
           ∙ read_block (columns rows (x + k)) a w i y (a + (start (dense rows) y + i)) (has_dense rows (x + k) i y h (omega arith)) fits refl
 
--- ---- one product and four, as the loops take them
-module _ (f : Float → Float → Float) (n : ℕ) (w : List Float) (p rows : ℕ) (v : List Float) (q step r left : ℕ)
-    (narrow : n ≤ rows) (one : r < step) (fits : p + size_of (columns rows left) ≤ length w) (fits' : q + size_of (columns step left) ≤ length v) where
-  -- the factors of product y of k
-  pub factors : (k : ℕ) → k ≤ left → (y : ℕ) → y < k → (p' q' : ℕ) → p' ≡ p + start (dense rows) y → q' ≡ q + start (dense step) y + r → (i : ℕ) → i < n
-      → ieee.times (at w (p' + i)) (at v q') ≡ ieee.times (block p (columns rows k) w i y) (block q (columns step k) v r y)
-  factors k top y l p' q' e d i m =
-      ap₂ ieee.times
-      (read_block (columns rows k) p w i y (p' + i) (has_dense rows k i y (omega arith) l) (omega (arith, start_le (dense rows) k left top)) (omega arith))
-      (read_block (columns step k) q v r y q' (has_dense step k r y one l) (omega (arith, start_le (dense step) k left top)) (omega arith))
+-- ---- the columns as the loops take them
+-- double i of column j, and that it is there
+pub column_read : (p rows n : ℕ) (w : List Float) (i j : ℕ) → i < rows → j < n → p + size_of (columns rows n) ≤ length w
+    → at w (p + j * rows + i) ≡ block p (columns rows n) w i j
+column_read p rows n w i j h l fits = read_block (columns rows n) p w i j (p + j * rows + i) (has_dense rows n i j h l) fits (omega (arith, start_dense rows j))
 
-  pub one_added : (acc acc' : List Float) (q' : ℕ) → 1 ≤ left → q' ≡ q + r → acc' ≡ run 0 n (one_more f w p (at v q') (at acc)) acc
-      → Some f acc acc' n w p rows v q step r left 1
-  unfolding along start
-  one_added acc acc' q' some d so =
-      (omega arith, some, so ∙ ap (λ (l : List Float). store 0 l acc) (tab_ext n _ _ (λ i l. ap (f (at acc i)) (factors 1 some 0 (omega arith) p q' (omega arith) (omega arith) i l))))
+pub column_room : (p rows n top i j : ℕ) → i < rows → j < n → p + size_of (columns rows n) ≤ top → p + j * rows + i < top
+column_room p rows n top i j h l fits = omega (arith, start_dense rows j, start_below (dense rows) j n l)
 
-  pub four_added : (acc acc' : List Float) (q' : ℕ) → 4 ≤ left → q' ≡ q + r → acc' ≡ four_more f acc n w p rows v q' step
-      → Some f acc acc' n w p rows v q step r left 4
-  unfolding along
-  four_added acc acc' q' some d so = (
-    omega arith,
-    some,
-    so
-        ∙ ap (λ (l : List Float). store 0 l acc)
-        (tab_ext n _ _
-        (λ i l.
-        ap₂ f
-        (ap₂ f
-        (ap₂ f
-        (ap (f (at acc i))
-        (factors 4 some 0 (omega arith) p q' (omega (arith, start_dense rows 0)) (omega (arith, start_dense step 0)) i l))
-        (factors 4 some 1 (omega arith) (p + rows) (q' + step) (omega (arith, start_dense rows 1)) (omega (arith, start_dense step 1)) i l))
-        (factors 4 some 2 (omega arith) (p + rows + rows) (q' + step + step) (omega (arith, start_dense rows 2)) (omega (arith, start_dense step 2)) i l))
-        (factors 4 some 3 (omega arith) (p + rows + rows + rows) (q' + step + step + step) (omega (arith, start_dense rows 3)) (omega (arith, start_dense step 3)) i l))),
-  )
+-- one product more
+pub next_product : (f : Float → Float → Float) (s s' : Float) (a b : ℕ → Float) (n : ℕ) {x y : Float} → s' ≡ along f s a b n → x ≡ a n → y ≡ b n
+    → f s' (ieee.times x y) ≡ along f s a b (n + 1)
+unfolding along
+next_product f s s' a b n so e d = rw add-one (ap₂ f so (ap₂ ieee.times e d))
 
--- room for one column, and for four
-pub one_fits : (p rows left top : ℕ) → 0 < left → p + size_of (columns rows left) ≤ top → p + rows ≤ top
-one_fits p rows left top some h = omega (arith, start_le (dense rows) 1 left some, start_dense rows 1)
+-- the sum that starts with a cell that is not written yet
+pub sum_with : {g : ℕ → Float} {n : ℕ} {acc now : List Float} {i : ℕ} (a b : ℕ → Float) (N : ℕ) {s : Float}
+    → Filling g 0 n acc now i → s ≡ along ieee.plus (at now i) a b N → s ≡ along ieee.plus (at acc i) a b N
+sum_with {i = i} a b N e so = so ∙ ap (λ (x : Float). along ieee.plus x a b N) (filling_else e nan i (inr (omega arith)))
 
-pub four_fit : (p rows left top : ℕ) → 4 ≤ left → p + size_of (columns rows left) ≤ top → p + rows + rows + rows + rows ≤ top
-four_fit p rows left top some h = omega (arith, start_le (dense rows) 4 left some, start_dense rows 4)
+-- room for k of the columns that are left
+pub some_fit : (p rows k left top : ℕ) → k ≤ left → p + size_of (columns rows left) ≤ top → p + size_of (columns rows k) ≤ top
+some_fit p rows k left top some h = omega (arith, start_le (dense rows) k left some)
+
+-- whole groups of N columns among the inner ones
+pub group_fits : (k N inner : ℕ) → 0 < N → k < inner / N → k * N + N ≤ inner
+group_fits k N inner h l = omega (arith, div-mul-le_self inner N, mul-le-mul_left N l)
 
 -- room for the columns that are left, and where the next of them start
 pub left_fits : (a rows x inner p top : ℕ) → x ≤ inner → p ≡ a + start (dense rows) x → a + size_of (columns rows inner) ≤ top → p + size_of (columns rows (inner - x)) ≤ top
@@ -156,6 +144,90 @@ pub next_start : (a rows x k inner p top : ℕ) → x + k ≤ inner → p ≡ a 
 next_start a rows x k inner p top l e h =
     let s : start (dense rows) (x + k) ≤ start (dense rows) inner = start_le (dense rows) (x + k) inner l in
     (omega (arith, start_add rows x k, start_dense rows k), omega (arith, start_add rows x k, start_dense rows k))
+
+-- n sums have their first x products: row i of block a of w, row r of block b of v; the next columns start at p and at q
+pub record Adding (f : Float → Float → Float) (acc : List Float) (n : ℕ) (w : List Float) (a rows : ℕ) (v : List Float) (b step r inner x p q : ℕ) (now : List Float) : Type 0 where
+  pub within : x ≤ inner
+  pub room : n ≤ length acc
+  pub narrow : n ≤ rows
+  pub one : r < step
+  pub fits : a + size_of (columns rows inner) ≤ length w
+  pub fits' : b + size_of (columns step inner) ≤ length v
+  pub place : p ≡ a + start (dense rows) x
+  pub place' : q ≡ b + start (dense step) x
+  pub long : length now ≡ length acc
+  pub so : now ≡ products f acc n w a rows v b step r x
+
+pub adding_none : (f : Float → Float → Float) (acc : List Float) (n : ℕ) (w : List Float) (a rows : ℕ) (v : List Float) (b step r inner x : ℕ) → x ≡ 0
+    → n ≤ length acc → n ≤ rows → r < step → a + size_of (columns rows inner) ≤ length w → b + size_of (columns step inner) ≤ length v
+    → Adding f acc n w a rows v b step r inner x a b acc
+adding_none f acc n w a rows v b step r inner x none room narrow one fits fits' =
+    record {
+      within = omega arith;
+      room = room;
+      narrow = narrow;
+      one = one;
+      fits = fits;
+      fits' = fits';
+      place = rw none (omega (arith, start_dense rows 0));
+      place' = rw none (omega (arith, start_dense step 0));
+      long = refl;
+      so = rw none (none_added f acc n w a rows v b step r room narrow one);
+    }
+
+module _ {f : Float → Float → Float} {acc : List Float} {n : ℕ} {w : List Float} {a rows : ℕ} {v : List Float} {b step r inner x p q : ℕ} {now : List Float}
+    (e : Adding f acc n w a rows v b step r inner x p q now) where
+  -- room for the columns that are left
+  pub adding_left : (p + size_of (columns rows (inner - x)) ≤ length w) × (q + size_of (columns step (inner - x)) ≤ length v)
+  adding_left = (
+    left_fits a rows x inner p (length w) e.within e.place e.fits,
+    left_fits b step x inner q (length v) e.within e.place' e.fits',
+  )
+
+  module _ (k : ℕ) (more : x + k ≤ inner) where
+    -- room for k of them
+    pub adding_room : (p + size_of (columns rows k) ≤ length w) × (q + size_of (columns step k) ≤ length v) × (p + k * rows ≤ length w) × (q + k * step ≤ length v)
+    adding_room =
+        let u = (next_start a rows x k inner p (length w) more e.place e.fits).0 in
+        let v = (next_start b step x k inner q (length v) more e.place' e.fits').0 in
+        (omega (arith, start_dense rows k), omega (arith, start_dense step k), u, v)
+
+    -- their products
+    pub adding_more : {now' : List Float} {x' p' q' : ℕ} → now' ≡ products f now n w p rows v q step r k → x' ≡ x + k → p' ≡ p + k * rows → q' ≡ q + k * step
+        → Adding f acc n w a rows v b step r inner x' p' q' now'
+    adding_more {now'} next d u z =
+        record {
+          within = omega arith;
+          room = e.room;
+          narrow = e.narrow;
+          one = e.one;
+          fits = e.fits;
+          fits' = e.fits';
+          place = rw (d, u) (next_start a rows x k inner p (length w) more e.place e.fits).1;
+          place' = rw (d, z) (next_start b step x k inner q (length v) more e.place' e.fits').1;
+          long = ap length next ∙ length_store 0 (tab n _) now (omega (arith, length_tab {A = Float} n, e.room, e.long)) ∙ e.long;
+          so =
+              rw d
+              (more_added f acc n w a rows v b step r e.room e.narrow e.one x k p q now now' e.place e.place'
+              (omega (arith, start_le (dense rows) (x + k) inner more, e.fits)) (omega (arith, start_le (dense step) (x + k) inner more, e.fits')) e.so next);
+        }
+
+  -- the columns that are left at once
+  pub adding_rest : {now' : List Float} (k : ℕ) → k ≡ inner - x → now' ≡ products f now n w p rows v q step r k → now' ≡ products f acc n w a rows v b step r inner
+  adding_rest k d next =
+      let within = e.within in let g : x + k ≡ inner = omega arith in
+      (adding_more k (omega arith) next refl refl refl).so ∙ ap (products f acc n w a rows v b step r) g
+
+  -- as far as x' says
+  pub adding_done : (x' : ℕ) → x' ≡ x → now ≡ products f acc n w a rows v b step r x'
+  adding_done x' d = rw d e.so
+
+-- the first x columns at once
+pub adding_first : (f : Float → Float → Float) (acc : List Float) (n : ℕ) (w : List Float) (a rows : ℕ) (v : List Float) (b step r inner x : ℕ) (now : List Float)
+    → n ≤ length acc → n ≤ rows → r < step → a + size_of (columns rows inner) ≤ length w → b + size_of (columns step inner) ≤ length v → x ≤ inner
+    → now ≡ products f acc n w a rows v b step r x → Adding f acc n w a rows v b step r inner x (a + x * rows) (b + x * step) now
+adding_first f acc n w a rows v b step r inner x now room narrow one fits fits' l so =
+    adding_more (adding_none f acc n w a rows v b step r inner 0 refl room narrow one fits fits') x (omega arith) so (omega arith) refl refl
 
 -- ---- the factors of every product exchanged
 pub along_swap : (f : Float → Float → Float) (s : Float) (a b : ℕ → Float) (n : ℕ) → along f s a b n ≡ along f s b a n
@@ -180,31 +252,17 @@ unfolding sub
 signed_add_or_subtract false s x y = refl
 signed_add_or_subtract true s x y = ap (ieee.plus s) (times_negated x y)
 
--- a product with a signed factor
-product_added : (subtract : Bool) (s x y f : Float) → f ≡ signed_of subtract y → ieee.plus s (ieee.times x f) ≡ add_or_subtract subtract s (ieee.times x y)
-product_added subtract s x y f e = ap (λ (z : Float). ieee.plus s (ieee.times x z)) e ∙ signed_add_or_subtract subtract s x y
+-- products with signed factors
+signed_along : (subtract : Bool) (s : Float) (a b g : ℕ → Float) (n : ℕ) → ((x : ℕ) → x < n → g x ≡ signed_of subtract (b x))
+    → along ieee.plus s a g n ≡ along (add_or_subtract subtract) s a b n
+unfolding along
+signed_along subtract s a b g zero h = refl
+signed_along subtract s a b g (suc n) h =
+    ap₂ (λ (x y : Float). ieee.plus x (ieee.times (a n) y)) (signed_along subtract s a b g n (λ x l. h x (omega arith))) (h n (omega arith))
+    ∙ signed_add_or_subtract subtract (along (add_or_subtract subtract) s a b n) (a n) (b n)
 
-pub one_signed : (subtract : Bool) (acc acc' : List Float) (n : ℕ) (w : List Float) (p : ℕ) (y f : Float) → f ≡ signed_of subtract y
-    → acc' ≡ run 0 n (one_more ieee.plus w p f (at acc)) acc → acc' ≡ run 0 n (one_more (add_or_subtract subtract) w p y (at acc)) acc
-one_signed subtract acc acc' n w p y f e so = so ∙ ap (λ (l : List Float). store 0 l acc) (tab_ext n _ _ (λ i l. product_added subtract (at acc i) (at w (p + i)) y f e))
-
-pub four_signed : (subtract : Bool) (acc acc' : List Float) (n : ℕ) (w : List Float) (p rows : ℕ) (v : List Float) (q step : ℕ) (f f1 f2 f3 : Float)
-    → f ≡ signed_of subtract (at v q) → f1 ≡ signed_of subtract (at v (q + step)) → f2 ≡ signed_of subtract (at v (q + step + step))
-    → f3 ≡ signed_of subtract (at v (q + step + step + step))
-    → acc'
-    ≡ run 0 n
-    (one_more ieee.plus w (p + rows + rows + rows) f3
-    (one_more ieee.plus w (p + rows + rows) f2 (one_more ieee.plus w (p + rows) f1 (one_more ieee.plus w p f (at acc)))))
-    acc
-    → acc' ≡ four_more (add_or_subtract subtract) acc n w p rows v q step
-four_signed subtract acc acc' n w p rows v q step f f1 f2 f3 e e1 e2 e3 so =
-    so
-    ∙ ap (λ (l : List Float). store 0 l acc)
-    (tab_ext n _ _
-    (λ i l.
-    product_added subtract _ (at w (p + rows + rows + rows + i)) (at v (q + step + step + step)) f3 e3
-    ∙ ap (λ (s : Float). add_or_subtract subtract s (ieee.times (at w (p + rows + rows + rows + i)) (at v (q + step + step + step))))
-    (product_added subtract _ (at w (p + rows + rows + i)) (at v (q + step + step)) f2 e2
-    ∙ ap (λ (s : Float). add_or_subtract subtract s (ieee.times (at w (p + rows + rows + i)) (at v (q + step + step))))
-    (product_added subtract _ (at w (p + rows + i)) (at v (q + step)) f1 e1
-    ∙ ap (λ (s : Float). add_or_subtract subtract s (ieee.times (at w (p + rows + i)) (at v (q + step)))) (product_added subtract (at acc i) (at w (p + i)) (at v q) f e)))))
+pub columns_added : (subtract : Bool) (acc acc' : List Float) (n : ℕ) (a : ℕ → ℕ → Float) (b g : ℕ → Float) (N : ℕ)
+    → acc' ≡ run 0 n (λ i. along ieee.plus (at acc i) (a i) g N) acc → ((x : ℕ) → x < N → g x ≡ signed_of subtract (b x))
+    → acc' ≡ run 0 n (λ i. along (add_or_subtract subtract) (at acc i) (a i) b N) acc
+columns_added subtract acc acc' n a b g N so h =
+    so ∙ ap (λ (l : List Float). store 0 l acc) (tab_ext n _ _ (λ i l. signed_along subtract (at acc i) (a i) b g N h))

@@ -1,6 +1,6 @@
 -- What the loops over one run of doubles leave, whole list by whole list. Every rule of Records 4 and 7 on dense blocks is a start,
 -- these sums, and an end.
-use Rattle.std.specs.Prelude.{ℕ, zero, suc, ◌+◌, ◌<◌, ◌≤◌, ◌≡◌, List, get_or, Bool, true, false, Float}
+use Rattle.std.specs.Prelude.{ℕ, zero, suc, ◌+◌, ◌<◌, ◌≡◌, List, get_or, Bool, true, false, Float}
 use Rattle.std.specs.Float.{nan}
 use Rattle.std.specs.Float.Ieee.{neg}
 use Rattle.storage.specs.Runs.{tab}
@@ -17,6 +17,11 @@ at l i = get_or l i nan
 abbrev pub run : (to n : ℕ) → (ℕ → Float) → List Float → List Float
 run to n g w = store to (tab n g) w
 
+-- double i of the n doubles from `to` on is what `post` says of i and of what it was: that is a run by g, if g is what `post` says
+abbrev pub Changed : (n : ℕ) (post : ℕ → Float → Float → Type 0) (to : ℕ) → List Float → List Float → Type 0
+Changed n post to w w' =
+    (g : ℕ → Float → Float) → ((i : ℕ) (x r : Float) → i < n → post i x r → r ≡ g i x) → w' ≡ run to n (λ i. g i (at w (to + i))) w
+
 -- s and n products, one by one, each taken in by f, which is plus or minus
 unfoldable pub along : (Float → Float → Float) → Float → (ℕ → Float) → (ℕ → Float) → ℕ → Float
 along f s a b zero = s
@@ -32,23 +37,7 @@ abbrev pub signed_of : Bool → Float → Float
 signed_of false x = x
 signed_of true x = neg x
 
--- one product more in each of several sums: m times the double at p + i
-abbrev pub one_more : (Float → Float → Float) → List Float → ℕ → Float → (ℕ → Float) → ℕ → Float
-one_more f w p m s i = f (s i) (ieee.times (at w (p + i)) m)
-
--- four products more, of columns that are `rows` and `step` apart
-abbrev pub four_more : (Float → Float → Float) → (acc : List Float) (n : ℕ) (w : List Float) (p rows : ℕ) (v : List Float) (q step : ℕ) → List Float
-four_more f acc n w p rows v q step =
-    run 0 n
-    (one_more f w (p + rows + rows + rows) (at v (q + step + step + step))
-    (one_more f w (p + rows + rows) (at v (q + step + step)) (one_more f w (p + rows) (at v (q + step)) (one_more f w p (at v q) (at acc)))))
-    acc
-
 -- each of the first n doubles with the products of row i of the block at a of w, whose columns have `rows` cells, and row r of the block at b of v
 abbrev pub products : (Float → Float → Float) → (acc : List Float) (n : ℕ) (w : List Float) (a rows : ℕ) (v : List Float) (b step r inner : ℕ) → List Float
 products f acc n w a rows v b step r inner =
     run 0 n (λ i. along f (at acc i) (block a (columns rows inner) w i) (block b (columns step inner) v r) inner) acc
-
--- k of those products, some but no more than are left
-abbrev pub Some : (Float → Float → Float) → (acc acc' : List Float) (n : ℕ) (w : List Float) (a rows : ℕ) (v : List Float) (b step r left k : ℕ) → Type 0
-Some f acc acc' n w a rows v b step r left k = (0 < k) × (k ≤ left) × (acc' ≡ products f acc n w a rows v b step r k)

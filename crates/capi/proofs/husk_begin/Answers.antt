@@ -4,7 +4,6 @@ use borrow.Author.Tests.{lt-ltb, le-ltb}
 use Rattle.refusal.specs.Numbers.{Meaning}
 use Rattle.capi.specs.Told.{told_answer}
 use Rattle.capi.proofs.Laws.{call_told}
-use borrow.Author.Rules.{rules}
 use Rattle.capi.proofs.husk_begin.Goals as goal
 
 pub returns-then-answer-lt2 : goal.returns-then-answer-lt2

@@ -3,7 +3,6 @@ use mathlib.Core.Path.{refl, ap, ◌∙◌}
 use borrow.Author.Tests.{lt-ltb, le-ltb}
 use Rattle.profile.specs.Deviance.{DevianceMeaning}
 use Rattle.capi.specs.Told.{told_deviance}
-use borrow.Author.Rules.{rules}
 use Rattle.capi.proofs.husk_deviance_from_factor.Goals as goal
 
 pub returns-then-answer-lt5 : goal.returns-then-answer-lt5

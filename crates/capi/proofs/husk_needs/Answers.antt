@@ -3,7 +3,6 @@ use mathlib.Core.Path.{refl, ap, ◌∙◌}
 use borrow.Author.Tests.{lt-ltb, le-ltb}
 use Rattle.load.specs.room.Needs.{NeedsMeaning}
 use Rattle.capi.specs.Told.{told_needs}
-use borrow.Author.Rules.{rules}
 use Rattle.capi.proofs.husk_needs.Goals as goal
 
 pub returns-then-answer-lt4 : goal.returns-then-answer-lt4

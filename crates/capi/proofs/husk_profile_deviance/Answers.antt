@@ -4,7 +4,6 @@ use borrow.Author.Tests.{lt-ltb, le-ltb}
 use Rattle.profile.specs.Deviance.{DevianceMeaning}
 use Rattle.capi.specs.Told.{told_deviance}
 use Rattle.capi.proofs.Laws.{call_told}
-use borrow.Author.Rules.{rules}
 use Rattle.capi.proofs.husk_profile_deviance.Goals as goal
 
 pub returns-then-answer-lt5 : goal.returns-then-answer-lt5

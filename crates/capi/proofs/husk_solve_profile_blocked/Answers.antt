@@ -1,7 +1,6 @@
 -- `capi::husk_solve_profile_blocked`: the boundary's tests, then the call.
 use mathlib.Core.Path.{refl}
 use borrow.Author.Tests.{lt-ltb, le-ltb, eq-eqb, ne_eqb}
-use borrow.Author.Rules.{rules}
 use Rattle.capi.proofs.husk_solve_profile_blocked.Goals as goal
 
 pub returns-then-answer-lt4 : goal.returns-then-answer-lt4

@@ -7,7 +7,6 @@ use Rattle.workspace.specs.Answers.{Outcome}
 use Rattle.update.specs.Calls.{step_of}
 use Rattle.capi.specs.Told.{told_answer}
 use Rattle.capi.proofs.Laws.{call_told}
-use borrow.Author.Rules.{rules}
 use Rattle.capi.proofs.husk_step.Goals as goal
 
 pub returns-then-answer-lt2 : goal.returns-then-answer-lt2

@@ -3,7 +3,6 @@ use mathlib.Core.Path.{refl, ap, ◌∙◌}
 use borrow.Author.Tests.{lt-ltb, le-ltb}
 use Rattle.views.specs.Views.{StepsMeaning}
 use Rattle.capi.specs.Told.{told_steps}
-use borrow.Author.Rules.{rules}
 use Rattle.capi.proofs.husk_steps_left.Goals as goal
 
 pub returns-then-answer-lt3 : goal.returns-then-answer-lt3

@@ -1,7 +1,6 @@
 -- `capi::solve`: the call, and the words where its number says that the list was written.
 use Rattle.profile.specs.Finish.{solve_of}
 use Rattle.capi.proofs.Laws.{solve_written, solve_kept}
-use borrow.Author.Rules.{rules}
 use Rattle.capi.proofs.solve.Goals as goal
 
 pub returns-then-number : goal.returns-then-number

@@ -1,12 +1,9 @@
 use mathlib.Core.Path.{◌∙◌}
-use Prim.Native.Nat.{◌-◌}
 use native.Mathlib.Omega.{arith}
 use lib.Ieee.{nan}
-use lib.ListN.{length, get_or}
-use Rattle.storage.proofs.Filling.{Filling, filling_none, array_more, array_done}
+use Rattle.storage.proofs.Filling.{filling_none, array_more, array_done}
 use Rattle.capi.specs.Told.{word_of}
 use Rattle.capi.proofs.Laws.{map_tab}
-use borrow.Author.Rules.{rules}
 use Rattle.capi.proofs.write_words.Goals as goal
 
 pub loop-i-init : goal.loop-i-init

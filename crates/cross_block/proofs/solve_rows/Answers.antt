@@ -19,8 +19,8 @@ solve_column-requires c = let a = c.args in let l = c.loop-c in
 pub overflow_add-to : goal.overflow_add-to
 overflow_add-to c = omega (arith, going_room c.loop-c.invariant.2 (omega arith))
 
-pub overflow_add-row : goal.overflow_add-row
-overflow_add-row c = omega (arith, start_below triangle c.loop-c.c c.args.f.rows (omega arith))
+pub overflow_add-row-in-loop-c : goal.overflow_add-row-in-loop-c
+overflow_add-row-in-loop-c c = omega (arith, start_below triangle c.loop-c.c c.args.f.rows (omega arith))
 
 pub loop-c-preserved : goal.loop-c-preserved
 unfolding start

@@ -9,4 +9,4 @@ add_products-requires c = omega (arith, start_dense 1 c.args.a.cols)
 
 pub returns : goal.returns
 returns c = sums_subtracted _ _ _ _ _ _ _ _ _ c.requires.0 c.requires.1
-    c.clear.ensures c.add_products.ensures _ (omega arith) c.subtract.ensures
+    c.clear.ensures c.add_products.ensures c.subtract.ensures

@@ -18,7 +18,6 @@ use Rattle.step_order.proofs.Sets.{represents_begun, represents_same}
 use Rattle.step_order.proofs.Left.{left_joins}
 use Rattle.rules.specs.Arithmetic.{ieee}
 use Rattle.sheet.specs.Sheet.{Sheet}
-use Rattle.refusal.specs.declared.Answer.TheVariants.{Accepted}
 use Rattle.refusal.specs.Numbers.{refuse}
 use Rattle.layout.specs.declared.Layout.{Layout}
 use Rattle.heading_format.specs.declared.State.TheVariants.{UnderWay, Finished}
@@ -38,6 +37,7 @@ use Rattle.demand3.proofs.invariant.Invariant.{Site, Begun, Invariant, Follows, 
 use Rattle.demand3.proofs.invariant.Site.{layout_of_lem, valid_heading_of, alike}
 use Rattle.demand3.proofs.invariant.Step.{working_is}
 use Rattle.heading_format.specs.Parts.{most_targets}
+use Rattle.std.specs.Prelude.{Ok}
 
 -- past two tests and an index
 goes : (a b : Bool) (f : Option ℕ) (bad : ℕ → Outcome) (o p q : Outcome) → a ≡ true → b ≡ true → f ≡ none → pick a (pick b (unless_at f bad o) p) q ≡ o
@@ -67,11 +67,11 @@ module _ (sheet : Sheet) (h : List ℕ) (w : List Float) (here : Site sheet h w)
     fits = many ∙ ap (λ (y : Layout). y.k) (sym same)
 
     -- it goes past 20, 13 and 14
-    begins_so : begin_of v.heading v.doubles theta ≡ record { answer = Accepted; left = begun v.heading v.doubles theta }
+    begins_so : begin_of v.heading v.doubles theta ≡ record { answer = Ok tt; left = begun v.heading v.doubles theta }
     unfolding begin_of
     begins_so = goes _ _ _ _ _ _ _ (valid_heading_of sheet h w here b v s) (eq-eqb (length theta) (layout_of v.heading).k fits) finite
 
-    pub begin_accepts : (begin_of v.heading v.doubles theta).answer ≡ Accepted
+    pub begin_accepts : (begin_of v.heading v.doubles theta).answer ≡ (Ok tt)
     begin_accepts = ap (λ (o : Outcome). o.answer) begins_so
 
     -- what it leaves
@@ -149,8 +149,8 @@ module _ (sheet : Sheet) (h : List ℕ) (w : List Float) (here : Site sheet h w)
 
   -- whatever the two tests of theta say
   answered : (c : Bool) (f : Option ℕ) → eqb (length theta) (last sheet) ≡ c → first_infinite 0 theta ≡ f
-      → Met (pick c (unless_at f (λ i. untouched v.heading v.doubles 14 0 i) (record { answer = Accepted; left = begun v.heading v.doubles theta })) (untouched v.heading v.doubles 13 0 0))
-      (pick c (unless_at f (λ i. entry (plain (refuse 14 0 i)) b) (entry (plain Accepted) (with_done (some nothing) (with_theta theta b)))) (entry (plain (refuse 13 0 0)) b))
+      → Met (pick c (unless_at f (λ i. untouched v.heading v.doubles 14 0 i) (record { answer = Ok tt; left = begun v.heading v.doubles theta })) (untouched v.heading v.doubles 13 0 0))
+      (pick c (unless_at f (λ i. entry (plain (refuse 14 0 i)) b) (entry (plain (Ok tt)) (with_done (some nothing) (with_theta theta b)))) (entry (plain (refuse 13 0 0)) b))
   answered true none e g = (refl, begun_invariant (eqb-true (length theta) (last sheet) e) g)
   answered true (some i) e g = (refl, s)
   answered false f e g = (refl, s)
@@ -162,7 +162,7 @@ module _ (sheet : Sheet) (h : List ℕ) (w : List Float) (here : Site sheet h w)
       subst (λ (o : Outcome). Met o (on_begin sheet theta b))
       (sym
       (ap₂ (λ (t : Bool) (k : ℕ). pick t (pick (eqb (length theta) k)
-      (unless_at (first_infinite 0 theta) (λ i. untouched v.heading v.doubles 14 0 i) (record { answer = Accepted; left = begun v.heading v.doubles theta }))
+      (unless_at (first_infinite 0 theta) (λ i. untouched v.heading v.doubles 14 0 i) (record { answer = Ok tt; left = begun v.heading v.doubles theta }))
       (untouched v.heading v.doubles 13 0 0)) (untouched v.heading v.doubles 20 0 0))
       (valid_heading_of sheet h w here b v s) (ap (λ (y : Layout). y.k) same)))
       (answered (eqb (length theta) (last sheet)) (first_infinite 0 theta) refl refl)

@@ -3,7 +3,7 @@ use Prim.Native.Nat.{ℕ, ◌+◌, ◌≤◌, ◌<◌}
 use mathlib.Core.Path.{◌≡◌, refl, sym, ap, subst, ◌∙◌}
 use mathlib.Core.Bool.{Bool, true, false, cond, and-eq-true_iff}
 use mathlib.Core.List.{List, [], ◌++◌, append_assoc}
-use mathlib.Core.Option.{Option, none, some}
+use Rattle.std.specs.Prelude.{Option, None, Some}
 use native.Mathlib.Omega.{arith}
 use lib.Dec.{leb, eqb}
 use lib.ListN.{length, get_or, take, drop, length-append, length-replicate}
@@ -20,7 +20,6 @@ use Rattle.sheet.specs.Sheet as Sheets
 use Rattle.sheet.specs.Fault.{fault_number, named_line}
 use Rattle.sheet.specs.Answer.{checked}
 use Rattle.refusal.specs.declared.Refusal.{Refusal}
-use Rattle.refusal.specs.declared.Answer.TheVariants.{Accepted}
 use Rattle.layout.specs.declared.Layout.{Layout}
 use Rattle.layout.specs.Shapes.{pick, levels, pairs, loaded_length, doubles_needed}
 use Rattle.heading_format.specs.Heading.{entry_row, written, idle, numbers_needed}
@@ -37,43 +36,44 @@ use Rattle.book.specs.Book.{layout, last, opened, fresh, book_of}
 use Rattle.demand3.proofs.frame.Clear.{zeros_length}
 use Rattle.demand3.proofs.invariant.Invariant.{Site, Invariant, behind}
 use Rattle.heading_format.specs.Parts.{most_targets, heading_length}
+use Rattle.std.specs.Prelude.{Ok}
 
 -- ---- what an accepted load came to
 pub record Applied (sheet : Sheet) (h : List ℕ) (w : List Float) (o : Outcome) : Type 0 where
   pub fine : fault_number sheet ≡ 0
-  pub gate : first_refused_pair sheet (layout sheet) (pairs (last sheet)) ≡ none
+  pub gate : first_refused_pair sheet (layout sheet) (pairs (last sheet)) ≡ None
   room : has_room (layout sheet) h w ≡ true
   left : o.left ≡ workspace (store 0 (heading_of sheet (layout sheet)) h) (store 0 (doubles_of sheet (layout sheet)) w)
 
 module _ (sheet : Sheet) (h : List ℕ) (w : List Float) where
   -- it fitted
-  fitted : (b : Bool) (o : Outcome) → (pick b o (untouched h w 12 0 0)).answer ≡ Accepted → (b ≡ true) × (pick b o (untouched h w 12 0 0) ≡ o)
+  fitted : (b : Bool) (o : Outcome) → (pick b o (untouched h w 12 0 0)).answer ≡ (Ok tt) → (b ≡ true) × (pick b o (untouched h w 12 0 0) ≡ o)
   fitted true o a = (refl, refl)
   fitted false o a = absurd (let z : ◌≡◌ {A = ℕ} 0 1 = cc in omega arith)
 
   -- the gate let every pair pass
-  passed : (y : Layout) (g : Option Refusal) → (after_gate g sheet y h w).answer ≡ Accepted
-      → (g ≡ none) × (has_room y h w ≡ true) × (after_gate g sheet y h w ≡ accept (store 0 (heading_of sheet y) h) (store 0 (doubles_of sheet y) w))
-  passed y none a = let f = fitted (has_room y h w) (accept (store 0 (heading_of sheet y) h) (store 0 (doubles_of sheet y) w)) a in (refl, f.0, f.1)
-  passed y (some r) a = absurd (let z : ◌≡◌ {A = ℕ} 0 1 = cc in omega arith)
+  passed : (y : Layout) (g : Option Refusal) → (after_gate g sheet y h w).answer ≡ (Ok tt)
+      → (g ≡ None) × (has_room y h w ≡ true) × (after_gate g sheet y h w ≡ accept (store 0 (heading_of sheet y) h) (store 0 (doubles_of sheet y) w))
+  passed y None a = let f = fitted (has_room y h w) (accept (store 0 (heading_of sheet y) h) (store 0 (doubles_of sheet y) w)) a in (refl, f.0, f.1)
+  passed y (Some r) a = absurd (let z : ◌≡◌ {A = ℕ} 0 1 = cc in omega arith)
 
   -- so a sheet without a fault was taken
-  sheet_opened : fault_number sheet ≡ 0 → (load_sheet sheet h w).answer ≡ Accepted → Applied sheet h w (load_sheet sheet h w)
+  sheet_opened : fault_number sheet ≡ 0 → (load_sheet sheet h w).answer ≡ (Ok tt) → Applied sheet h w (load_sheet sheet h w)
   unfolding load_sheet
   sheet_opened fine a =
       let p = passed (layout sheet) (first_refused_pair sheet (layout sheet) (pairs (last sheet))) a in
       record { fine = fine; gate = p.0; room = p.1; left = ap (λ (o : Outcome). o.left) p.2 }
 
   -- the sheet was read without a fault
-  found_fine : (b : Bool) → eqb (fault_number sheet) 0 ≡ b → (cond b (load_sheet sheet h w) (untouched h w (fault_number sheet) (named_line sheet) 0)).answer ≡ Accepted
+  found_fine : (b : Bool) → eqb (fault_number sheet) 0 ≡ b → (cond b (load_sheet sheet h w) (untouched h w (fault_number sheet) (named_line sheet) 0)).answer ≡ (Ok tt)
       → Applied sheet h w (cond b (load_sheet sheet h w) (untouched h w (fault_number sheet) (named_line sheet) 0))
   found_fine true e a = sheet_opened (eqb-true (fault_number sheet) 0 e) a
   found_fine false e a = absurd (let z : ◌≡◌ {A = ℕ} 0 1 = cc in omega arith)
 
-  pub load_opened : (bytes : List ℕ) (starts : Starts) → sheet_of bytes ≡ accepted sheet starts → (load_of bytes h w).answer ≡ Accepted → Applied sheet h w (load_of bytes h w)
+  pub load_opened : (bytes : List ℕ) (starts : Starts) → sheet_of bytes ≡ accepted sheet starts → (load_of bytes h w).answer ≡ (Ok tt) → Applied sheet h w (load_of bytes h w)
   unfolding load_of
   load_opened bytes starts e a =
-      subst (λ (p : Sheets.Outcome). (come p).answer ≡ Accepted → Applied sheet h w (come p)) (sym e) (found_fine (eqb (fault_number sheet) 0) refl) a
+      subst (λ (p : Sheets.Outcome). (come p).answer ≡ (Ok tt) → Applied sheet h w (come p)) (sym e) (found_fine (eqb (fault_number sheet) 0) refl) a
     where
       come : Sheets.Outcome → Outcome
       come p = checked (λ number line. untouched h w number line 0) (λ sheet starts. load_sheet sheet h w) p
@@ -129,7 +129,7 @@ stored sheet h w here =
 
 -- ---- what load accepted: its site
 pub open_site : (bytes : List ℕ) (sheet : Sheet) (starts : Starts) (h : List ℕ) (w : List Float)
-    → sheet_of bytes ≡ accepted sheet starts → (load_of bytes h w).answer ≡ Accepted → Site sheet h w
+    → sheet_of bytes ≡ accepted sheet starts → (load_of bytes h w).answer ≡ (Ok tt) → Site sheet h w
 open_site bytes sheet starts h w e a =
     let t = load_opened sheet h w bytes starts e a in
     let both = (and-eq-true_iff (leb (numbers_needed (layout sheet)) (length h)) (leb (doubles_needed (layout sheet)) (length w))).0 t.room in
@@ -144,7 +144,7 @@ open_site bytes sheet starts h w e a =
 
 -- and its workspace, which stands by the opened book
 pub open_invariant : (bytes : List ℕ) (sheet : Sheet) (starts : Starts) (h : List ℕ) (w : List Float)
-    → sheet_of bytes ≡ accepted sheet starts → (load_of bytes h w).answer ≡ Accepted → Invariant sheet h w (opened sheet) (load_of bytes h w).left
+    → sheet_of bytes ≡ accepted sheet starts → (load_of bytes h w).answer ≡ (Ok tt) → Invariant sheet h w (opened sheet) (load_of bytes h w).left
 open_invariant bytes sheet starts h w e a =
     subst (Invariant sheet h w (opened sheet)) (sym (load_opened sheet h w bytes starts e a).left) (stored sheet h w (open_site bytes sheet starts h w e a))
 

@@ -22,7 +22,6 @@ use Rattle.step_order.proofs.Refusal.{refused_same as seen_same}
 use Rattle.step_order.proofs.Left.{left_joins, left_represents}
 use Rattle.rules.specs.Arithmetic.{ieee}
 use Rattle.sheet.specs.Sheet.{Sheet}
-use Rattle.refusal.specs.declared.Answer.TheVariants.{Accepted}
 use Rattle.refusal.specs.Numbers.{refuse}
 use Rattle.layout.specs.declared.Layout.{Layout}
 use Rattle.heading_format.specs.declared.Progress.{Progress}
@@ -44,6 +43,7 @@ use Rattle.demand3.proofs.same_rules.Same.{state_of, Alike, made_same, sum_same,
 use Rattle.demand3.proofs.invariant.Invariant.{Site, Begun, Invariant, behind}
 use Rattle.demand3.proofs.invariant.Site.{layout_of_lem, progress_of_lem, valid_heading_of, alike}
 use Rattle.heading_format.specs.Parts.{most_targets}
+use Rattle.std.specs.Prelude.{Ok}
 
 -- past five tests: three passed, one failed, one passed
 through : (a b c d e : Bool) (p q r s t o : Outcome) → a ≡ true → b ≡ true → c ≡ true → d ≡ false → e ≡ true
@@ -64,7 +64,7 @@ working_is y h w e i j =
 module _ (sheet : Sheet) (h : List ℕ) (w : List Float) (here : Site sheet h w) (loaded theta : List Float) (d : Step → Bool) where
   -- what a step on an update with the set d may come to, r being the row of the pivot that the Rust's order refuses in it
   abbrev pub Comes : Step → Option ℕ → Outcome → Type 0
-  Comes s none o = (o.answer ≡ Accepted) × Invariant sheet h w (book loaded theta (some (join d s))) o.left
+  Comes s none o = (o.answer ≡ (Ok tt)) × Invariant sheet h w (book loaded theta (some (join d s))) o.left
   Comes s (some r) o = (o.answer ≡ refuse 26 (col s) r) × Invariant sheet h w (book loaded theta none) o.left
 
   module _ (v : Workspace) (u : Invariant sheet h w (book loaded theta (some d)) v) (s : Step) (n : IsStep (last sheet) s) (undone : d s ≡ false)

@@ -9,7 +9,6 @@ use lib.Dec.{eqb}
 use lib.ListN.{length, take, length-replicate}
 use lib.Ieee.{Float}
 use Rattle.sheet.specs.Sheet.{Sheet}
-use Rattle.refusal.specs.declared.Answer.TheVariants.{Accepted}
 use Rattle.layout.specs.declared.Layout.{Layout}
 use Rattle.layout.specs.Shapes.{pick, loaded_length, doubles_needed}
 use Rattle.heading_format.specs.Heading.{layout_of, valid_heading, idle}
@@ -25,6 +24,8 @@ use Rattle.demand3.proofs.frame.Response.{responded_length, responded_behind, re
 use Rattle.demand3.proofs.invariant.Invariant.{behind, Site, Invariant, Follows}
 use Rattle.demand3.proofs.invariant.Site.{loaded_within, heading_layout, layout_of_lem, valid_heading_of}
 use Rattle.heading_format.specs.Parts.{most_targets}
+use Rattle.std.specs.Prelude.{Result, Ok, Err}
+use Rattle.refusal.specs.declared.Refusal.{Refusal}
 
 -- what a new response comes to where 20 does not, with the prescribed lengths given
 abbrev tested : List ℕ → List ℕ → List Float → Response → Outcome
@@ -36,7 +37,7 @@ unfolding replace_of
 replace_tested h w r e = rw e
 
 -- it is accepted, progress none, and no other number of the heading is new
-responded_answer : (h : List ℕ) (w : List Float) (r : Response) → (responded h w r).answer ≡ Accepted
+responded_answer : (h : List ℕ) (w : List Float) (r : Response) → (responded h w r).answer ≡ (Ok tt)
 unfolding responded
 responded_answer h w r = refl
 
@@ -50,9 +51,10 @@ module _ (sheet : Sheet) (h : List ℕ) (w : List Float) where
   Agree o e = (plain o.answer ≡ e.reply) × Invariant sheet h w e.next o.left
 
   -- a test that both make
-  agree_pick : (c : Bool) (o p : Outcome) (e f : Entry) → Agree o e → Agree p f → Agree (pick c o p) (pick c e f)
-  agree_pick true o p e f a b = a
-  agree_pick false o p e f a b = b
+  agree_unless : (f : Result Unit Refusal) (bad : Refusal → Outcome) (good : Outcome) (bad' : Refusal → Entry) (good' : Entry) → ((r : Refusal) → Agree (bad r) (bad' r)) → Agree good good'
+      → Agree (unless_refused f bad good) (unless_refused f bad' good')
+  agree_unless (Ok tt) bad good bad' good' a b = b
+  agree_unless (Err r) bad good bad' good' a b = a r
 
 module _ (sheet : Sheet) (h : List ℕ) (w : List Float) (here : Site sheet h w) (b : Book) (v : Workspace) (stands : Invariant sheet h w b v) (r : Response) where
   -- its layout is the sheet's, and the loaded numbers are among its doubles
@@ -92,7 +94,7 @@ module _ (sheet : Sheet) (h : List ℕ) (w : List Float) (here : Site sheet h w)
 
   -- past 20 the tests of both are the same, and so are their ends
   agrees : Agree sheet h w (tested (response_lengths (layout sheet)) v.heading v.doubles r) (on_response sheet r b)
-  agrees = agree_pick sheet h w (eqb (list_fault (response_lengths (layout sheet)) (lists_of r)).number 0) _ _ _ _ (ap plain (responded_answer v.heading v.doubles r), response_invariant) (refl, stands)
+  agrees = agree_unless sheet h w (list_fault (response_lengths (layout sheet)) (lists_of r)) _ _ _ _ (λ f. (refl, stands)) (ap plain (responded_answer v.heading v.doubles r), response_invariant)
 
   -- a new response answers as the book does, and leaves what the book's next page says
   pub response_follows : Follows sheet h w b v (replace_response r)

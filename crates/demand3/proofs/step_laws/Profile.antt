@@ -17,8 +17,6 @@ use Rattle.step_order.proofs.Theorems.{rust_complete}
 use Rattle.rules.specs.Arithmetic.{ieee}
 use Rattle.rules.specs.Finish.{deviance_of}
 use Rattle.sheet.specs.Sheet.{Sheet}
-use Rattle.refusal.specs.declared.Answer.{Answer}
-use Rattle.refusal.specs.declared.Answer.TheVariants.{Accepted}
 use Rattle.refusal.specs.Numbers.{refusal, refuse}
 use Rattle.layout.specs.declared.Layout.{Layout}
 use Rattle.layout.specs.Shapes.{pick, last_shape}
@@ -29,8 +27,6 @@ use Rattle.workspace.specs.Load.{heading_of}
 use Rattle.update.specs.Calls.{begin_of, run_of}
 use Rattle.profile.specs.declared.Deviance.{Deviance}
 use Rattle.profile.specs.declared.Deviance.TheVariants.{Value, Pivot, NoScale}
-use Rattle.profile.specs.declared.DevianceAnswer.{DevianceAnswer}
-use Rattle.profile.specs.declared.DevianceAnswer.TheVariants.{Given, Refused}
 use Rattle.profile.specs.Deviance.{freedom, deviance_value, Profiled, after_steps, after_begin, profile_of}
 use Rattle.book.specs.Calls.{Reply, plain, deviance, profile_deviance}
 use Rattle.book.specs.Book.{Book, book, Entry, entry, nothing, layout, last, fresh, rust, after_all, with_done, with_theta}
@@ -42,6 +38,8 @@ use Rattle.demand3.proofs.invariant.Begin.{begin_accepts, begin_invariant, begin
 use Rattle.demand3.proofs.step_laws.Run.{Through, run_comes}
 use Rattle.demand3.proofs.step_laws.Finished.{finished_factor, finished_sum, finished_none, finished_named}
 use Rattle.demand3.proofs.step_laws.Rust.{answer_for, rust_answer}
+use Rattle.std.specs.Prelude.{Result, Ok, Err}
+use Rattle.refusal.specs.declared.Refusal.{Refusal}
 
 -- ---- the value depends only on the layout, on block (k,k) and on the sum
 abbrev value_by : Layout → List Float → Float → Bool → Deviance
@@ -77,14 +75,14 @@ set_by_lem sheet (some p) = refl
 
 module _ (sheet : Sheet) (loaded theta : List Float) (reml : Bool) where
   -- what the call answers, by that pivot
-  abbrev answer_by : Option (ℕ × ℕ) → DevianceAnswer
-  answer_by none = Given (value_by (layout sheet) (final_value sheet loaded theta (last sheet) (last sheet)) (logs_after sheet loaded theta (suc (last sheet))) reml)
-  answer_by (some p) = Given (Pivot p.0 p.1)
+  abbrev answer_by : Option (ℕ × ℕ) → Result Deviance Refusal
+  answer_by none = Ok (value_by (layout sheet) (final_value sheet loaded theta (last sheet) (last sheet)) (logs_after sheet loaded theta (suc (last sheet))) reml)
+  answer_by (some p) = Ok (Pivot p.0 p.1)
 
 -- once begin is accepted, the steps decide
-after_begin_lem : (o : Outcome) (k : ℕ) (reml : Bool) → o.answer ≡ Accepted
+after_begin_lem : (o : Outcome) (k : ℕ) (reml : Bool) → o.answer ≡ (Ok tt)
     → after_begin o.answer o k reml ≡ after_steps (run_of o.left (rust_order k)).answer (run_of o.left (rust_order k)) reml
-after_begin_lem o k reml e = ap (λ (a : Answer). after_begin a o k reml) e
+after_begin_lem o k reml e = ap (λ (a : Result Unit Refusal). after_begin a o k reml) e
 
 -- the call is begin, and what follows it
 profile_begins : (h : List ℕ) (w theta : List Float) (reml : Bool) → profile_of h w theta reml ≡ after_begin (begin_of h w theta).answer (begin_of h w theta) (layout_of h).k reml
@@ -102,11 +100,11 @@ module _ (sheet : Sheet) (h : List ℕ) (w : List Float) (here : Site sheet h w)
   steps = run_of (begin_of v.heading v.doubles theta).left (rust_order (last sheet))
 
   -- with all steps done it is the value of the final block and sum
-  through_ends : Through sheet h w here b.loaded theta (join_all nothing (rust_order (last sheet))) steps → Ends none (after_steps Accepted steps reml)
+  through_ends : Through sheet h w here b.loaded theta (join_all nothing (rust_order (last sheet))) steps → Ends none (after_steps (Ok tt) steps reml)
   through_ends t =
       let all : Step → Bool = join_all nothing (rust_order (last sheet)) in
       let zero_left = (rust_complete (last sheet)).1 in (
-        ap Given
+        ap Ok
             (value_of steps.left.heading steps.left.doubles reml (layout sheet) (final_value sheet b.loaded theta (last sheet) (last sheet))
             (logs_after sheet b.loaded theta (suc (last sheet)))
             (layout_of_lem sheet h w here (book b.loaded theta (some all)) steps.left t.stands)
@@ -121,9 +119,9 @@ module _ (sheet : Sheet) (h : List ℕ) (w : List Float) (here : Site sheet h w)
       ⊎_elim
       (λ t. subst (λ (q : Option (ℕ × ℕ)). Ends q (after_steps steps.answer steps reml))
       (sym (finished_none sheet h w b.loaded theta (join_all nothing (rust_order (last sheet))) steps.left t.stands (rust_complete (last sheet)).1))
-      (subst (λ (a : Answer). Ends none (after_steps a steps reml)) (sym t.answer) (through_ends t)))
+      (subst (λ (a : Result Unit Refusal). Ends none (after_steps a steps reml)) (sym t.answer) (through_ends t)))
       (λ t. subst (λ (q : Option (ℕ × ℕ)). Ends q (after_steps steps.answer steps reml)) (sym t.pivot)
-      (subst (λ (a : Answer). Ends (some (t.block, t.row)) (after_steps a steps reml)) (sym t.answer) (refl, t.stands)))
+      (subst (λ (a : Result Unit Refusal). Ends (some (t.block, t.row)) (after_steps a steps reml)) (sym t.answer) (refl, t.stands)))
       (run_comes sheet h w here b.loaded theta (rust_order (last sheet)) nothing (begin_of v.heading v.doubles theta).left
       (begin_invariant sheet h w here b v stands theta many finite) (rust_order_lem (last sheet)))
 
@@ -138,9 +136,9 @@ module _ (sheet : Sheet) (h : List ℕ) (w : List Float) (here : Site sheet h w)
       steps_end
 
 -- the answer in a plain reply
-abbrev answer_of : Reply → Answer
+abbrev answer_of : Reply → Result Unit Refusal
 answer_of (plain a) = a
-answer_of (deviance d) = Accepted
+answer_of (deviance d) = Ok tt
 
 module _ (sheet : Sheet) (h : List ℕ) (w : List Float) (here : Site sheet h w) (b : Book) (v : Workspace) (stands : Invariant sheet h w b v) (theta : List Float) (reml : Bool) where
   -- an answer against an entry of the book
@@ -169,23 +167,23 @@ module _ (sheet : Sheet) (h : List ℕ) (w : List Float) (here : Site sheet h w)
 
   -- begin's refusal is the call's
   refused : (n a i : ℕ) → (begin_of v.heading v.doubles theta).answer ≡ refuse n a i → Invariant sheet h w b (begin_of v.heading v.doubles theta).left
-      → Met (profile_of v.heading v.doubles theta reml) (entry (deviance (Refused (refusal n a i))) b)
+      → Met (profile_of v.heading v.doubles theta reml) (entry (deviance (Err (refusal n a i))) b)
   refused n a i e u =
-      subst (λ (p : Profiled). Met p (entry (deviance (Refused (refusal n a i))) b))
+      subst (λ (p : Profiled). Met p (entry (deviance (Err (refusal n a i))) b))
       (sym
       (profile_begins v.heading v.doubles theta reml
-      ∙ ap (λ (x : Answer). after_begin x (begin_of v.heading v.doubles theta) (layout_of v.heading).k reml) e))
+      ∙ ap (λ (x : Result Unit Refusal). after_begin x (begin_of v.heading v.doubles theta) (layout_of v.heading).k reml) e))
       (refl, u)
 
   -- whatever the two tests of theta say
   answered : (c : Bool) (f : Option ℕ) → eqb (length theta) (last sheet) ≡ c → first_infinite 0 theta ≡ f
       → (plain (begin_of v.heading v.doubles theta).answer
-      ≡ (pick c (unless_at f (λ i. entry (plain (refuse 14 0 i)) b) (entry (plain Accepted) (with_done (some nothing) (with_theta theta b)))) (entry (plain (refuse 13 0 0)) b)).reply)
+      ≡ (pick c (unless_at f (λ i. entry (plain (refuse 14 0 i)) b) (entry (plain (Ok tt)) (with_done (some nothing) (with_theta theta b)))) (entry (plain (refuse 13 0 0)) b)).reply)
       × Invariant sheet h w
-      (pick c (unless_at f (λ i. entry (plain (refuse 14 0 i)) b) (entry (plain Accepted) (with_done (some nothing) (with_theta theta b)))) (entry (plain (refuse 13 0 0)) b)).next
+      (pick c (unless_at f (λ i. entry (plain (refuse 14 0 i)) b) (entry (plain (Ok tt)) (with_done (some nothing) (with_theta theta b)))) (entry (plain (refuse 13 0 0)) b)).next
       (begin_of v.heading v.doubles theta).left
       → Met (profile_of v.heading v.doubles theta reml)
-      (pick c (unless_at f (λ i. entry (deviance (Refused (refusal 14 0 i))) b) good) (entry (deviance (Refused (refusal 13 0 0))) b))
+      (pick c (unless_at f (λ i. entry (deviance (Err (refusal 14 0 i))) b) good) (entry (deviance (Err (refusal 13 0 0))) b))
   answered true none e g u = accepted (eqb-true (length theta) (last sheet) e) g
   answered true (some i) e g u = refused 14 0 i (ap answer_of u.0) u.1
   answered false f e g u = refused 13 0 0 (ap answer_of u.0) u.1

@@ -10,8 +10,6 @@ use Rattle.step_order.specs.Steps.{Step, col}
 use Rattle.step_order.specs.Progress.{join, join_all, Order, refused_in}
 use Rattle.step_order.proofs.Refusal.{refused_at_lem}
 use Rattle.sheet.specs.Sheet.{Sheet}
-use Rattle.refusal.specs.declared.Answer.{Answer}
-use Rattle.refusal.specs.declared.Answer.TheVariants.{Accepted}
 use Rattle.refusal.specs.Numbers.{refuse}
 use Rattle.workspace.specs.Memory.{Workspace}
 use Rattle.workspace.specs.Answers.{Outcome}
@@ -20,11 +18,13 @@ use Rattle.book.specs.Book.{book, last}
 use Rattle.book.specs.Values.{rules_here, start_here, refused_pivot}
 use Rattle.demand3.proofs.invariant.Invariant.{Site, Invariant}
 use Rattle.demand3.proofs.invariant.Step.{Comes, step_comes}
+use Rattle.std.specs.Prelude.{Result, Ok}
+use Rattle.refusal.specs.declared.Refusal.{Refusal}
 
 module _ (sheet : Sheet) (h : List ℕ) (w : List Float) (here : Site sheet h w) (loaded theta : List Float) where
   -- all steps done, which are the set d
   pub record Through (d : Step → Bool) (o : Outcome) : Type 0 where
-    pub answer : o.answer ≡ Accepted
+    pub answer : o.answer ≡ (Ok tt)
     pub stands : Invariant sheet h w (book loaded theta (some d)) o.left
 
   -- or the pivot refused that the Rust's order refuses, and no update
@@ -41,9 +41,9 @@ module _ (sheet : Sheet) (h : List ℕ) (w : List Float) (here : Site sheet h w)
       → ((u : Workspace) → Invariant sheet h w (book loaded theta (some (join d s))) u → Through (join_all (join d s) l) (run_of u l) ⊎ Stopped (run_of u l))
       → Through (join_all (join d s) l) (go_on o.answer o (λ u. run_of u l)) ⊎ Stopped (go_on o.answer o (λ u. run_of u l))
   turn d s l none o e c f =
-      subst (λ (a : Answer). Through (join_all (join d s) l) (go_on a o (λ u. run_of u l)) ⊎ Stopped (go_on a o (λ u. run_of u l))) (sym c.0) (f o.left c.1)
+      subst (λ (a : Result Unit Refusal). Through (join_all (join d s) l) (go_on a o (λ u. run_of u l)) ⊎ Stopped (go_on a o (λ u. run_of u l))) (sym c.0) (f o.left c.1)
   turn d s l (some r) o e c f =
-      subst (λ (a : Answer). Through (join_all (join d s) l) (go_on a o (λ u. run_of u l)) ⊎ Stopped (go_on a o (λ u. run_of u l))) (sym c.0)
+      subst (λ (a : Result Unit Refusal). Through (join_all (join d s) l) (go_on a o (λ u. run_of u l)) ⊎ Stopped (go_on a o (λ u. run_of u l))) (sym c.0)
       (inr
       (record {
         block = col s;

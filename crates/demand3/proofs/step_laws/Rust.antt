@@ -14,8 +14,6 @@ use Rattle.step_order.specs.Progress.{join_all, row_in, refused_in}
 use Rattle.step_order.proofs.Next.{rust_order_lem}
 use Rattle.step_order.proofs.Theorems.{rust_complete}
 use Rattle.sheet.specs.Sheet.{Sheet}
-use Rattle.refusal.specs.declared.Answer.{Answer}
-use Rattle.refusal.specs.declared.Answer.TheVariants.{Accepted, Refused}
 use Rattle.refusal.specs.Numbers.{refuse}
 use Rattle.layout.specs.Shapes.{loaded_length}
 use Rattle.workspace.specs.Memory.{working_block, log_sum, zeros}
@@ -29,14 +27,16 @@ use Rattle.demand3.proofs.invariant.Open.{fresh_site, fresh_invariant}
 use Rattle.demand3.proofs.invariant.Begin.{begin_invariant}
 use Rattle.demand3.proofs.step_laws.Run.{Through, Stopped, run_comes}
 use Rattle.demand3.proofs.step_laws.Finished.{finished_factor, finished_sum, finished_none}
+use Rattle.std.specs.Prelude.{Result, Ok, Err}
+use Rattle.refusal.specs.declared.Refusal.{Refusal}
 
 -- the answer to a refused pivot, and in a step to the row of one
-abbrev pub answer_for : Option (ℕ × ℕ) → Answer
-answer_for none = Accepted
+abbrev pub answer_for : Option (ℕ × ℕ) → Result Unit Refusal
+answer_for none = Ok tt
 answer_for (some p) = refuse 26 p.0 p.1
 
-abbrev pub answer_in : Step → Option ℕ → Answer
-answer_in s none = Accepted
+abbrev pub answer_in : Step → Option ℕ → Result Unit Refusal
+answer_in s none = Ok tt
 answer_in s (some r) = refuse 26 (col s) r
 
 -- C(j) answers the refused pivot where that lies in block j
@@ -45,9 +45,9 @@ answer_in_lem sheet j none = refl
 answer_in_lem sheet j (some p) = by_cases (ℕ_discrete p.0 j) (λ e. rw (eq-eqb p.0 j e, e)) (λ e. rw (ne_eqb p.0 j e))
 
 -- S and T refuse no pivot
-never_in : (sheet : Sheet) (i j x : ℕ) (a : Answer) → (in_step sheet (S i j x) a ≡ Accepted) × (in_step sheet (T i j) a ≡ Accepted)
-never_in sheet i j x Accepted = (refl, refl)
-never_in sheet i j x (Refused r) = (refl, refl)
+never_in : (sheet : Sheet) (i j x : ℕ) (a : Result Unit Refusal) → (in_step sheet (S i j x) a ≡ (Ok tt)) × (in_step sheet (T i j) a ≡ (Ok tt))
+never_in sheet i j x (Ok tt) = (refl, refl)
+never_in sheet i j x (Err r) = (refl, refl)
 
 module _ (sheet : Sheet) (h : List ℕ) (w : List Float) (here : Site sheet h w) (loaded theta : List Float) (many : length loaded ≡ loaded_length (layout sheet))
     (theta_many : length theta ≡ last sheet) (finite : first_infinite 0 theta ≡ none) where

@@ -11,7 +11,6 @@ use Rattle.step_order.specs.Steps.{Step, is_step, forerunners}
 use Rattle.step_order.specs.Progress.{all, done, steps_left, refused_in}
 use Rattle.step_order.proofs.Sets.{named_iff, ready_after}
 use Rattle.sheet.specs.Sheet.{Sheet}
-use Rattle.refusal.specs.declared.Answer.{Answer}
 use Rattle.refusal.specs.Numbers.{refuse}
 use Rattle.layout.specs.declared.Layout.{Layout}
 use Rattle.heading_format.specs.declared.Progress.{Progress}
@@ -29,6 +28,8 @@ use Rattle.demand3.proofs.invariant.Site.{layout_of_lem, progress_of_lem, valid_
 use Rattle.demand3.proofs.invariant.Step.{Comes, step_ready, step_comes}
 use Rattle.heading_format.proofs.Valid.{same_bools}
 use Rattle.demand3.proofs.step_laws.Rust.{answer_in, in_step_lem}
+use Rattle.std.specs.Prelude.{Result}
+use Rattle.refusal.specs.declared.Refusal.{Refusal}
 
 -- what a step comes to where 20 does not, by the four tests that follow: under way, named, done, its forerunners done
 abbrev tested : Workspace → Step → Bool → Bool → Bool → Bool → Outcome
@@ -86,7 +87,7 @@ module _ (sheet : Sheet) (h : List ℕ) (w : List Float) (here : Site sheet h w)
     met_ready e f g =
         let n = (named_iff (last sheet) s).0 e in
         subst (λ (o : Outcome). Met o (on_ready sheet (in_step sheet s (rust sheet loaded theta).answer) s d page)) (step_ready sheet h w here loaded theta d v u s n f g)
-        (subst (λ (a : Answer). Met (step_of v.heading v.doubles s) (on_ready sheet a s d page))
+        (subst (λ (a : Result Unit Refusal). Met (step_of v.heading v.doubles s) (on_ready sheet a s d page))
         (sym (in_step_lem sheet h w here loaded theta (loaded_many sheet h w here page v u) begun.theta_many begun.theta_finite s))
         (ready_met d (refused_in (rules_here sheet loaded theta) (last sheet) (start_here sheet loaded theta) s) (step_of v.heading v.doubles s)
         (step_comes sheet h w here loaded theta d v u s n f g)))

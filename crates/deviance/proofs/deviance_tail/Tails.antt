@@ -19,21 +19,21 @@ use Rattle.block_runs.proofs.blocks.Laws.{read_block, has_packed}
 use Rattle.re_factor.specs.Factor.{pivot_at}
 use Rattle.layout.specs.declared.Layout.{Layout}
 use Rattle.layout.specs.Shapes.{pick, shape, sizes, working_at, sum_at, doubles_needed, last_rows, last_shape}
-use Rattle.heading_format.specs.Heading.{layout_of, progress_of, entry_row, valid_layout, valid_heading}
+use Rattle.heading_format.specs.Heading.{layout_of, entry_row, valid_layout, valid_heading}
 use Rattle.heading_format.proofs.Valid.{is_valid}
 use Rattle.layout.proofs.Places.{working_inside}
 use Rattle.block_places.proofs.block_sizes.Sizes.{doubles_small}
 use Rattle.heading_format.proofs.Fits.{fits, room_of_lem, read_fits}
 use Rattle.refusal.specs.declared.Refusal.{Refusal}
-use Rattle.refusal.specs.Numbers.{refusal}
 use Rattle.workspace.specs.Memory.{cell_of, working_block}
 use Rattle.profile.specs.declared.Deviance.{Deviance}
 use Rattle.profile.specs.declared.Deviance.TheVariants.{Value, NoScale}
-use Rattle.profile.specs.declared.DevianceAnswer.TheVariants.{Given, Refused}
-use Rattle.profile.specs.Deviance.{is_finished, freedom, deviance_value, deviance_from_factor}
+use Rattle.profile.specs.Deviance.{of_finished, freedom, deviance_value, deviance_from_factor}
 use Rattle.deviance.specs.deviance_tail.Tail.{pivot_of, log_determinant_of, deviance_with}
 use Rattle.storage.proofs.Cells.{any_default}
 use Rattle.heading_format.specs.Fits.{Room}
+use Rattle.std.specs.Prelude.{Result, Ok}
+use Rattle.deviance.proofs.Finished.{finished}
 
 -- block k has the last block's shape
 pub last_shape_lem : (y : Layout) (row : ℕ → ℕ) → shape y row y.k y.k ≡ last_shape y
@@ -110,22 +110,16 @@ pub sum_read : (y : Layout) (w : List Float) → doubles_needed y ≤ length w �
 sum_read y w room at e =
     ap (ieee.times ieee.two) (ap (λ (i : ℕ). get_or w i nan) e ∙ any_default w (sum_at y) nan ieee.zero (omega arith))
 
--- ---- the refusals, and a workspace
+-- ---- of a workspace
 module _ (h : List ℕ) (w : List Float) (reml : Bool) where
-  pub not_valid_heading : valid_heading h (length w) ≡ false → (f : Refusal) → f ≡ refusal 20 0 0 → Refused f ≡ deviance_from_factor h w reml
+  -- the tail of a finished factor is its deviance
+  pub deviance_is : {y : Layout} {logdet : Float} {r : Deviance} → ◌≡◌ {A = Result Layout Refusal} (Ok y) (of_finished h (length w) (Ok (layout_of h)))
+      → logdet ≡ log_determinant_of y w → r ≡ deviance_with y w logdet reml → Ok r ≡ deviance_from_factor h w reml
   unfolding deviance_from_factor
-  not_valid_heading e f q = rw (e, q) refl
-
-  module _ (ok : valid_heading h (length w) ≡ true) (b : Bool) (is_b : b ≡ is_finished (progress_of h).state) where
-    pub not_finished : b ≡ false → (f : Refusal) → f ≡ refusal 25 0 0 → Refused f ≡ deviance_from_factor h w reml
-    unfolding deviance_from_factor
-    not_finished e f q = rw (ok, ← is_b, e, q) refl
-
-    pub finished : b ≡ true → (y : Layout) (logdet : Float) (r : Deviance) → y ≡ layout_of h → logdet ≡ log_determinant_of y w → r ≡ deviance_with y w logdet reml → Given r ≡ deviance_from_factor h w reml
-    unfolding deviance_from_factor
-    finished e y logdet r is_y is-l is-r =
-        ap Given (is-r ∙ ap (λ (x : Float). deviance_with y w x reml) is-l ∙ ap (λ (z : Layout). deviance_with z w (log_determinant_of z w) reml) is_y ∙ tail_value h w reml)
-        ∙ rw (ok, ← is_b, e) refl
+  deviance_is {y} e is-l is-r =
+      ap Ok (is-r ∙ ap (λ (x : Float). deviance_with y w x reml) is-l)
+      ∙ finished h (length w) (layout_of h) (λ z. Ok (deviance_with z w (log_determinant_of z w) reml)) e
+      ∙ ap (λ (d : Deviance). of_finished h (length w) (Ok d)) (tail_value h w reml)
 
   -- what the calls on a workspace need
   pub workspace_fits : valid_heading h (length w) ≡ true → (y : Layout) → y ≡ layout_of h → Room y (length w)

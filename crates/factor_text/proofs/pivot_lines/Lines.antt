@@ -8,7 +8,7 @@ use native.Mathlib.Omega.{arith}
 use lib.Dec.{eqb}
 use lib.ListN.{length, length-append}
 use lib.Ieee.{Float}
-use Rattle.storage.specs.Shape.{Shape, packed, size_of}
+use Rattle.storage.specs.Shape.{Shape, size_of}
 use Rattle.storage.specs.Part.{part}
 use Rattle.storage.proofs.Parts.{length_store, store_nil}
 use Rattle.layout.specs.declared.Layout.{Layout}

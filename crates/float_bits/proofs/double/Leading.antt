@@ -1,10 +1,11 @@
--- The leading digit brought to its place: `places` is the one number of places that does it, and the loop finds it.
+-- The leading digit brought to its place: `places` is the one number of places that does it, and the leading zeros tell it.
 use mathlib.Core.Path.{◌≡◌, refl, ap, ap₂, sym, ◌∙◌, subst}
 use mathlib.Core.Bool.{Bool, cond}
 use Prim.Native.Nat.{ℕ, zero, suc, ◌+◌, ◌-◌, ◌*◌, ◌%◌, ◌^◌, ◌≤◌, ◌<◌}
-use native.Mathlib.Nat.{mul-le-mul_right, mul-lt-mul_of_pos_right, pow-suc, lt_of_lt_of_le, mod-lt}
+use native.Mathlib.Nat.{mul-le-mul_right, mul-lt-mul_of_pos_right, lt_of_lt_of_le, mod-lt}
 use native.Mathlib.Omega.{arith}
 use borrow.Author.Tests.{eq-eqb, ne_eqb}
+use lib.Count.{count_leading_zeros, leading_top}
 use lib.Dec.{lit<}
 use lib.Pow.{pow-add, pow_pos, pow_mono}
 use lib.Ieee.{size}
@@ -47,13 +48,13 @@ module _ (q p : ℕ) (lo : 2 ^ 52 ≤ q * 2 ^ p) (hi : q * 2 ^ p < 2 ^ 53) where
   unfolding places
   places_are = omega (arith, reach, no_more (size_pos q some), size_pos q some)
 
+exps : (i j n : ℕ) → i + j ≡ n → 2 ^ i * 2 ^ j ≡ 2 ^ n
+exps i j n e = sym (pow-add 2 i j) ∙ ap (λ (k : ℕ). 2 ^ k) e
+
 -- ---- the digits in their place are 53
 module _ (q : ℕ) (P : 0 < q) (l : q < 2 ^ 53) where
   few : size q ≤ 53
   few = size-le q 53 l
-
-  exps : (i j n : ℕ) → i + j ≡ n → 2 ^ i * 2 ^ j ≡ 2 ^ n
-  exps i j n e = sym (pow-add 2 i j) ∙ ap (λ (k : ℕ). 2 ^ k) e
 
   pub lead_low : 2 ^ 52 ≤ q * 2 ^ places q
   unfolding places
@@ -69,35 +70,38 @@ module _ (q : ℕ) (P : 0 < q) (l : q < 2 ^ 53) where
 abbrev both : ℕ → ℕ → Parts
 both m t = record { significand = m; exponent = t }
 
--- ---- the loop: m is q moved up by as many places as t has fallen
-pub record Lifting (q m t : ℕ) : Type 0 where
-  pub is : m ≡ q * 2 ^ (52 - t)
-  pub less : m < 2 ^ 53
-  pub most : t ≤ 52
+-- ---- the places are the leading zeros of 64, less 11
+-- with j the place of the highest digit of q
+counted : (q z j : ℕ) → q < 2 ^ 52 → z + suc j ≡ 64 → 2 ^ j ≤ q → q < 2 ^ suc j → (11 ≤ z) × (z ≤ 63) × (2 ^ 52 ≤ q * 2 ^ (z - 11)) × (q * 2 ^ (z - 11) < 2 ^ 53)
+counted q z j l e low high =
+    let r : j < 52 = omega (arith, small) in
+    let x : 2 ^ j * 2 ^ (z - 11) ≡ 2 ^ 52 = exps j (z - 11) 52 (omega arith) in
+    let y : 2 ^ suc j * 2 ^ (z - 11) ≡ 2 ^ 53 = exps (suc j) (z - 11) 53 (omega arith) in (
+      omega arith,
+      omega arith,
+      omega (arith, x, mul-le-mul_right (2 ^ (z - 11)) low),
+      omega (arith, y, mul-lt-mul_of_pos_right high (pow_pos (z - 11))),
+    )
+  where
+    small : ¬ (52 ≤ j)
+    small h = let m : 2 ^ 52 ≤ 2 ^ j = pow_mono h in omega arith
 
-pub lift_start : (q : ℕ) → q < 2 ^ 52 → Lifting q q 52
-lift_start q l = record { is = omega arith; less = omega arith; most = omega arith }
+module _ (q : ℕ) (some : 0 < q) (l : q < 2 ^ 52) where
+  found : (11 ≤ count_leading_zeros 64 q) × (count_leading_zeros 64 q ≤ 63) × (2 ^ 52 ≤ q * 2 ^ (count_leading_zeros 64 q - 11)) × (q * 2 ^ (count_leading_zeros 64 q - 11) < 2 ^ 53)
+  found = let t = leading_top 64 q some (omega arith) in counted q (count_leading_zeros 64 q) t.0 l t.1 t.2 t.3
 
-pub lift_some : (q m t : ℕ) → 0 < q → Lifting q m t → m < 2 ^ 52 → 0 < t
-lift_some q m zero p i h = let e : m ≡ q * 2 ^ 52 = i.is in omega arith
-lift_some q m (suc t) p i h = omega arith
+  pub zeros_some : 11 ≤ count_leading_zeros 64 q
+  zeros_some = found.0
 
-pub lift_on : (q m t : ℕ) → 0 < q → Lifting q m t → m < 2 ^ 52 → Lifting q (m * 2) (t - 1)
-lift_on q m t p i h =
-    let s : 0 < t = lift_some q m t p i h in
-    let e : 52 - (t - 1) ≡ suc (52 - t) = omega (arith, i.most) in
-    record {
-      is = omega (arith, i.is, ap (λ (n : ℕ). q * n) (ap (λ (n : ℕ). 2 ^ n) e ∙ pow-suc 2 (52 - t)));
-      less = omega arith;
-      most = omega (arith, i.most);
-    }
+  pub zeros_few : count_leading_zeros 64 q ≤ 63
+  zeros_few = found.1
 
-pub lift_end : (q m t : ℕ) → Lifting q m t → 2 ^ 52 ≤ m → both m t ≡ leading q 0
-unfolding leading
-lift_end q m t i h =
-    let e : 52 - t ≡ places q = places_are q (52 - t) (omega (arith, i.is)) (omega (arith, i.is)) in
-    let f : t ≡ 0 + 52 - places q = omega (arith, i.most) in
-    ap₂ both (i.is ∙ ap (λ (n : ℕ). q * 2 ^ n) e) f
+  pub lifted_is : (t : ℕ) → t ≡ count_leading_zeros 64 q - 11 → both (q * 2 ^ (count_leading_zeros 64 q - 11) % 2 ^ 64) (52 - t) ≡ leading q 0
+  unfolding leading
+  lifted_is t e =
+      let p : count_leading_zeros 64 q - 11 ≡ places q = places_are q _ found.2 found.3 in
+      let m : q * 2 ^ (count_leading_zeros 64 q - 11) % 2 ^ 64 ≡ q * 2 ^ (count_leading_zeros 64 q - 11) = omega (arith, found.3) in
+      ap₂ both (m ∙ ap (λ (n : ℕ). q * 2 ^ n) p) (omega arith)
 
 -- a significand that has its 53 digits stays where it is
 pub full : (q k : ℕ) → 2 ^ 52 ≤ q → q < 2 ^ 53 → both q (k + 52) ≡ leading q k

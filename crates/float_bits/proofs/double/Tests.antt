@@ -6,7 +6,7 @@ use native.Mathlib.Nat.{mul-pos, zero-lt-suc}
 use native.Mathlib.Omega.{arith}
 use borrow.Author.Tests.{lt-ltb, eq-eqb, ltb-true, eqb-true}
 use lib.Dec.{T, ltb, eqb}
-use lib.Ieee.{Float, nan, inf, fin, binary64, up, down, lt, eq, div, of_bits, to_bits, is_nan}
+use lib.Ieee.{Float, nan, inf, fin, binary64, up, down, lt, eq, of_bits, to_bits, is_nan}
 use lib.Ieee.Fits.{up_pos}
 use lib.Ieee.Positive.{positive}
 use Rattle.float_bits.specs.declared.double.Kind.TheVariants.{Positive, Zero, Negative, PlusInfinity, NotANumber}
@@ -23,8 +23,8 @@ on e = absurd (true≢false (sym e))
 none_above : (a b : ℕ) → ltb (0 * 1 * a) (0 * b * 1) ≡ true → ⊥
 none_above a b t = let h : 0 * 1 * a < 0 * b * 1 = ltb-true (0 * 1 * a) (0 * b * 1) t in omega arith
 
-pub above : (x : Float) → lt (of_bits binary64 0) x ≡ true → lt x (div binary64 (of_bits binary64 4607182418800017408) (of_bits binary64 0)) ≡ true → T (positive x)
-unfolding lt div of_bits
+pub above : (x : Float) → lt (of_bits binary64 0) x ≡ true → lt x (of_bits binary64 9218868437227405312) ≡ true → T (positive x)
+unfolding lt of_bits
 above nan a b = on a
 above (inf false) a b = on b
 above (inf true) a b = on a
@@ -46,8 +46,8 @@ at_positive (fin true m e) p = absurd p
 at_positive (fin false zero e) p = absurd p
 at_positive (fin false (suc m) e) p = refl
 
-pub at_infinity : (x : Float) → lt (of_bits binary64 0) x ≡ true → lt x (div binary64 (of_bits binary64 4607182418800017408) (of_bits binary64 0)) ≡ false → PlusInfinity ≡ kind_of x
-unfolding kind_of lt div of_bits
+pub at_infinity : (x : Float) → lt (of_bits binary64 0) x ≡ true → lt x (of_bits binary64 9218868437227405312) ≡ false → PlusInfinity ≡ kind_of x
+unfolding kind_of lt of_bits
 at_infinity nan a b = on a
 at_infinity (inf false) a b = refl
 at_infinity (inf true) a b = on a

@@ -1,12 +1,11 @@
 -- What the functions' proofs cite of the definitions.
 use Prim.Native.Nat.{ℕ, ◌%◌, ◌<◌}
-use mathlib.Core.Path.{◌≡◌, refl, sym, ap, ap₂, ◌∙◌, subst}
-use mathlib.Core.Bool.{true, false, not, ◌&&◌, true≢false}
+use mathlib.Core.Path.{◌≡◌, refl, sym, ap, ap₂, ◌∙◌}
+use mathlib.Core.Bool.{true, false, ◌&&◌, true≢false}
 use borrow.Author.Tests.{lt-ltb}
-use lib.Dec.{T, leb}
-use lib.Ieee.{Float, nan, inf, fin, binary64, div, ne, is_nan, of_bits, to_bits}
+use lib.Dec.{leb}
+use lib.Ieee.{Float, nan, inf, fin, binary64, is_nan, of_bits, to_bits}
 use lib.Ieee.Bits.{nan_bits_is, nan_bits_above}
-use lib.Ieee.Compare.{differs_from_itself, nan_differs}
 use Rattle.float_bits.specs.words.Words.{rank, agrees_of}
 
 -- ---- NaNs
@@ -19,27 +18,21 @@ the_nan nan e = refl
 the_nan (inf s) e = no (sym e)
 the_nan (fin s m x) e = no (sym e)
 
-none_over_none : div binary64 (of_bits binary64 0) (of_bits binary64 0) ≡ nan
-unfolding div of_bits
-none_over_none = refl
+nan_is : of_bits binary64 9221120237041090560 ≡ nan
+unfolding of_bits
+nan_is = refl
 
-pub nan_of_bits : (n : ℕ) → 9218868437227405312 < n % 9223372036854775808 → div binary64 (of_bits binary64 0) (of_bits binary64 0) ≡ of_bits binary64 n
+pub nan_of_bits : (n : ℕ) → 9218868437227405312 < n % 9223372036854775808 → of_bits binary64 9221120237041090560 ≡ of_bits binary64 n
 nan_of_bits n h =
-    none_over_none
+    nan_is
     ∙ the_nan (of_bits binary64 n) (sym (nan_bits_is binary64 n) ∙ nan_bits_above binary64 n ∙ lt-ltb 9218868437227405312 (n % 9223372036854775808) h)
 
 nan_bits : 9221120237041090560 ≡ to_bits binary64 nan
 unfolding to_bits
 nan_bits = refl
 
-pub bits_of_nan : (x : Float) → ne x x ≡ true → 9221120237041090560 ≡ to_bits binary64 x
-bits_of_nan x t = nan_bits ∙ sym (ap (to_bits binary64) (differs_from_itself x (subst T (sym t) tt)))
-
-pub no_nan : (x : Float) → ne x x ≡ false → T (not (is_nan x))
-unfolding is_nan
-no_nan nan t = no (sym nan_differs ∙ t)
-no_nan (inf s) t = tt
-no_nan (fin s m e) t = tt
+pub bits_of_nan : (x : Float) → is_nan x ≡ true → 9221120237041090560 ≡ to_bits binary64 x
+bits_of_nan x t = nan_bits ∙ ap (to_bits binary64) (the_nan x t)
 
 -- ---- the comparison
 pub between : (lower upper : ℕ) (r : Float) {n w a b : ℕ} → n ≡ to_bits binary64 r → w ≡ rank n → a ≡ rank lower → b ≡ rank upper → leb a w && leb w b ≡ agrees_of lower upper r

@@ -1,5 +1,4 @@
 -- `heading::fill`: the numbers before j are read.
-use Prim.Native.Nat.{◌-◌}
 use lib.ListN.{length}
 use Rattle.storage.proofs.Filling.{Filling}
 use Rattle.heading.proofs.Numbers.{behind}
@@ -7,6 +6,3 @@ use Rattle.heading.proofs.fill.Given as goal
 
 abbrev pub invariant-loop-j : goal.invariant-loop-j
 invariant-loop-j l = Filling (behind l.heading l.at) 0 (length l.initial.r) l.initial.r l.r l.j
-
-abbrev pub decreases-loop-j : goal.decreases-loop-j
-decreases-loop-j l = length l.initial.r - l.j

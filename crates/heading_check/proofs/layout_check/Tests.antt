@@ -1,15 +1,17 @@
 -- What the tests of a layout come to.
 use Prim.Native.Nat.{ℕ, ◌≤◌}
-use mathlib.Core.Path.{◌≡◌, refl, sym, ◌∙◌}
+use mathlib.Core.Path.{◌≡◌, refl, sym, ap, ◌∙◌}
 use mathlib.Core.Bool.{Bool, true, false, not, ◌&&◌, ◌||◌, cond, and-eq-true_iff}
 use lib.Dec.{leb, eqb}
 use lib.ListN.{take}
 use borrow.Author.Tests.{leb-true, eq-eqb, ne_eqb}
+use Rattle.std.specs.Prelude.{Ok, Err}
 use Rattle.layout.specs.declared.Layout.{Layout}
-use Rattle.layout.specs.declared.Pair.{Pair}
-use Rattle.layout.specs.declared.Pair.TheVariants.{Dense, Sparse, Refused}
+use Rattle.layout.specs.declared.Storage.{Storage}
+use Rattle.layout.specs.declared.Storage.TheVariants.{Dense, Sparse}
+use Rattle.layout.specs.declared.GateRefusal.{GateRefusal}
 use Rattle.layout.specs.Blocks.{sorted, sum}
-use Rattle.layout.specs.Gate.{pair_of}
+use Rattle.layout.specs.Gate.{Verdict, pair_of}
 use Rattle.layout.specs.Shapes.{levels}
 use Rattle.heading_format.specs.Heading.{every, within, same, sheet_levels, is_dense, is_sparse, valid_pair, valid_layout}
 use Rattle.heading_format.proofs.Valid.{every_at}
@@ -17,25 +19,25 @@ use Rattle.heading_check.specs.layout_check.Ranged.{Ranged}
 use Rattle.heading_check.proofs.order_check.Sheets.{assoc}
 
 -- ---- a pair, by the gate's answer
-module _ (y : Layout) (i j : ℕ) {p : Pair} {rows cols : ℕ} (e : p ≡ pair_of y.k rows cols y.diagonal cols) (a : rows ≡ levels y i) (b : cols ≡ levels y j) where
-  like : {x : Pair} → p ≡ x → cond y.sparse (is_sparse x) (is_dense x) ≡ valid_pair y i j
+module _ (y : Layout) (i j : ℕ) {p : Verdict} {rows cols : ℕ} (e : p ≡ pair_of y.k rows cols y.diagonal cols) (a : rows ≡ levels y i) (b : cols ≡ levels y j) where
+  like : {x : Verdict} → p ≡ x → cond y.sparse (is_sparse x) (is_dense x) ≡ valid_pair y i j
   like {x} z = rw (← a, ← b, ← e, z)
 
-  pub pair_dense : p ≡ Dense → not y.sparse ≡ valid_pair y i j
-  pair_dense z = flag y.sparse ∙ like z
+  pub pair_dense : {x : Storage} → p ≡ Ok x → x ≡ Dense → not y.sparse ≡ valid_pair y i j
+  pair_dense z w = flag y.sparse ∙ like (z ∙ ap Ok w)
     where
       flag : (b : Bool) → not b ≡ cond b false true
       flag true = refl
       flag false = refl
 
-  pub pair_sparse : p ≡ Sparse → y.sparse ≡ valid_pair y i j
-  pair_sparse z = flag y.sparse ∙ like z
+  pub pair_sparse : {x : Storage} → p ≡ Ok x → x ≡ Sparse → y.sparse ≡ valid_pair y i j
+  pair_sparse z w = flag y.sparse ∙ like (z ∙ ap Ok w)
     where
       flag : (b : Bool) → b ≡ cond b true false
       flag true = refl
       flag false = refl
 
-  pub pair_refused : {n : ℕ} → p ≡ Refused n → false ≡ valid_pair y i j
+  pub pair_refused : {x : GateRefusal} → p ≡ Err x → false ≡ valid_pair y i j
   pair_refused z = flag y.sparse ∙ like z
     where
       flag : (b : Bool) → false ≡ cond b false false

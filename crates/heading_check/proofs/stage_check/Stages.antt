@@ -1,11 +1,10 @@
 -- The stages where they lie, the number of steps, and the tests of a progress.
-use Prim.Native.Nat.{ℕ, suc, ◌+◌, ◌*◌, ◌/◌, ◌≤◌, ◌<◌}
+use Prim.Native.Nat.{ℕ, suc, ◌+◌, ◌*◌, ◌/◌, ◌≤◌}
 use mathlib.Core.Path.{◌≡◌, sym, ap, ◌∙◌}
 use mathlib.Core.Bool.{Bool, true, false, ◌&&◌}
 use native.Mathlib.Nat.{mul-le-mul, zero-add}
 use native.Mathlib.Omega.{arith}
-use borrow.Author.Tests.{le-leb, lt-leb}
-use lib.Dec.{leb, ltb, eqb}
+use lib.Dec.{leb, eqb}
 use lib.ListN.{length, get_or, drop}
 use mathlib.Core.List.{List}
 use lib.Seq.{get_or-take, get_or-drop}
@@ -13,8 +12,6 @@ use Rattle.storage.specs.Runs.{start, triangle}
 use Rattle.storage.proofs.Starts.{start_triangle}
 use Rattle.step_order.specs.Steps.{rust_order}
 use Rattle.heading_format.specs.declared.Progress.{Progress}
-use Rattle.heading_format.specs.declared.State.{State}
-use Rattle.heading_format.specs.declared.State.TheVariants.{Idle, UnderWay, Finished}
 use Rattle.heading_format.specs.Heading.{every, valid_state, valid_progress, progress_of}
 use Rattle.heading_check.specs.declared.stage_check.Walk.{Walk}
 use Rattle.heading_check.specs.stage_check.Walk.{walked, stages_in}
@@ -33,25 +30,6 @@ unfolding progress_of
 stage_at h i j {r} {v} e a b c q =
     let z : stages_at + r + j ≡ stages_at + (start triangle i + j) = omega arith in
     q ∙ ap (λ (x : ℕ). get_or h x 0) z ∙ sym (get_or-take most_targets (drop stages_at h) (start triangle i + j) 0 (omega arith) ∙ get_or-drop stages_at h (start triangle i + j) 0)
-
--- a stage that is not past the target's last step, and one that is
-module _ (h : List ℕ) (i j : ℕ) {s : ℕ} (e : s ≡ stages_in h i j) where
-  pub stage_within : s ≤ j + 1 → leb (stages_in h i j) (suc j) ≡ true
-  stage_within l = rw (← e) (le-leb s (suc j) (omega arith))
-
-  pub stage_past : j + 1 < s → leb (stages_in h i j) (suc j) ≡ false
-  stage_past l = rw (← e) (lt-leb s (suc j) (omega arith))
-
--- ---- the state
-module _ (s : State) (left steps : ℕ) where
-  pub state_idle : s ≡ Idle → eqb left steps ≡ valid_state s left steps
-  state_idle e = rw e
-
-  pub state_going : s ≡ UnderWay → ltb 0 left ≡ valid_state s left steps
-  state_going e = rw e
-
-  pub state_done : s ≡ Finished → eqb left 0 ≡ valid_state s left steps
-  state_done e = rw e
 
 -- ---- the tests
 abbrev bounded : List ℕ → ℕ → Bool

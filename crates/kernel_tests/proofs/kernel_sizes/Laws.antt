@@ -1,29 +1,17 @@
 -- What the functions' proofs cite.
-use Prim.Native.Nat.{ℕ, ◌+◌, ◌-◌, ◌*◌, ◌/◌, ◌≤◌, ◌<◌}
-use mathlib.Core.Path.{◌≡◌, refl, sym, subst}
-use mathlib.Core.Bool.{Bool, true, false, ◌||◌}
+use Prim.Native.Nat.{ℕ, ◌+◌, ◌-◌, ◌*◌, ◌/◌, ◌≤◌}
+use mathlib.Core.Path.{◌≡◌, sym, subst}
 use mathlib.Core.List.{List}
 use lib.ListN.{length, take, drop, length-drop}
 use lib.Seq.{take_all, get_or-drop}
 use native.Mathlib.Nat.{mul-le-mul}
 use native.Mathlib.Omega.{arith}
-use native.Mathlib.Decide.{dec_lt}
-use mathlib.Core.Logic.{by_cases}
 use Rattle.storage.specs.Shape.{packed, columns, size_of}
 use Rattle.storage.proofs.Places.{size_columns, size_packed}
 use Rattle.storage.specs.Placed.{block_of}
-use Rattle.block_runs.specs.blocks.Blocks.{RowsBelow, row_from}
+use Rattle.block_runs.specs.blocks.Blocks.{RowsBelow}
 use Rattle.cross_matvec.specs.Products.{HasRows}
 use Rattle.kernel_tests.specs.kernel_sizes.Sizes.{Clear}
-
--- a test that failed shows anything
-pub no_case : {P : Type 0} → true ≡ false → P
-no_case e = let z : ◌≡◌ {A = ℕ} 0 1 = cc in absurd (omega arith)
-
--- neither of two tests that were joined failed
-pub neither : (a b : Bool) → a || b ≡ false → (a ≡ false) × (b ≡ false)
-neither false b e = (refl, e)
-neither true b e = no_case e
 
 -- ---- sizes
 pub columns_fit : (rows cols : ℕ) → rows ≤ 65535 → cols ≤ 65535 → rows * cols ≤ 65535 * 65535
@@ -46,18 +34,8 @@ pub clear_at : {len off n a m n' m' : ℕ} → n ≡ n' → m ≡ m' → Clear l
 clear_at {len} {off} {n} {a} {m} {n'} {m'} e f h =
     subst (λ (x : ℕ). Clear len off x a m') e (subst (λ (y : ℕ). Clear len off n a y) f h)
 
--- a block within a list, by its size, and the size of a dense block with its rows as columns
-pub block_at : (off len : ℕ) {n m : ℕ} → m ≡ n → off + m ≤ len → off + n ≤ len
-block_at off len e h = omega (arith, e, h)
-
-pub transposed : (rows cols : ℕ) {n : ℕ} → n ≡ size_of (columns rows cols) → n ≡ size_of (columns cols rows)
-transposed rows cols e = omega (arith, e, size_columns rows cols, size_columns cols rows)
-
 -- ---- rows below a bound
 module _ (h : List ℕ) (first m : ℕ) where
-  pub one_more_lem : (i : ℕ) → RowsBelow h first i m → row_from h first i < m → RowsBelow h first (i + 1) m
-  one_more_lem i f l x k = by_cases (dec_lt x i) (λ q. f x q) (λ q. let e : x ≡ i = omega arith in rw e l)
-
   -- lent from `first` on
   pub lent_rows : (at n : ℕ) → first + n ≤ length h → RowsBelow h first n m → HasRows (take (length h - first) (drop first h)) (block_of at m n)
   lent_rows at n l f =

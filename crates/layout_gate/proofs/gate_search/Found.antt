@@ -1,18 +1,20 @@
 -- The search over pairs: what it has found so far, and that it ends at the first.
 use Prim.Native.Nat.{ℕ, zero, suc, ◌+◌, ◌≤◌, ◌<◌}
 use mathlib.Core.Path.{◌≡◌, refl, sym, ap, ◌∙◌}
-use mathlib.Core.Bool.{Bool, true, false, cond}
 use mathlib.Core.List.{List, [], ◌∷◌, ◌++◌, append_assoc, append-nil}
 use mathlib.Core.Logic.{by_cases}
 use native.Mathlib.Decide.{dec_lt}
 use native.Mathlib.Omega.{arith}
 use native.Mathlib.Numerals.{add-one}
-use borrow.Author.Tests.{eqb-false, eq-eqb, ne_eqb}
-use lib.Dec.{eqb}
+use Rattle.std.specs.Prelude.{Option, None, Some, Ok, Err}
 use Rattle.refusal.specs.declared.Refusal.{Refusal}
-use Rattle.refusal.specs.Numbers.{refusal, no_refusal}
+use Rattle.refusal.specs.Numbers.{refusal}
 use Rattle.layout.specs.declared.Layout.{Layout}
+use Rattle.layout.specs.declared.Storage.{Storage}
+use Rattle.layout.specs.declared.GateRefusal.{GateRefusal}
+use Rattle.layout.specs.Gate.{Verdict, gate_number}
 use Rattle.layout.specs.Shapes.{Target, target, across, pairs}
+use Rattle.workspace.specs.Loaded.{or_refused}
 use Rattle.layout_gate.specs.gate_search.Search.{verdict, first}
 
 -- ---- one list is the front of another
@@ -44,60 +46,54 @@ front_pairs a (suc n) h =
 
 module _ (y : Layout) where
   -- ---- the first of a list, and of what follows it
-  first_behind : (l r : List Target) → first y l ≡ no_refusal → first y (l ++ r) ≡ first y r
+  first_behind : (l r : List Target) → first y l ≡ None → first y (l ++ r) ≡ first y r
   unfolding first
   first_behind [] r e = refl
-  first_behind (t ∷ l) r e = go (first_behind l r) (eqb (verdict y t.row t.col) 0) refl e
+  first_behind (t ∷ l) r e = go (first_behind l r) (verdict y t.row t.col) e
     where
-      go : (first y l ≡ no_refusal → first y (l ++ r) ≡ first y r) → (b : Bool) → eqb (verdict y t.row t.col) 0 ≡ b
-          → cond b (first y l) (refusal (verdict y t.row t.col) t.row t.col) ≡ no_refusal
-          → cond b (first y (l ++ r)) (refusal (verdict y t.row t.col) t.row t.col) ≡ first y r
-      go f true u w = f w
-      go f false u w = absurd (eqb-false _ _ u (ap (λ (x : Refusal). x.number) w))
+      go : (first y l ≡ None → first y (l ++ r) ≡ first y r) → (v : Verdict) → or_refused v t (first y l) ≡ None → or_refused v t (first y (l ++ r)) ≡ first y r
+      go f (Ok stored) e = f e
+      go f (Err x) e = absurd (let z : ◌≡◌ {A = ℕ} 0 1 = cc in omega arith)
 
-  first_stays : (l r : List Target) → ((first y l).number ≡ 0 → ⊥) → first y (l ++ r) ≡ first y l
+  first_stays : (l r : List Target) (found : Refusal) → first y l ≡ Some found → first y (l ++ r) ≡ Some found
   unfolding first
-  first_stays [] r n = absurd (n refl)
-  first_stays (t ∷ l) r n = go (first_stays l r) (eqb (verdict y t.row t.col) 0) n
+  first_stays [] r found e = absurd (let z : ◌≡◌ {A = ℕ} 0 1 = cc in omega arith)
+  first_stays (t ∷ l) r found e = go (first_stays l r found) (verdict y t.row t.col) e
     where
-      go : (((first y l).number ≡ 0 → ⊥) → first y (l ++ r) ≡ first y l) → (b : Bool)
-          → ((cond b (first y l) (refusal (verdict y t.row t.col) t.row t.col)).number ≡ 0 → ⊥)
-          → cond b (first y (l ++ r)) (refusal (verdict y t.row t.col) t.row t.col) ≡ cond b (first y l) (refusal (verdict y t.row t.col) t.row t.col)
-      go f true n = f n
-      go f false n = refl
+      go : (first y l ≡ Some found → first y (l ++ r) ≡ Some found) → (v : Verdict) → or_refused v t (first y l) ≡ Some found → or_refused v t (first y (l ++ r)) ≡ Some found
+      go f (Ok stored) e = f e
+      go f (Err x) e = e
 
-  first_front : (l r : List Target) → first y (l ++ r) ≡ no_refusal → first y l ≡ no_refusal
+  first_front : (l r : List Target) → first y (l ++ r) ≡ None → first y l ≡ None
   unfolding first
   first_front [] r e = refl
-  first_front (t ∷ l) r e = go (first_front l r) (eqb (verdict y t.row t.col) 0) e
+  first_front (t ∷ l) r e = go (first_front l r) (verdict y t.row t.col) e
     where
-      go : (first y (l ++ r) ≡ no_refusal → first y l ≡ no_refusal) → (b : Bool)
-          → cond b (first y (l ++ r)) (refusal (verdict y t.row t.col) t.row t.col) ≡ no_refusal
-          → cond b (first y l) (refusal (verdict y t.row t.col) t.row t.col) ≡ no_refusal
-      go f true e = f e
-      go f false e = e
+      go : (first y (l ++ r) ≡ None → first y l ≡ None) → (v : Verdict) → or_refused v t (first y (l ++ r)) ≡ None → or_refused v t (first y l) ≡ None
+      go f (Ok stored) e = f e
+      go f (Err x) e = absurd (let z : ◌≡◌ {A = ℕ} 0 1 = cc in omega arith)
 
 -- ---- the loops: no pair before (j, jj) is refused, and nothing is found
-pub record Clear (y : Layout) (found : Refusal) (j jj : ℕ) : Type 0 where
-  pub nothing : found ≡ no_refusal
-  pub before : first y (pairs j ++ across j jj) ≡ no_refusal
+pub record Clear (y : Layout) (found : Option Refusal) (j jj : ℕ) : Type 0 where
+  pub nothing : found ≡ None
+  pub before : first y (pairs j ++ across j jj) ≡ None
   pub within : jj ≤ j
 
-pub clear_start : (y : Layout) → Clear y no_refusal 1 0
+pub clear_start : (y : Layout) → Clear y None 1 0
 unfolding first pairs across
 clear_start y = record { nothing = refl; before = refl; within = omega arith }
 
-module _ {y : Layout} {found : Refusal} {j jj : ℕ} (c : Clear y found j jj) where
+module _ {y : Layout} {found : Option Refusal} {j jj : ℕ} (c : Clear y found j jj) where
   -- the next pair
   next : first y (pairs j ++ across j (suc jj)) ≡ first y (target j jj ∷ [])
   unfolding across
   next = rw (← append_assoc (pairs j) (across j jj) (target j jj ∷ [])) (first_behind y (pairs j ++ across j jj) (target j jj ∷ []) c.before)
 
-  pub clear_more : {v : ℕ} → v ≡ verdict y j jj → v ≡ 0 → jj < j → Clear y found j (jj + 1)
+  pub clear_more : {stored : Storage} → Ok stored ≡ verdict y j jj → jj < j → Clear y found j (jj + 1)
   unfolding first
-  clear_more q e h =
+  clear_more q h =
       let n : jj + 1 ≡ suc jj = add-one jj in
-      rw n (record { nothing = c.nothing; before = next ∙ rw (eq-eqb (verdict y j jj) 0 (sym q ∙ e)) refl; within = omega arith })
+      rw n (record { nothing = c.nothing; before = next ∙ ap (λ (v : Verdict). or_refused v (target j jj) None) (sym q); within = omega arith })
 
   -- the next row of pairs
   pub clear_row : j ≤ jj → Clear y found (j + 1) 0
@@ -112,11 +108,11 @@ module _ {y : Layout} {found : Refusal} {j jj : ℕ} (c : Clear y found j jj) wh
       let f = front_pairs k j h in
       c.nothing ∙ sym (first_front y (pairs k) (f.0 ++ across j jj) (rw (← append_assoc (pairs k) f.0 (across j jj)) (rw f.1 at c.before)))
 
-  pub one_found : {v k : ℕ} → v ≡ verdict y j jj → (v ≡ 0 → ⊥) → j < k → jj < j → refusal v j jj ≡ first y (pairs k)
+  pub one_found : {x : GateRefusal} {r : Refusal} {k : ℕ} → Err x ≡ verdict y j jj → r ≡ refusal (gate_number x) j jj → j < k → jj < j → Some r ≡ first y (pairs k)
   unfolding first pairs
-  one_found {v} {k} q n h g =
-      let here : first y (pairs j ++ across j (suc jj)) ≡ refusal v j jj = next ∙ rw (q, ne_eqb (verdict y j jj) 0 (λ e. n (q ∙ e))) refl in
+  one_found {x} {r} {k} q e h g =
+      let here : first y (pairs j ++ across j (suc jj)) ≡ Some r = next ∙ ap (λ (v : Verdict). or_refused v (target j jj) None) (sym q) ∙ ap Some (sym e) in
       let f = front_pairs (suc j) k h in
       let a = front_behind (pairs j) (across j (suc jj)) (across j j) (front_across j (suc jj) j g) in
       let b = front_more (pairs j ++ across j (suc jj)) (pairs j ++ across j j) f.0 a in
-      sym (ap (first y) (f.1 ∙ b.1) ∙ first_stays y (pairs j ++ across j (suc jj)) b.0 (λ e. n (ap (λ (x : Refusal). x.number) (sym here) ∙ e)) ∙ here)
+      sym (ap (first y) (f.1 ∙ b.1) ∙ first_stays y (pairs j ++ across j (suc jj)) b.0 r here)

@@ -1,31 +1,28 @@
 -- The layout of a sheet says all that the gate asks of its pairs.
-use Prim.Native.Nat.{ℕ, zero, suc, ◌*◌, ◌≤◌, ◌<◌}
+use Prim.Native.Nat.{ℕ, zero, suc, ◌≤◌, ◌<◌}
 use mathlib.Core.Path.{◌≡◌, refl, sym, ap, ap₂, subst, ◌∙◌}
-use mathlib.Core.Bool.{Bool, true, false, ◌&&◌, cond}
+use mathlib.Core.Bool.{Bool, true, false, ◌&&◌}
 use mathlib.Core.List.{List, [], ◌∷◌, ◌++◌}
 use mathlib.Core.Logic.{by_cases}
-use mathlib.Core.Option.{Option, none, some}
+use Rattle.std.specs.Prelude.{Option}
 use native.Mathlib.Decide.{dec_lt}
 use native.Mathlib.Omega.{arith}
 use borrow.Author.Tests.{eqb-true, eq-eqb, lt-ltb}
-use lib.Dec.{ltb, leb, eqb}
+use lib.Dec.{eqb}
 use lib.ListN.{get_or}
 use Rattle.refusal.specs.declared.Refusal.{Refusal}
-use Rattle.refusal.specs.Numbers.{refusal}
 use Rattle.sheet.specs.declared.Counts.{Counts}
 use Rattle.sheet.specs.declared.Starts.{Starts}
 use Rattle.sheet.specs.Sheet.{Sheet, accepted, read_sheet}
 use Rattle.sheet.specs.Whole.{Each}
 use Rattle.sheet.proofs.Whole.{read_whole}
 use Rattle.layout.specs.declared.Layout.{Layout}
-use Rattle.layout.specs.declared.Pair.{Pair}
-use Rattle.layout.specs.declared.Pair.TheVariants.{Dense, Sparse, Refused}
-use Rattle.layout.specs.Gate.{thin, pair_of}
+use Rattle.layout.specs.Gate.{Verdict, pair_of}
 use Rattle.layout.specs.Shapes.{Target, target, levels, across, pairs}
 use Rattle.heading_format.specs.Heading.{is_sparse}
 use Rattle.workspace.specs.Loaded.{count_of, of_pair, or_refused, one_each, pair_in, first_refused_pair, sorted_layout, layout_of_sheet}
 use Rattle.workspace.proofs.Valid.{one_each_count, sparse_is, diagonal_is}
-use Rattle.layout_gate.specs.gate_search.Search.{answer_of, number_of, verdict, first}
+use Rattle.layout_gate.specs.gate_search.Search.{verdict, first}
 use Rattle.layout.proofs.Made.{layout_with}
 
 -- entries count only where each column has one
@@ -44,7 +41,7 @@ module _ (sheet : Sheet) where
   y = layout_of_sheet sheet
 
   -- what the gate says of a pair, by the layout alone
-  by_layout : ℕ → ℕ → Pair
+  by_layout : ℕ → ℕ → Verdict
   by_layout i j = pair_of y.k (levels y i) (levels y j) y.diagonal (levels y j)
 
   two_blocks_lem : y.k ≡ 2 → pair_in sheet y 1 0 ≡ by_layout 1 0
@@ -78,26 +75,10 @@ module _ (sheet : Sheet) where
   abbrev Below : Target → Type 0
   Below t = (t.row < y.k) × (t.col < t.row)
 
-  -- one pair of the search
-  step : (t : Target) (k rows cols : ℕ) (one : Bool) (n : ℕ) (rest : Option Refusal) → let v = number_of (pair_of k rows cols one n) in
-      answer_of (or_refused (pair_of k rows cols one n) t rest) ≡ cond (eqb v 0) (answer_of rest) (refusal v t.row t.col)
-  unfolding pair_of
-  step t k rows cols one n rest = go (leb (rows * cols) 100000) (ltb 2 k) (one && thin n (rows * cols))
-    where
-      go : (a b c : Bool) → let p = cond a Dense (cond b (Refused 10) (cond c Sparse (Refused 11))) in
-          answer_of (or_refused p t rest) ≡ cond (eqb (number_of p) 0) (answer_of rest) (refusal (number_of p) t.row t.col)
-      go true b c = refl
-      go false true c = refl
-      go false false true = refl
-      go false false false = refl
-
-  first_is : (l : List Target) → Each Below l → answer_of (first_refused_pair sheet y l) ≡ first y l
+  first_is : (l : List Target) → Each Below l → first_refused_pair sheet y l ≡ first y l
   unfolding first_refused_pair first verdict by_layout
   first_is [] a = refl
-  first_is (t ∷ l) a =
-      ap (λ (p : Pair). answer_of (or_refused p t (first_refused_pair sheet y l))) (pair_is t.row t.col a.0.0 a.0.1)
-      ∙ step t y.k (levels y t.row) (levels y t.col) y.diagonal (levels y t.col) (first_refused_pair sheet y l)
-      ∙ ap (λ (r : Refusal). let v = number_of (by_layout t.row t.col) in cond (eqb v 0) r (refusal v t.row t.col)) (first_is l a.1)
+  first_is (t ∷ l) a = ap₂ (λ (p : Verdict) (o : Option Refusal). or_refused p t o) (pair_is t.row t.col a.0.0 a.0.1) (first_is l a.1)
 
   -- every pair in turn is one
   both_below : (l r : List Target) → Each Below l → Each Below r → Each Below (l ++ r)
@@ -114,35 +95,13 @@ module _ (sheet : Sheet) where
   pairs_below zero h = tt
   pairs_below (suc n) h = both_below (pairs n) (across n n) (pairs_below n (omega arith)) (across_below n n (omega arith) (omega arith))
 
-  -- The first pair that the gate refuses is the first that has a verdict by the layout.
-  search_is : answer_of (first_refused_pair sheet y (pairs y.k)) ≡ first y (pairs y.k)
+  -- The first pair that the gate refuses is the first that it refuses by the layout.
+  search_is : first_refused_pair sheet y (pairs y.k) ≡ first y (pairs y.k)
   search_is = first_is (pairs y.k) (pairs_below y.k (omega arith))
 
 -- the same of a layout that a sheet has
-pub by_sheet : (y : Layout) (sheet : Sheet) → y ≡ layout_of_sheet sheet → first y (pairs y.k) ≡ answer_of (first_refused_pair sheet y (pairs y.k))
+pub by_sheet : (y : Layout) (sheet : Sheet) → y ≡ layout_of_sheet sheet → first y (pairs y.k) ≡ first_refused_pair sheet y (pairs y.k)
 by_sheet y sheet e = rw e (sym (search_is sheet))
-
--- number 0 says that no pair is refused, and any other number is that of the refusal found
-pub none_denied : (sheet : Sheet) (y : Layout) (l : List Target) → (answer_of (first_refused_pair sheet y l)).number ≡ 0 → first_refused_pair sheet y l ≡ none
-unfolding first_refused_pair pair_in pair_of
-none_denied sheet y [] e = refl
-none_denied sheet y (t ∷ l) e =
-    let i = t.row in
-    let j = t.col in
-    let cells : ℕ = levels y i * levels y j in
-    go (none_denied sheet y l) (leb cells 100000) (ltb 2 y.k) (one_each sheet y i j && thin (count_of (of_pair y i j) sheet.zz) cells) e
-  where
-    go : ((answer_of (first_refused_pair sheet y l)).number ≡ 0 → first_refused_pair sheet y l ≡ none) → (a b c : Bool)
-        → let p = cond a Dense (cond b (Refused 10) (cond c Sparse (Refused 11))) in
-        (answer_of (or_refused p t (first_refused_pair sheet y l))).number ≡ 0 → or_refused p t (first_refused_pair sheet y l) ≡ none
-    go f true b c e = f e
-    go f false true c e = absurd (omega arith)
-    go f false false true e = f e
-    go f false false false e = absurd (omega arith)
-
-pub some_denied : (o : Option Refusal) → ((answer_of o).number ≡ 0 → ⊥) → o ≡ some (answer_of o)
-some_denied none n = absurd (n refl)
-some_denied (some r) n = refl
 
 -- ---- a layout by its parts
 abbrev made : Counts → List ℕ → List ℕ → Bool → Bool → Layout

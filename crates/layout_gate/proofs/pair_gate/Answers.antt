@@ -8,7 +8,9 @@ use borrow.Author.Tests.{le-leb, lt-leb, lt-ltb, le-ltb}
 use lib.Dec.{T, le→leb}
 use lib.IntN.{pos}
 use lib.Ieee.{binary64, in_float}
-use Rattle.layout.specs.declared.Pair.TheVariants.{Dense, Sparse, Refused}
+use Rattle.std.specs.Prelude.{Ok, Err}
+use Rattle.layout.specs.declared.Storage.TheVariants.{Dense, Sparse}
+use Rattle.layout.specs.declared.GateRefusal.TheVariants.{MultiblockFill, CrossGate}
 use Rattle.layout.specs.Gate.{thin, pair_of}
 
 -- a number of a pair is a double
@@ -21,26 +23,26 @@ pub cells_below : (rows cols : ℕ) → rows ≤ 65535 → cols ≤ 65535 → ro
 cells_below rows cols h g = omega (arith, mul-le-mul h g)
 
 module _ (k rows cols : ℕ) (one : Bool) (entries : ℕ) where
-  pub dense : rows * cols ≤ 100000 → Dense ≡ pair_of k rows cols one entries
+  pub dense : rows * cols ≤ 100000 → Ok Dense ≡ pair_of k rows cols one entries
   unfolding pair_of
   dense h = rw (le-leb (rows * cols) 100000 h)
 
   module _ (h : 100000 < rows * cols) where
-    pub three_blocks : 2 < k → Refused 10 ≡ pair_of k rows cols one entries
+    pub three_blocks : 2 < k → Err MultiblockFill ≡ pair_of k rows cols one entries
     unfolding pair_of
     three_blocks g = rw (lt-leb (rows * cols) 100000 h, lt-ltb 2 k g)
 
     module _ (g : k ≤ 2) where
-      pub not_one_each : one ≡ false → Refused 11 ≡ pair_of k rows cols one entries
+      pub not_one_each : one ≡ false → Err CrossGate ≡ pair_of k rows cols one entries
       unfolding pair_of
       not_one_each a = rw (lt-leb (rows * cols) 100000 h, le-ltb 2 k g, a)
 
       -- t is what the test of the density says
       module _ {t : Bool} (a : one ≡ true) (e : t ≡ thin entries (rows * cols)) where
-        pub too_full : t ≡ false → Refused 11 ≡ pair_of k rows cols one entries
+        pub too_full : t ≡ false → Err CrossGate ≡ pair_of k rows cols one entries
         unfolding pair_of
         too_full z = rw (lt-leb (rows * cols) 100000 h, le-ltb 2 k g, a, sym e ∙ z)
 
-        pub sparse : t ≡ true → Sparse ≡ pair_of k rows cols one entries
+        pub sparse : t ≡ true → Ok Sparse ≡ pair_of k rows cols one entries
         unfolding pair_of
         sparse z = rw (lt-leb (rows * cols) 100000 h, le-ltb 2 k g, a, sym e ∙ z)

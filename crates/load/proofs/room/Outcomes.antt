@@ -3,14 +3,12 @@ use Prim.Native.Nat.{ℕ, ◌+◌, ◌≤◌}
 use mathlib.Core.Path.{◌≡◌, refl, ap, ap₂, ◌∙◌}
 use mathlib.Core.Bool.{true, false, and-eq-true_iff}
 use mathlib.Core.List.{List, []}
-use mathlib.Core.Option.{none}
+use Rattle.std.specs.Prelude.{None}
 use native.Mathlib.Omega.{arith}
 use borrow.Author.Tests.{leb-true}
 use lib.Dec.{leb}
 use lib.ListN.{length}
 use lib.Ieee.{Float}
-use Rattle.refusal.specs.declared.Answer.{Answer}
-use Rattle.refusal.specs.declared.Answer.TheVariants.{Accepted}
 use Rattle.storage.specs.Runs.{tab}
 use Rattle.storage.specs.Part.{store}
 use Rattle.storage.proofs.Parts.{store_more}
@@ -25,6 +23,8 @@ use Rattle.workspace.specs.Answers.{Outcome, workspace, untouched}
 use Rattle.workspace.specs.Loaded.{entry_row_in}
 use Rattle.workspace.specs.Load.{heading_of, doubles_of, has_room, after_gate}
 use Rattle.heading_format.specs.Parts.{heading_length}
+use Rattle.std.specs.Prelude.{Result, Ok}
+use Rattle.refusal.specs.declared.Refusal.{Refusal}
 
 -- ---- lengths
 -- the first block's levels are few
@@ -62,13 +62,13 @@ heading_made sheet y g h h₁ h₂ e₀ e₁ e₂ fits =
 
 -- ---- past the gate: 12, or all is written
 -- an answer, and what the lists are then
-abbrev pub left : Answer → List ℕ → List Float → Outcome
+abbrev pub left : Result Unit Refusal → List ℕ → List Float → Outcome
 left a h w = record { answer = a; left = workspace h w }
 
 module _ (sheet : Sheet) (y : Layout) (h : List ℕ) (w : List Float) where
-  pub short_out : has_room y h w ≡ false → untouched h w 12 0 0 ≡ after_gate none sheet y h w
+  pub short_out : has_room y h w ≡ false → untouched h w 12 0 0 ≡ after_gate None sheet y h w
   short_out e = rw e refl
 
   pub written_out : (h₁ : List ℕ) (w₁ : List Float) → has_room y h w ≡ true → h₁ ≡ store 0 (heading_of sheet y) h → w₁ ≡ store 0 (doubles_of sheet y) w
-      → left Accepted h₁ w₁ ≡ after_gate none sheet y h w
-  written_out h₁ w₁ e a b = rw e (ap₂ (left Accepted) a b)
+      → left (Ok tt) h₁ w₁ ≡ after_gate None sheet y h w
+  written_out h₁ w₁ e a b = rw e (ap₂ (left (Ok tt)) a b)

@@ -4,7 +4,7 @@ use mathlib.Core.Path.{◌≡◌, refl, sym, ap, subst, ◌∙◌}
 use mathlib.Core.Bool.{Bool, true, false, cond, and-eq-true_iff}
 use mathlib.Core.List.{List, [], ◌∷◌}
 use mathlib.Core.Logic.{⊎_elim}
-use mathlib.Core.Option.{none}
+use Rattle.std.specs.Prelude.{None}
 use native.Mathlib.Nat.{mul-le-mul_right}
 use native.Mathlib.Omega.{arith}
 use lib.Dec.{eqb}
@@ -69,7 +69,7 @@ pub record Known (sheet : Sheet) (y : Layout) : Type 0 where
   pub each_once : y.sparse ≡ true → (c : ℕ) → c < levels y 0 → count_of (of_column y 1 0 c) sheet.zz ≡ 1
 
 module _ (s : List ℕ) (sheet : Sheet) (z : Starts) (read : read_sheet s ≡ accepted sheet z) (fine : fault_number sheet ≡ 0)
-    (gate : first_refused_pair sheet (layout_of_sheet sheet) (pairs (layout_of_sheet sheet).k) ≡ none) where
+    (gate : first_refused_pair sheet (layout_of_sheet sheet) (pairs (layout_of_sheet sheet).k) ≡ None) where
   valid_read : valid_layout (layout_of_sheet sheet) ≡ true
   unfolding layout_of_sheet sorted_layout
   valid_read =
@@ -107,10 +107,10 @@ module _ (s : List ℕ) (sheet : Sheet) (z : Starts) (read : read_sheet s ≡ ac
   known_read = record { ok = valid_read; rows = rows_read; p_is = refl; q_is = refl; k_is = refl; inner = inner_read; each_once = one_each_read }
 
 pub known : (s : List ℕ) (sheet : Sheet) (z : Starts) (y : Layout) → read_sheet s ≡ accepted sheet z → fault_number sheet ≡ 0 → y ≡ layout_of_sheet sheet
-    → first_refused_pair sheet y (pairs y.k) ≡ none → Known sheet y
+    → first_refused_pair sheet y (pairs y.k) ≡ None → Known sheet y
 known s sheet z y read fine e gate =
     subst (λ (x : Layout). Known sheet x) (sym e)
-    (known_read s sheet z read fine (subst (λ (x : Layout). first_refused_pair sheet x (pairs x.k) ≡ none) e gate))
+    (known_read s sheet z read fine (subst (λ (x : Layout). first_refused_pair sheet x (pairs x.k) ≡ None) e gate))
 
 -- every entry of a sparse pair is the one of its column
 pub soles : (sheet : Sheet) (y : Layout) → Known sheet y → Each (λ e. Sole y (entry_row_in sheet y) e.col e.row) sheet.zz

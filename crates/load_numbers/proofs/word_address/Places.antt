@@ -1,5 +1,5 @@
 -- The places of words, way out by way out of the code; their bounds; and one line more of a run.
-use Prim.Native.Nat.{ℕ, zero, suc, ◌+◌, ◌-◌, ◌*◌, ◌/◌, ◌%◌, ◌≤◌, ◌<◌}
+use Prim.Native.Nat.{ℕ, suc, ◌+◌, ◌-◌, ◌*◌, ◌/◌, ◌%◌, ◌≤◌, ◌<◌}
 use mathlib.Core.Path.{◌≡◌, sym, ap, subst}
 use mathlib.Core.Bool.{Bool, true, false, not, ◌&&◌, cond}
 use mathlib.Core.List.{List}
@@ -14,7 +14,6 @@ use Rattle.sheet.specs.Field.{nowhere, is_finite}
 use Rattle.layout.specs.declared.Layout.{Layout}
 use Rattle.layout.specs.Shapes.{levels, loaded_at, loaded_length, sum_at, last_rows}
 use Rattle.heading_format.specs.Heading.{valid_layout}
-use Rattle.layout.proofs.Places.{loaded_inside}
 use Rattle.workspace.specs.Loaded.{row_start, in_block}
 use Rattle.block_places.proofs.block_sizes.Sizes.{doubles_small}
 use Rattle.block_places.specs.sheet_rows.Blocks.{block_of_row}
@@ -54,13 +53,10 @@ module _ (y : Layout) where
     unfolding fixed_place
     fixed_row_lem h = rw (← e, lt-ltb j y.k h)
 
-  -- the loaded doubles are few, and every loaded block starts among them
+  -- the loaded doubles are few
   pub loaded_low : valid_layout y ≡ true → loaded_length y < 2199023255552
   unfolding sum_at
   loaded_low ok = omega (arith, doubles_small y ok)
-
-  pub start_low : valid_layout y ≡ true → (i j : ℕ) → j ≤ i → i ≤ y.k → loaded_at y i j < 2199023255552
-  start_low ok i j h g = omega (arith, loaded_inside y i j h g, loaded_low ok)
 
 pub pair_same : (b : Bool) (m : ℕ) {a a' c c' r r' o : ℕ} → a ≡ a' → c ≡ c' → r ≡ r' → o ≡ cond b c (c * m + r) → a + o ≡ a' + cond b c' (c' * m + r')
 pair_same b m e f g q = rw (q, e, f, g)
@@ -78,23 +74,14 @@ module _ {A : Type 0} (put : ℕ → Line → List A → List A) (read : ℕ →
   unfolding spread
   spread_none n i at w e = rw e
 
-  pub spread_more : (n i at : ℕ) (w : List A) (l : Line) → 0 < n → l ≡ read at → spread put read n i at w ≡ spread put read (n - 1) (i + 1) l.next (put i l w)
+  -- n lines, and m behind the first
+  pub spread_more : (n m i at : ℕ) (w : List A) (l : Line) → n ≡ suc m → l ≡ read at → spread put read n i at w ≡ spread put read m (i + 1) l.next (put i l w)
   unfolding spread
-  spread_more zero i at w l h e = absurd (omega arith)
-  spread_more (suc n) i at w l h e =
-      let q : suc n - 1 ≡ n = omega arith in
-      rw (q, add-one) (ap (λ (x : Line). spread put read n (suc i) x.next (put i x w)) (sym e))
+  spread_more n m i at w l q e = rw (q, add-one) (ap (λ (x : Line). spread put read m (suc i) x.next (put i x w)) (sym e))
 
 module _ (P : Line → Type 0) (read : ℕ → Line) where
-  pub each_now : (n at : ℕ) (l : Line) → 0 < n → l ≡ read at → EachLine P read n at → P l
-  each_now zero at l h e a = absurd (omega arith)
-  each_now (suc n) at l h e a = subst P (sym e) a.0
-
-  pub each_more : (n at : ℕ) (l : Line) → 0 < n → l ≡ read at → EachLine P read n at → EachLine P read (n - 1) l.next
-  each_more zero at l h e a = absurd (omega arith)
-  each_more (suc n) at l h e a =
-      let q : n ≡ suc n - 1 = omega arith in
-      subst (λ (m : ℕ). EachLine P read m l.next) q (subst (λ (x : Line). EachLine P read n x.next) (sym e) a.1)
+  pub each_first : (n m at : ℕ) (l : Line) → n ≡ suc m → l ≡ read at → EachLine P read n at → P l × EachLine P read m l.next
+  each_first n m at l q e a = let b = subst (λ (x : ℕ). EachLine P read x at) q a in (subst P (sym e) b.0, subst (λ (x : Line). EachLine P read m x.next) (sym e) b.1)
 
 -- ---- a finite word is no NaN's
 

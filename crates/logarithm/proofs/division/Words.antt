@@ -1,6 +1,6 @@
 -- Laws for the program's whole numbers: long division, and the quotient from a guess.
-use Rattle.std.proofs.Common.{◌≡◌, ℕ, ◌+◌, ◌*◌, ◌/◌, ◌%◌, ◌^◌, ◌<◌, ◌≤◌, Bool, true, false, cond, ltb, sym, refl, ap, ◌∙◌, subst, lt_of_lt_of_le, mod-lt, div-lt_iff_lt-mul, mul-le-mul, pow-suc, div-add-mod', add-one, arith, lit<, ltb-false, ltb-true}
-use native.Mathlib.Nat.{mul-add-div_right, pow-le-pow_right}
+use Rattle.std.proofs.Common.{◌≡◌, ℕ, ◌+◌, ◌*◌, ◌/◌, ◌%◌, ◌^◌, ◌<◌, ◌≤◌, sym, ap, ◌∙◌, subst, lt_of_lt_of_le, mod-lt, div-lt_iff_lt-mul, pow-suc, div-add-mod', add-one, arith, lit<, ◌-◌, mul-le-mul, lit≤, ltb-false, ltb-true, le_trans, ap₂, ltb, Bool, true, false, refl}
+use native.Mathlib.Nat.{mul-add-div_right, pow-le-pow_right, mod-eq_of_lt, add-mod_right}
 use lib.Arith.{digits_div}
 
 -- ---- long division, to the base 4
@@ -43,43 +43,41 @@ last_digit a b q r i s h =
     let w : q * b + r ≡ a * 4 ^ 31 = subst (λ (n : ℕ). q * b + r ≡ a * 4 ^ n) e s.whole in
     sym (digits_div q s.less) ∙ ap (λ (n : ℕ). n / b) w
 
-pub high_small : (b g h : ℕ) → h ≡ g * b / 2 ^ 64 → b < 2 ^ 54 → g < 2 ^ 52 → h ≤ 2 ^ 42
-high_small b g h e B G =
-    let x : b ≤ 2 ^ 54 = omega arith in
-    let y : g ≤ 2 ^ 52 = omega arith in
-    omega (arith, mul-le-mul y x)
+-- ---- the quotient from a guess: r is what g * b leaves of a * 2^54
+-- a difference modulo M that is small is one
+left : (M x p : ℕ) → x < M → p + 2 ^ 56 ≤ M → (x % M + (M - p)) % M < 2 ^ 56 → p + (x % M + (M - p)) % M ≡ x
+left M x p h k small = go (ltb x p) refl
+  where
+    whole : x % M + (M - p) ≡ x + (M - p)
+    whole = ap (λ (n : ℕ). n + (M - p)) (mod-eq_of_lt h)
 
--- ---- the quotient from a guess: p = g * b in its two words, and what is left of a * 2^54
-module _ (a b g h l s r k : ℕ) (eh : h ≡ g * b / 2 ^ 64) (el : l ≡ g * b % 2 ^ 64) (es : s ≡ a % 1024 * 18014398509481984) (er : (r + l) % 2 ^ 64 ≡ s)
-    (ek : k ≡ cond (ltb s l) 1 0) (rl : r < 2 ^ 56) where
-  left : h + k ≡ a / 1024 → g * b + r ≡ a * 18014398509481984
-  left e = go (ltb s l) refl
-    where
-      go : (t : Bool) → ltb s l ≡ t → g * b + r ≡ a * 18014398509481984
-      go true t =
-          let c : k ≡ 1 = ek ∙ ap (λ (b : Bool). cond b 1 0) t in
-          let lt : s < l = ltb-true s l t in
-          omega (arith, eh, el, es, er, e, c)
-      go false t =
-          let c : k ≡ 0 = ek ∙ ap (λ (b : Bool). cond b 1 0) t in
-          let le : l ≤ s = ltb-false s l t in
-          omega (arith, eh, el, es, er, e, c)
+    go : (t : Bool) → ltb x p ≡ t → p + (x % M + (M - p)) % M ≡ x
+    go true t =
+        let l : x < p = ltb-true x p t in
+        let e : (x % M + (M - p)) % M ≡ x + (M - p) = ap (λ (n : ℕ). n % M) whole ∙ mod-eq_of_lt (omega arith) in
+        omega (arith, e)
+    go false t =
+        let l : p ≤ x = ltb-false x p t in
+        let d : x + (M - p) ≡ x - p + M = omega arith in
+        let e : (x % M + (M - p)) % M ≡ x - p = ap (λ (n : ℕ). n % M) (whole ∙ d) ∙ add-mod_right (x - p) M ∙ mod-eq_of_lt (omega arith) in
+        omega (arith, e)
 
-  pub quotient_is : 0 < b → h + k ≡ a / 1024 → g * 256 + r * 256 / b ≡ a * 2 ^ 62 / b
-  quotient_is B e =
-      let x : g * 256 * b + r * 256 ≡ a * 2 ^ 62 = omega (arith, left e) in
-      sym (mul-add-div_right B (g * 256) (r * 256)) ∙ ap (λ (n : ℕ). n / b) x
+product_le : (b g : ℕ) → b < 2 ^ 54 → g < 2 ^ 52 → g * b + 2 ^ 56 ≤ 2 ^ 107
+product_le b g B G = let x : g ≤ 2 ^ 52 = omega arith in let y : b ≤ 2 ^ 54 = omega arith in omega (arith, mul-le-mul x y)
 
-pub shift_fits : (r : ℕ) → r < 2 ^ 56 → r * 256 < 2 ^ 64
-shift_fits r h = omega arith
-
-pub below_pos : (a b : ℕ) → a < b → 0 < b
-below_pos a b h = omega arith
-
-pub ratio_most : (a b : ℕ) → a < b → a * 2 ^ 62 / b < 2 ^ 62
-ratio_most a b h =
-    let B : 0 < b = omega arith in
-    (div-lt_iff_lt-mul B).1 (omega arith)
-
-pub sum_fits : (p a b : ℕ) → p ≡ a * 2 ^ 62 / b → a < b → p < 2 ^ 64
-sum_fits p a b e h = omega (arith, ratio_most a b h)
+-- with A, B and G as the program has them, in 128 bits
+pub quotient_is : (a b g A B G : ℕ) → a < b → b < 2 ^ 54 → g < 2 ^ 52 → A ≡ a → B ≡ b → G ≡ g
+    → ((A * 2 ^ 54) % 2 ^ 128 + (2 ^ 128 - G * B)) % 2 ^ 128 < 2 ^ 56
+    → g * 256 + ((A * 2 ^ 54) % 2 ^ 128 + (2 ^ 128 - G * B)) % 2 ^ 128 * 256 / b ≡ a * 2 ^ 62 / b
+quotient_is a b g A B G h hb hg eA eB eG small =
+    let r = ((A * 2 ^ 54) % 2 ^ 128 + (2 ^ 128 - G * B)) % 2 ^ 128 in
+    let p : G * B ≡ g * b = ap₂ (λ (x y : ℕ). x * y) eG eB in
+    let x : A * 2 ^ 54 < 2 ^ 108 = omega (arith, eA) in
+    let y : G * B + 2 ^ 56 ≤ 2 ^ 107 = omega (arith, p, product_le b g hb hg) in
+    let l : G * B + r ≡ A * 2 ^ 54 = left (2 ^ 128) (A * 2 ^ 54) (G * B) (lt_of_lt_of_le x (lit≤ tt)) (le_trans y (lit≤ tt)) small in
+    let P : 0 < b = omega arith in
+    let e : g * 256 * b + r * 256 ≡ a * 2 ^ 62 = shifted (g * b) r (a * 2 ^ 54) g a b refl refl (ap (λ (n : ℕ). n + r) (sym p) ∙ l ∙ ap (λ (n : ℕ). n * 2 ^ 54) eA) in
+    sym (mul-add-div_right P (g * 256) (r * 256)) ∙ ap (λ (n : ℕ). n / b) e
+  where
+    shifted : (p r x g a b : ℕ) → p ≡ g * b → x ≡ a * 2 ^ 54 → p + r ≡ x → g * 256 * b + r * 256 ≡ a * 2 ^ 62
+    shifted p r x g a b e f l = omega (arith, e, f, l)

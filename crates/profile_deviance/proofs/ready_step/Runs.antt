@@ -7,37 +7,37 @@ use native.Mathlib.Omega.{arith}
 use native.Mathlib.Numerals.{add-one}
 use lib.ListN.{length}
 use Rattle.step_order.specs.Steps.{Step, each}
-use Rattle.refusal.specs.declared.Answer.{Answer}
-use Rattle.refusal.specs.declared.Answer.TheVariants.{Accepted, Refused}
 use Rattle.workspace.specs.Memory.{Workspace}
 use Rattle.workspace.specs.Answers.{Outcome}
 use Rattle.update.specs.Calls.{refused_by, on_pivot, step_of, go_on, run_of}
 use Rattle.profile_deviance.specs.ready_step.ReadyInTurn.{is_refused, ReadyInTurn, Ran}
 use Rattle.profile_deviance.proofs.ready_step.Turns.{step_is, step_next, prefix}
+use Rattle.std.specs.Prelude.{Result, Ok, Err}
+use Rattle.refusal.specs.declared.Refusal.{Refusal}
 
-abbrev pub outcome : Answer → Workspace → Outcome
+abbrev pub outcome : Result Unit Refusal → Workspace → Outcome
 outcome a v = record { answer = a; left = v }
 
 -- an answer that is no refusal
-accepted : (a : Answer) → is_refused a ≡ false → a ≡ Accepted
-accepted Accepted e = refl
-accepted (Refused r) e = absurd (true≢false e)
+accepted : (a : Result Unit Refusal) → is_refused a ≡ false → a ≡ (Ok tt)
+accepted (Ok tt) e = refl
+accepted (Err r) e = absurd (true≢false e)
 
 -- going on from an outcome: from what an accepted one leaves, not at all from a refused one
-on_accepted : (o : Outcome) (next : Workspace → Outcome) → o.answer ≡ Accepted → go_on o.answer o next ≡ next o.left
+on_accepted : (o : Outcome) (next : Workspace → Outcome) → o.answer ≡ (Ok tt) → go_on o.answer o next ≡ next o.left
 on_accepted o next e = rw e refl
 
 on_refused : (o : Outcome) (next : Workspace → Outcome) → is_refused o.answer ≡ true → go_on o.answer o next ≡ o
 on_refused o next t = go o.answer t
   where
-    go : (a : Answer) → is_refused a ≡ true → go_on a o next ≡ o
-    go Accepted e = absurd (true≢false (sym e))
-    go (Refused r) e = refl
+    go : (a : Result Unit Refusal) → is_refused a ≡ true → go_on a o next ≡ o
+    go (Ok tt) e = absurd (true≢false (sym e))
+    go (Err r) e = refl
 
 -- ending right behind it is the outcome itself
-ending : (a : Answer) (o : Outcome) → o.answer ≡ a → go_on a o (outcome Accepted) ≡ o
-ending Accepted o e = ap (λ (b : Answer). outcome b o.left) (sym e)
-ending (Refused r) o e = refl
+ending : (a : Result Unit Refusal) (o : Outcome) → o.answer ≡ a → go_on a o (outcome (Ok tt)) ≡ o
+ending (Ok tt) o e = ap (λ (b : Result Unit Refusal). outcome b o.left) (sym e)
+ending (Err r) o e = refl
 
 run_one : (v : Workspace) (s : Step) → step_of v.heading v.doubles s ≡ run_of v (s ∷ [])
 unfolding run_of
@@ -48,13 +48,13 @@ unfolding run_of
 run_append v [] b = refl
 run_append v (s ∷ a) b = go (λ u. run_append u a b) (step_of v.heading v.doubles s).answer (step_of v.heading v.doubles s) refl
   where
-    go : ((u : Workspace) → run_of u (a ++ b) ≡ go_on (run_of u a).answer (run_of u a) (λ z. run_of z b)) → (x : Answer) (o : Outcome) → o.answer ≡ x
+    go : ((u : Workspace) → run_of u (a ++ b) ≡ go_on (run_of u a).answer (run_of u a) (λ z. run_of z b)) → (x : Result Unit Refusal) (o : Outcome) → o.answer ≡ x
         → go_on x o (λ u. run_of u (a ++ b)) ≡ go_on (go_on x o (λ u. run_of u a)).answer (go_on x o (λ u. run_of u a)) (λ u. run_of u b)
-    go rest Accepted o e = rest o.left
-    go rest (Refused r) o e = rw e refl
+    go rest (Ok tt) o e = rest o.left
+    go rest (Err r) o e = rw e refl
 
 -- ---- runs: none, one step, one list behind another
-ran_none : (v : Workspace) → Ran v [] (outcome Accepted v)
+ran_none : (v : Workspace) → Ran v [] (outcome (Ok tt) v)
 unfolding run_of
 ran_none v = record { same = refl; next = λ rest u t. u }
 
@@ -87,6 +87,10 @@ module _ {v : Workspace} {a : List Step} (b : List Step) {o : Outcome} (r : Ran 
     pub turn : ReadyInTurn v (a ++ b) → ReadyInTurn o.left b
     turn u = r.next b u t
 
+-- what a run answers is handed on
+pub handed_on : {v u : Workspace} {l : List Step} {a b : Result Unit Refusal} → Ran v l (outcome a u) → b ≡ a → Ran v l (outcome b u)
+handed_on {v} {u} {l} r e = subst (λ (x : Result Unit Refusal). Ran v l (outcome x u)) (sym e) r
+
 -- ---- a loop over f x, .., f (end - 1) from v on: their turn has come, and what they come to, the whole list L comes to from v₀ on
 pub record Going (v₀ : Workspace) (L : List Step) (f : ℕ → List Step) (x end : ℕ) (v : Workspace) : Type 0 where
   pub within : x ≤ end
@@ -99,10 +103,10 @@ going_start v f a n u {x} {end} e q =
     record { within = omega arith; ends = rw (z, e) (λ p r. r); turn = rw (z, e) u }
 
 module _ {v₀ : Workspace} {L : List Step} {f : ℕ → List Step} {x end : ℕ} {v : Workspace} (g : Going v₀ L f x end v) where
-  pub going_done : end ≤ x → Ran v₀ L (outcome Accepted v)
+  pub going_done : end ≤ x → Ran v₀ L (outcome (Ok tt) v)
   going_done h =
       let z : end - x ≡ 0 = omega arith in
-      g.ends (outcome Accepted v) (rw z (ran_none v))
+      g.ends (outcome (Ok tt) v) (rw z (ran_none v))
 
   module _ (h : x < end) where
     count : end - x ≡ suc (end - (x + 1))

@@ -1,20 +1,19 @@
 -- A workspace in the middle of an update whose steps come in an order that lets each of them be taken (document 01, Record 5), and what a run of steps
 -- comes to.
-use Rattle.std.specs.Prelude.{◌≡◌, Bool, true, false, List, ◌++◌, length}
+use Rattle.std.specs.Prelude.{◌≡◌, Bool, true, false, List, ◌++◌, length, Result, Ok, Err}
 use Rattle.step_order.specs.Steps.{Step}
 use Rattle.step_order.specs.Progress.{Order, Represents}
-use Rattle.refusal.specs.declared.Answer.{Answer}
-use Rattle.refusal.specs.declared.Answer.TheVariants.{Accepted, Refused}
 use Rattle.heading_format.specs.declared.State.TheVariants.{Idle}
 use Rattle.heading_format.specs.Heading.{layout_of, progress_of, stage_of, valid_heading}
 use Rattle.workspace.specs.Memory.{Workspace}
 use Rattle.workspace.specs.Answers.{Outcome}
 use Rattle.update.specs.Calls.{run_of}
+use Rattle.refusal.specs.declared.Refusal.{Refusal}
 
 -- an answer is a refusal
-abbrev pub is_refused : Answer → Bool
-is_refused Accepted = false
-is_refused (Refused r) = true
+abbrev pub is_refused : Result Unit Refusal → Bool
+is_refused (Ok tt) = false
+is_refused (Err r) = true
 
 -- the steps l are still to come, and each finds its forerunners done when its turn comes
 pub record ReadyInTurn (v : Workspace) (l : List Step) : Type 0 where

@@ -10,17 +10,7 @@ use Rattle.re_lower.specs.Lower.{left_of_diagonal}
 use Rattle.re_lower.proofs.Blocks.{diagonal_room}
 use Rattle.re_factor.specs.Factor.{pivot_at}
 use Rattle.re_factor.proofs.Lends.{lent_factor}
-use borrow.Author.Rules.{rules}
 use Rattle.re_factor.proofs.chol_diagonal.Goals as goal
-
-pub overflow_add-end : goal.overflow_add-end
-overflow_add-end c = let k = start_single c.args.b.rows in search rules
-
-pub offset_bounds-doubles-at : goal.offset_bounds-doubles-at
-offset_bounds-doubles-at c = let k = start_single c.args.b.rows in search rules
-
-pub slice_bounds-chol_diagonal-end : goal.slice_bounds-chol_diagonal-end
-slice_bounds-chol_diagonal-end c = let k = start_single c.args.b.rows in search rules
 
 pub returns : goal.returns
 returns c = let a = c.args in let p = c.chol_diagonal in

@@ -1,11 +1,9 @@
--- `re_lower::chain`: the invariant is that v is s less the first y products.
+-- `re_lower::chain`: the invariant is that v is s less the first i products.
 use mathlib.Core.Path.{◌≡◌}
-use Prim.Native.Nat.{◌≤◌, ◌-◌}
-use Rattle.re_lower.specs.Lower.{chained}
+use Rattle.rules.specs.Arithmetic.{ieee}
+use Rattle.rules.specs.Sums.{chain}
+use Rattle.rules.specs.Cholesky.{at}
 use Rattle.re_lower.proofs.chain.Given as goal
 
-abbrev pub invariant-loop-y : goal.invariant-loop-y
-invariant-loop-y l = (l.y ≤ l.n) × (l.v ≡ chained l.s l.t l.a l.t l.b l.y)
-
-abbrev pub decreases-loop-y : goal.decreases-loop-y
-decreases-loop-y l = l.n - l.y
+abbrev pub invariant-loop-i : goal.invariant-loop-i
+invariant-loop-i l = l.v ≡ chain ieee l.s (at ieee l.x) (at ieee l.y) l.i

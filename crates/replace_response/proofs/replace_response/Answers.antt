@@ -5,12 +5,12 @@ use Rattle.replace_response.proofs.Replaced.{not_valid_heading}
 use Rattle.workspace.specs.Response.{response}
 use Rattle.replace_response.proofs.replace_response.Goals as goal
 
-pub replace_valid-requires : goal.replace_valid-requires
-replace_valid-requires c = sym c.is_valid_heading.ensures ∙ c.if-is_valid_heading.true
+pub returns-then-not-is_valid_heading : goal.returns-then-not-is_valid_heading
+returns-then-not-is_valid_heading c = let a = c.args in
+    outcome_means _ _ _ (not_valid_heading a.heading.now a.doubles.now (response a.zty.now a.xty.now a.yty.now) (sym c.is_valid_heading.ensures ∙ c.if-not-is_valid_heading.true))
 
-pub returns-then-is_valid_heading : goal.returns-then-is_valid_heading
-returns-then-is_valid_heading c = outcome_means _ _ _ c.replace_valid.ensures
+pub replace_valid-requires : goal.replace_valid-requires
+replace_valid-requires c = sym c.is_valid_heading.ensures ∙ c.if-not-is_valid_heading.false
 
 pub returns : goal.returns
-returns c = let a = c.args in
-    outcome_means _ _ _ (not_valid_heading a.heading.now a.doubles.now (response a.zty.now a.xty.now a.yty.now) (sym c.is_valid_heading.ensures ∙ c.if-is_valid_heading.false) _ c.refused.ensures)
+returns c = outcome_means _ _ _ c.replace_valid.ensures

@@ -1,7 +1,7 @@
--- What an index says of a list: a number at that index, or none where the index is the length.
-use Rattle.std.specs.Prelude.{ℕ, ltb}
-use Rattle.std.proofs.Math.Option.{Option, none, some}
-use Rattle.layout.specs.Shapes.{pick}
+-- Where the first number stands that is not finite, as the code's Option.
+use Rattle.std.specs.Prelude.{ℕ, Option, None, Some}
+use Rattle.std.proofs.Math.Option as Math
 
-abbrev pub found_at : ℕ → ℕ → Option ℕ
-found_at i n = pick (ltb i n) (some i) none
+abbrev pub as_option : Math.Option ℕ → Option ℕ
+as_option Math.none = None
+as_option (Math.some i) = Some i

@@ -2,7 +2,7 @@
 use Prim.Native.Nat.{ℕ, ◌+◌, ◌-◌, ◌*◌, ◌≤◌, ◌<◌}
 use mathlib.Core.Path.{◌≡◌, refl, sym, ap, ap₂, subst, ◌∙◌}
 use mathlib.Core.List.{List}
-use native.Mathlib.Nat.{add-zero, mul-le-mul}
+use native.Mathlib.Nat.{mul-le-mul}
 use native.Mathlib.Omega.{arith}
 use borrow.Rule.Slice.PartMut.{put_mid}
 use lib.ListN.{length, take, drop}
@@ -26,13 +26,13 @@ use Rattle.schur.specs.few_rows.Few.{row_sums, subtract_sum, subtract_sums}
 
 -- the sums of the products of one row of block a, made beside t and put there
 pub row_put : (w t t' acc acc₁ acc₂ : List Float) (from : ℕ) (a b : Block) (r : ℕ) → b.rows ≤ length acc → b.cols ≡ a.cols → acc₁ ≡ run 0 b.rows (λ i. ieee.zero) acc
-    → acc₂ ≡ products ieee.plus acc₁ b.rows w b.at b.rows w a.at a.rows r a.cols → t' ≡ run (from + 0) b.rows (at acc₂) t → t' ≡ run from b.rows (row_sums a b w r) t
+    → acc₂ ≡ products ieee.plus acc₁ b.rows w b.at b.rows w a.at a.rows r a.cols → t' ≡ run from b.rows (λ i. at acc₂ (0 + i)) t → t' ≡ run from b.rows (row_sums a b w r) t
 row_put w t t' acc acc₁ acc₂ from a b r room e first then so =
     so
-    ∙ ap₂ (λ (x : ℕ) (l : List Float). store x l t) (add-zero from)
+    ∙ ap (λ (l : List Float). store from l t)
     (tab_ext b.rows _ _
     (λ i l.
-    summed ieee.plus b.rows w b.at b.rows w a.at a.rows r a.cols acc acc₁ acc₂ (λ x. ieee.zero) room first then i l
+    ap (at acc₂) (omega arith) ∙ summed ieee.plus b.rows w b.at b.rows w a.at a.rows r a.cols acc acc₁ acc₂ (λ x. ieee.zero) room first then i l
     ∙ ap (λ (x : ℕ). along ieee.plus ieee.zero (block b.at (columns b.rows x) w i) (read (as_columns a) w r) a.cols) (sym e)))
 
 -- there is room for two rows more

@@ -3,7 +3,7 @@ use Prim.Native.Nat.{ℕ, suc, ◌+◌, ◌≤◌, ◌<◌}
 use mathlib.Core.Path.{◌≡◌, refl, sym, ap, ap₂, subst, ◌∙◌}
 use mathlib.Core.Bool.{Bool, true, false, not, ◌&&◌, cond}
 use mathlib.Core.List.{List}
-use mathlib.Core.Logic.{by_cases, inr}
+use mathlib.Core.Logic.{by_cases}
 use native.Mathlib.Decide.{ℕ_discrete}
 use native.Mathlib.Nat.{zero-add}
 use native.Mathlib.Omega.{arith}
@@ -12,18 +12,17 @@ use lib.Dec.{eqb}
 use lib.ListN.{length, get_or, set}
 use lib.Seq.{get_or-set_same, get_or-set_other}
 use lib.Ieee.{Float, nan}
-use Rattle.storage.specs.Runs.{start, dense, tab}
+use Rattle.storage.specs.Runs.{start, dense}
 use Rattle.storage.specs.Shape.{Shape, columns, entries, has_cell}
 use Rattle.storage.specs.declared.Block.{Block}
 use Rattle.storage.specs.Placed.{Placed, block_of, as_columns, as_entries, Lies}
 use Rattle.storage.proofs.Starts.{start_single}
-use Rattle.storage.proofs.Cells.{length_tab, get_or_tab}
-use Rattle.storage.proofs.Parts.{store_in}
-use Rattle.storage.proofs.Filling.{Filling, filling_else, filling_done, array_more}
 use Rattle.rules.specs.Arithmetic.{ieee}
 use Rattle.rules.specs.Sums.{sum_from}
 use Rattle.block_runs.specs.blocks.Blocks.{block}
 use Rattle.block_runs.proofs.blocks.Laws.{read_block, has_dense}
+use Rattle.block_runs.specs.axpy.Axpy.{at, run}
+use Rattle.block_runs.proofs.axpy.Sums.{read_run}
 use Rattle.schur.specs.rank_diagonal.Rows.{plus_square, Zeros, Summed, with_cell, Added, AddedEntry}
 
 -- ---- one square
@@ -47,17 +46,7 @@ module _ (p : Placed) (src : ℕ) (w : List Float) (from m : ℕ) where
 
 -- ---- a dense column: each row has a cell there
 
--- sum i with the square of column x
-abbrev pub added : (a : Block) (src : ℕ) → List Float → ℕ → List Float → ℕ → Float
-added a src w x t i = with_cell (as_columns a) src w (0 + i) x (get_or t i nan)
-
 module _ (a : Block) (src : ℕ) (w : List Float) (x : ℕ) (t₀ : List Float) where
-  pub column_added : {t : List Float} {r : ℕ} → Filling (added a src w x t₀) 0 a.rows t₀ t r → a.rows ≤ r → Added (as_columns a) src w 0 a.rows x t₀ t
-  column_added {t} e top i h =
-      let g : ℕ → Float = added a src w x t₀ in
-      ap₂ (λ (l : List Float) (k : ℕ). get_or l k nan) (filling_done e top) (sym (zero-add i))
-      ∙ store_in 0 (tab a.rows g) t₀ (omega (arith, length_tab a.rows g)) nan i (omega (arith, length_tab a.rows g)) ∙ get_or_tab a.rows g i nan h
-
   module _ (here : x < a.cols) (fits : Lies (length w) (as_columns a)) (fits-src : Lies (length w) (as_columns (block_of src a.rows a.cols)))
       (p q : ℕ) (e : p ≡ a.at + start (dense a.rows) x) (f : q ≡ src + start (dense a.rows) x) (r : ℕ) (h : r < a.rows) where
     dense_square : (y : Float) → plus_square true (get_or w (q + r) nan) (get_or w (p + r) nan) y ≡ with_cell (as_columns a) src w (0 + r) x y
@@ -67,11 +56,14 @@ module _ (a : Block) (src : ℕ) (w : List Float) (x : ℕ) (t₀ : List Float) 
         ap₂ (λ (c v : Float). plus_square true c v y) (read_block s src w r x (q + r) k fits-src (omega arith)) (read_block s a.at w r x (p + r) k fits (omega arith))
         ∙ ap (λ (b : Bool). plus_square b (block src s w r x) (block a.at s w r x) y) (sym k) ∙ ap (λ (i : ℕ). with_cell (as_columns a) src w i x y) (sym (zero-add r))
 
-    pub column_more : {t : List Float} → Filling (added a src w x t₀) 0 a.rows t₀ t r
-        → (v : Float) → v ≡ plus_square true (get_or w (q + r) nan) (get_or w (p + r) nan) (get_or t r nan) → Filling (added a src w x t₀) 0 a.rows t₀ (set t r v) (r + 1)
-    column_more {t} so v k =
-        array_more so h
-        (k ∙ dense_square (get_or t r nan) ∙ ap (with_cell (as_columns a) src w (0 + r) x) (filling_else so nan r (inr (omega arith))))
+  -- the sums of every row
+  pub column_added : (here : x < a.cols) → Lies (length w) (as_columns a) → Lies (length w) (as_columns (block_of src a.rows a.cols))
+      → (p q : ℕ) → p ≡ a.at + start (dense a.rows) x → q ≡ src + start (dense a.rows) x → a.rows ≤ length t₀
+      → {t : List Float} → t ≡ run 0 a.rows (λ r. plus_square true (at w (q + r)) (at w (p + r)) (at t₀ (0 + r))) t₀ → Added (as_columns a) src w 0 a.rows x t₀ t
+  column_added here fits fits-src p q e f room so i h =
+      ap (λ (l : List Float). at l i) so ∙ read_run 0 a.rows _ t₀ (omega arith) i i h (omega arith)
+      ∙ ap (λ (k : ℕ). plus_square true (at w (q + i)) (at w (p + i)) (at t₀ k)) (zero-add i)
+      ∙ dense_square here fits fits-src p q e f i h (at t₀ i)
 
 -- ---- a sparse column: one row has a cell there
 

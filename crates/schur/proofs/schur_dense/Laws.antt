@@ -16,15 +16,15 @@ use Rattle.schur.proofs.Turns.{subtract_sum, sums_dot, sums_subtracted, same_apa
 -- a column less sums that were made before the column in front of it was written
 pub second_subtracted : (w w₁ w₂ acc acc₁ acc₂ : List Float) (t a b : Block) (to to' n r r' : ℕ) → Product (length w) as_columns as_columns t a b → n ≤ length acc → Within (as_columns t) to n
     → acc₁ ≡ run 0 n (λ i. ieee.zero) acc → acc₂ ≡ products ieee.plus acc₁ n w a.at a.rows w b.at b.rows r' a.cols
-    → w₁ ≡ subtract_sums to n a b r w → (x : ℕ) → x ≡ to' → w₂ ≡ run x n (λ i. ieee.minus (at w₁ (x + i)) (at acc₂ i)) w₁
+    → w₁ ≡ subtract_sums to n a b r w → w₂ ≡ run to' n (λ i. ieee.minus (at w₁ (to' + i)) (at acc₂ i)) w₁
     → w₂ ≡ subtract_sums to' n a b r' (subtract_sums to n a b r w)
-second_subtracted w w₁ w₂ acc acc₁ acc₂ t a b to to' n r r' P long in_block first then made x d so =
+second_subtracted w w₁ w₂ acc acc₁ acc₂ t a b to to' n r r' P long in_block first then made so =
     let same : (q : Placed) → Apart (as_columns t) q → read q w ≡ read q w₁ = λ q h. sym (ap (read q) made ∙ same_apart (as_columns t) q to n _ w in_block P.target h) in
     sums_subtracted w₁ w₂ acc acc₁ acc₂ to' n a b r' long P.inner first
     (then
     ∙ ap₂ (λ (x y : ℕ → ℕ → Float). run 0 n (λ i. along ieee.plus (at acc₁ i) (x i) (y r') a.cols) acc₁) (same (as_columns a) P.off_left)
     (same (as_columns (record { at = b.at; rows = b.rows; cols = a.cols })) (rw P.inner at P.off_right)))
-    x d so
+    so
     ∙ ap (subtract_sums to' n a b r') made
 
 module _ {t a b : Block} {w₀ : List Float} (P : Product (length w₀) as_columns as_columns t a b) where

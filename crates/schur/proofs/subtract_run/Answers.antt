@@ -8,4 +8,4 @@ add_products-requires c = omega (arith, lies_as _ _ c.args.b c.requires.3 c.requ
 
 pub returns : goal.returns
 returns c = let a = c.args in
-    sums_subtracted a.doubles.now _ a.acc.now _ _ a.to a.n a.a a.b a.r c.requires.1 c.requires.3 c.clear.ensures c.add_products.ensures _ (omega arith) c.subtract.ensures
+    sums_subtracted a.doubles.now _ a.acc.now _ _ a.to a.n a.a a.b a.r c.requires.1 c.requires.3 c.clear.ensures c.add_products.ensures c.subtract.ensures

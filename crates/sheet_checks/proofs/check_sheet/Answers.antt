@@ -27,11 +27,11 @@ returns-then-slope c = seven c.args.bytes.now c.requires (λ q. omega arith) (λ
 pub returns-then-uncovered : goal.returns-then-uncovered
 returns-then-uncovered c = eight c.args.bytes.now c.requires (λ q. omega arith) (λ q. omega arith) c.has_slope-slope.ensures c.if-slope.false c.levels-m.ensures c.total.ensures (ap not (ne_eqb _ _ c.if-uncovered.true))
 
-pub faulty_line-faulty-requires : goal.faulty_line-faulty-requires
-faulty_line-faulty-requires c = covers c.args.bytes.now c.requires c.levels-m.ensures c.total.ensures (ap not (eq-eqb _ _ c.if-uncovered.false))
+pub faulty_line-requires : goal.faulty_line-requires
+faulty_line-requires c = covers c.args.bytes.now c.requires c.levels-m.ensures c.total.ensures (ap not (eq-eqb _ _ c.if-uncovered.false))
 
-pub returns-then-faulty-gt0 : goal.returns-then-faulty-gt0
-returns-then-faulty-gt0 c = nine c.args.bytes.now c.requires (λ q. omega arith) (λ q. omega arith) c.has_slope-slope.ensures c.if-slope.false c.levels-m.ensures c.total.ensures (ap not (eq-eqb _ _ c.if-uncovered.false)) c.faulty_line-faulty.ensures (omega arith)
+pub returns-in-Some : goal.returns-in-Some
+returns-in-Some c = nine c.args.bytes.now c.requires (λ q. omega arith) (λ q. omega arith) c.has_slope-slope.ensures c.if-slope.false c.levels-m.ensures c.total.ensures (ap not (eq-eqb _ _ c.if-uncovered.false)) c.in-Some.ensures
 
 pub returns : goal.returns
-returns c = none c.args.bytes.now c.requires (λ q. omega arith) (λ q. omega arith) c.has_slope-slope.ensures c.if-slope.false c.levels-m.ensures c.total.ensures (ap not (eq-eqb _ _ c.if-uncovered.false)) c.faulty_line-faulty.ensures (omega arith)
+returns c = none c.args.bytes.now c.requires (λ q. omega arith) (λ q. omega arith) c.has_slope-slope.ensures c.if-slope.false c.levels-m.ensures c.total.ensures (ap not (eq-eqb _ _ c.if-uncovered.false)) c.in_default.ensures

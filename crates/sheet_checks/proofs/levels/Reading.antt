@@ -103,6 +103,9 @@ slope b = not (eqb b.e 1)
 pub record Slopes (X : Bool) (s : List ℕ) (at left : ℕ) : Type 0 where
   pub same : any_of slope (blocks_at s left at) ≡ X
 
+pub slope_start : (s : List ℕ) (k at : ℕ) → Slopes (any_of slope (blocks_at s k at)) s at (k - 0)
+slope_start s k at = record { same = rw (sub-zero k) }
+
 module _ {X : Bool} {s : List ℕ} {at left : ℕ} {l : Line} (v : Slopes X s at left) (h : 0 < left) (q : l ≡ block_line s at) where
   split : blocks_at s left at ≡ block_in 0 l ∷ blocks_at s (left - 1) l.next
   split =

@@ -1,11 +1,12 @@
 -- The end of a pass over the zz lines, and the groups of columns.
+use Rattle.std.specs.Prelude.{Option, Some, None}
 use Prim.Native.Nat.{ℕ, ◌+◌, ◌-◌, ◌<◌, ◌≤◌, min}
 use mathlib.Core.Path.{◌≡◌, refl, sym, ◌∙◌, ap, subst}
 use mathlib.Core.Logic.{◌⊎◌, inl, inr, ⊎_elim}
 use mathlib.Core.Bool.{Bool, true, false, ◌&&◌, false≢true}
 use mathlib.Core.List.{List}
 use native.Mathlib.Omega.{arith}
-use borrow.Author.Tests.{ltb-true, ltb-false, leb-true, leb-false, eqb-true, lt-ltb, eq-eqb}
+use borrow.Author.Tests.{ltb-true, ltb-false, leb-true, leb-false, eqb-true, lt-ltb, eq-eqb, ne_eqb}
 use lib.Dec.{ltb, leb, eqb}
 use mir.Val.{Fits}
 use mir.Syntax.{w64}
@@ -24,7 +25,7 @@ use Rattle.sheet_checks.specs.levels.Held.{level_list}
 use Rattle.sheet_checks.specs.mirror_cursor.Held.{sheet_in, held, entry_of, place_of, Given, Levelled, FaultAt}
 use Rattle.sheet_checks.specs.mirror_cursor.Columns.{Below, Mirrored, Column}
 use Rattle.sheet_checks.specs.mirror_cursor.Turns.{InGroup, Pass}
-use Rattle.sheet_checks.specs.mirror_scan.Mirror.{Judged}
+use Rattle.sheet_checks.specs.mirror_scan.Mirror.{Judged, line_of}
 use Rattle.sheet_checks.proofs.mirror_step.Columns.{last_or_before, column_start, column_less, cursor_unmirrored, column_closed}
 use Rattle.sheet_checks.proofs.mirror_step.Entries.{place_first, entry_line, read_here, next_here, with_unmirrored, same_place, whole, counts_same, in_order_lem, places_rise, in_range, sound, names_entry, names_none, fault_none, fault_min}
 use Rattle.sheet_checks.proofs.mirror_step.Turns.{group_is, group_low, group_high, is_group}
@@ -178,12 +179,16 @@ module _ {s : List ℕ} {z : Starts} {n : ℕ} (g : Given s z n) where
           (is_group base width (entry_of (held s) t).col (entry_of (held s) t).row (leb-true base (entry_of (held s) t).col e) (leb-true base (entry_of (held s) t).row f)
           (⊎_elim (λ x. inl (omega arith)) (λ x. inr (omega arith)) i.2))
 
+  -- a line's number above 0 is one
+  some_line : (line : ℕ) → 0 < line → Some line ≡ line_of line
+  some_line line h = rw (ne_eqb line 0 (omega arith)) refl
+
   -- what `line_number_at` says of a place
-  abbrev pub NumberOf : ℕ → ℕ → Type 0
-  NumberOf at r = ((t : ℕ) → t < n → at ≡ place_of s z t → r ≡ (entry_of (held s) t).line) × (at ≡ z.zx → r ≡ 0)
+  abbrev pub NumberOf : ℕ → Option ℕ → Type 0
+  NumberOf at r = ((t : ℕ) → t < n → at ≡ place_of s z t → r ≡ Some (entry_of (held s) t).line) × (at ≡ z.zx → r ≡ None)
 
   -- where all columns are judged, the line there is the one that 9 names
-  pub judged_all : {width at r : ℕ} → Judged s z 0 width at → z.counts.q ≤ width → NumberOf at r → r ≡ faulty_line (held s)
+  pub judged_all : {width at : ℕ} {r : Option ℕ} → Judged s z 0 width at → z.counts.q ≤ width → NumberOf at r → r ≡ line_of (faulty_line (held s))
   judged_all {width} {at} {r} a h number = go (ltb a.known.t (length (held s).zz)) refl
     where
       none : (t : ℕ) → t < length (held s).zz → place_of s z t < at → Fault (held s) (entry_of (held s) t) → ⊥
@@ -192,20 +197,21 @@ module _ {s : List ℕ} {z : Starts} {n : ℕ} (g : Given s z n) where
           a.sound t u v
           (is_group 0 width (entry_of (held s) t).col (entry_of (held s) t).row (omega arith) (omega arith) (inl (omega (arith, i.col, ap (λ (x : Counts). x.q) (counts_same g)))))
 
-      go : (b : Bool) → ltb a.known.t (length (held s).zz) ≡ b → r ≡ faulty_line (held s)
+      go : (b : Bool) → ltb a.known.t (length (held s).zz) ≡ b → r ≡ line_of (faulty_line (held s))
       go true e =
           let l : a.known.t < length (held s).zz = ltb-true _ _ e in
           number.0 a.known.t (omega (arith, g.count)) a.known.here
-          ∙ names_entry (held s) a.known.t l (a.known.fault l) (λ u k. none u (omega arith) (omega (arith, places_rise g u a.known.t k (omega arith), a.known.here)))
+          ∙ some_line _ (omega (arith, ap (λ (v : Entry). v.line) (entry_line g a.known.t (omega (arith, g.count)))))
+          ∙ ap line_of (names_entry (held s) a.known.t l (a.known.fault l) (λ u k. none u (omega arith) (omega (arith, places_rise g u a.known.t k (omega arith), a.known.here))))
       go false e =
           let l : length (held s).zz ≤ a.known.t = ltb-false _ _ e in
           let q : a.known.t ≡ length (held s).zz = omega (arith, a.known.near) in
           let at_end : at ≡ place_of s z (length (held s).zz) = a.known.here ∙ ap (place_of s z) q in
           number.1 (at_end ∙ sym (whole g).placed.zz_end)
-          ∙ names_none (held s) (λ u k. none u k (omega (arith, places_rise g u (length (held s).zz) k (omega arith))))
+          ∙ ap line_of (names_none (held s) (λ u k. none u k (omega (arith, places_rise g u (length (held s).zz) k (omega arith)))))
 
-  pub empty_names : n ≡ 0 → 0 ≡ faulty_line (held s)
-  empty_names e = names_none (held s) (λ u k. absurd (omega (arith, g.count)))
+  pub empty_names : n ≡ 0 → None ≡ line_of (faulty_line (held s))
+  empty_names e = ap line_of (names_none (held s) (λ u k. absurd (omega (arith, g.count))))
 
 -- ---- the number of the line at a place
 -- what `line_number_at` knows: none of the i lines looked at starts at `at`
@@ -227,7 +233,7 @@ module _ {s : List ℕ} {z : Starts} {n : ℕ} (g : Given s z n) where
   number_fits h = record { fits = omega (arith, ap (λ (c : Counts). c.k) (counts_same g), (whole g).shape.lines, g.count, g.fits) }
 
   -- the end of the lines is the place of none of them
-  pub none_there : {at : ℕ} → at ≡ z.zx → NumberOf g at 0
+  pub none_there : {at : ℕ} → at ≡ z.zx → NumberOf g at None
   none_there e = (
     λ t k f. absurd (let q = same_place g t (length (held s).zz) (omega (arith, g.count)) (omega arith) (sym f ∙ e ∙ (whole g).placed.zz_end) in omega (arith, g.count)),
     λ f. refl,
@@ -241,15 +247,15 @@ module _ {s : List ℕ} {z : Starts} {n at place i : ℕ} (g : Given s z n) (c :
       go t e (inl k) = c.none t k e
       go t e (inr k) = f (c.here ∙ ap (place_of s z) (sym k) ∙ sym e)
 
-  pub sought_hit : i < n → place ≡ at → NumberOf g at (z.counts.k + 2 + i)
+  pub sought_hit : i < n → place ≡ at → NumberOf g at (Some (z.counts.k + 2 + i))
   sought_hit h e = (
     λ t k f.
         let q : i ≡ t = same_place g i t (omega (arith, g.count)) (omega (arith, g.count)) (sym c.here ∙ e ∙ f) in
-        ap (λ (x : ℕ). z.counts.k + 2 + x) q ∙ sym (ap (λ (v : Entry). v.line) (entry_line g t k)),
+        ap Some (ap (λ (x : ℕ). z.counts.k + 2 + x) q ∙ sym (ap (λ (v : Entry). v.line) (entry_line g t k))),
     λ f. absurd (let q = same_place g i (length (held s).zz) (omega (arith, g.count)) (omega arith) (sym c.here ∙ e ∙ f ∙ (whole g).placed.zz_end) in omega (arith, g.count)),
   )
 
-  pub sought_out : n ≤ i → NumberOf g at 0
+  pub sought_out : n ≤ i → NumberOf g at None
   sought_out h = (λ t k f. absurd (c.none t (omega arith) f), λ f. refl)
 
 -- ---- a fresh array of cursors
@@ -264,8 +270,8 @@ held_is : (s : List ℕ) {z : Starts} {sheet : Sheet} → read_sheet s ≡ accep
 unfolding held
 held_is s e = ap sheet_in e
 
-pub names_for : (s : List ℕ) {z : Starts} {sheet : Sheet} {r : ℕ} → read_sheet s ≡ accepted sheet z → r ≡ faulty_line (held s) → r ≡ faulty_line sheet
-names_for s e f = f ∙ ap faulty_line (held_is s e)
+pub names_for : (s : List ℕ) {z : Starts} {sheet : Sheet} {r : Option ℕ} → read_sheet s ≡ accepted sheet z → r ≡ line_of (faulty_line (held s)) → r ≡ line_of (faulty_line sheet)
+names_for s e f = f ∙ ap (λ (x : Sheet). line_of (faulty_line x)) (held_is s e)
 
 -- what a search for number 9 is given
 module _ (s : List ℕ) {z : Starts} {m : List ℕ} (e : (sheet : Sheet) × (read_sheet s ≡ accepted sheet z) × (covers_rows sheet ≡ true) × (m ≡ padded 8 (level_list sheet.blocks))) where

@@ -9,12 +9,11 @@ use borrow.Author.Tests.{eq-eqb}
 use lib.Dec.{ltb, eqb}
 use lib.ListN.{length, drop, length-drop}
 use Rattle.sheet.specs.declared.Counts.{Counts}
-use Rattle.sheet.specs.declared.Cursor.{Cursor}
 use Rattle.sheet.specs.declared.Field.{Field}
 use Rattle.sheet.specs.declared.Starts.{Starts}
 use Rattle.sheet.specs.Field.{nowhere, found, unfound, digit_of, end_at, word_at}
 use Rattle.sheet.specs.Line.{zz_tag, tab, lf, tag_to, number_to, word_to, in_form, size_line, pair_line}
-use Rattle.sheet.specs.Run.{ended, before, entry_in, not_before, entry_tests, entry_verdict, entries_from, pass_of, past_from}
+use Rattle.sheet.specs.Run.{Cursor, ended, before, entry_in, not_before, entry_tests, entry_verdict, entries_from, pass_of, past_from}
 use Rattle.sheet.specs.Sheet.{Sheet, accepted, refused, word_kinds, size_verdict, read_lines, after_size, read_sheet}
 use Rattle.sheet.proofs.Lines.{both, in_order_lem, Passed, passed}
 use Rattle.sheet.proofs.Entries.{listed}

@@ -1,11 +1,11 @@
 -- `sheet_checks::read_and_check_prefix`: 1 to 4 as the reader says, else 5 to 9.
-use mathlib.Core.Path.{sym, ◌∙◌}
+use Rattle.std.proofs.lemmas.Result.{err_from_is_err_and}
 use Rattle.sheet.specs.Sheet.{read_sheet}
 use Rattle.sheet_checks.proofs.Order.{reading_sheet, reading_refused}
 use Rattle.sheet_checks.proofs.read_and_check_prefix.Goals as goal
 
-pub check_sheet-requires : goal.check_sheet-requires
-check_sheet-requires c = reading_sheet _ (sym c.in-Sheet.is ∙ c.read_prefix-r.ensures)
+pub returns-in_err-starts : goal.returns-in_err-starts
+returns-in_err-starts c = let p = err_from_is_err_and c.from_residual.result c.from_residual.ensures.1 in rw (p.1, p.2) (reading_refused (read_sheet c.args.bytes.now) c.in_err-starts.ensures)
 
-pub returns-in-Refused : goal.returns-in-Refused
-returns-in-Refused c = reading_refused (read_sheet c.args.bytes.now) (sym c.in-Refused.is ∙ c.read_prefix-r.ensures)
+pub check_sheet-requires : goal.check_sheet-requires
+check_sheet-requires c = reading_sheet _ c.in_ok-starts.ensures

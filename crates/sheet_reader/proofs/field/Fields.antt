@@ -2,7 +2,8 @@
 use Rattle.std.proofs.Common.{◌≡◌, ℕ, zero, suc, ◌+◌, ◌-◌, ◌*◌, ◌/◌, ◌%◌, ◌^◌, ◌<◌, ◌≤◌, min, Bool, true, false, cond, eqb, ltb, List, [], ◌∷◌, length, get_or, drop, sym, refl, ◌∙◌, add-one, arith, drop_of_length-le, drop-cons, le-ltb, lt-ltb, eq-eqb, ne_eqb}
 use mathlib.Core.Logic.{by_cases}
 use native.Mathlib.Decide.{dec_lt}
-use Rattle.sheet_reader.proofs.field.Table.{mark, mark_digit, mark_other, mark_most}
+use Rattle.sheet_reader.specs.word_field.Mark.{mark}
+use Rattle.sheet_reader.proofs.field.Table.{mark_digit, mark_other, mark_most}
 use Rattle.sheet.specs.declared.Field.{Field}
 use Rattle.sheet.specs.Field.{found, unfound, digit_of, digits_from, number_at, cap, end_at, word_at, tag_at}
 

@@ -1,24 +1,37 @@
 -- The turns of the loops that read runs of lines: what is left of a run still ends as the whole does, and its line numbers have room.
-use Rattle.std.proofs.Common.{◌≡◌, ℕ, zero, suc, ◌+◌, ◌-◌, ◌*◌, ◌<◌, ◌≤◌, min, Bool, true, false, cond, ◌&&◌, eqb, ltb, List, [], ◌∷◌, ◌++◌, length, drop, sym, ap, ◌∙◌, arith, length-append, eq-eqb, ne_eqb}
-use Rattle.sheet.specs.declared.Cursor.{Cursor}
+use Rattle.std.specs.Prelude.{Result, Ok, Err}
+use Rattle.std.proofs.Common.{◌≡◌, ℕ, zero, suc, ◌+◌, ◌-◌, ◌*◌, ◌<◌, ◌≤◌, min, Bool, true, false, cond, ◌&&◌, eqb, ltb, List, [], ◌∷◌, ◌++◌, length, drop, sym, ap, refl, ◌∙◌, arith, length-append, eq-eqb, ne_eqb, eqb-true}
+use Rattle.std.proofs.lemmas.Bool.{eqb-false}
 use Rattle.sheet.specs.declared.Field.{Field}
 use Rattle.sheet.specs.declared.Line.{Line}
-use Rattle.sheet.specs.Field.{nowhere, unfound, found, on_digit, cap, digit_of, digits_from, number_at, is_finite}
-use Rattle.sheet.specs.Line.{zz_tag, tab, tag_to, number_to, in_form, block_line, pair_line, single_line, bare_line, word_line, verdict_of}
-use Rattle.sheet.specs.Run.{ended, before, block_in, entry_in, word_in, is_between, not_before, block_verdict, prescribed_verdict, pass_of, lines_of, row_from, rows_from, entry_verdict, entries_from, blocks_of}
+use Rattle.sheet.specs.declared.LineStart.{LineStart}
+use Rattle.sheet.specs.declared.SheetRefusal.{SheetRefusal}
+use Rattle.sheet.specs.Field.{nowhere, unfound, found, on_digit, cap, digit_of, digits_from, number_at}
+use Rattle.sheet.specs.Line.{zz_tag, tab, tag_to, number_to, in_form, block_line, pair_line, single_line, bare_line, word_line}
+use Rattle.sheet.specs.Run.{Cursor, cursor_at, reached, ended, before, block_in, entry_in, word_in, block_verdict, prescribed_verdict, pass_of, lines_of, row_from, rows_from, entry_verdict, entries_from, blocks_of}
 use Rattle.sheet.proofs.Lines.{lines_stay, lines_append, row_length, grid_length}
 use Rattle.sheet.proofs.Enough.{refused_ends}
 
+-- ---- what a reader answers, read back to its cursor
+pub ok_reached : (c : Cursor) (p : LineStart) → Ok p ≡ reached c → c ≡ cursor_at p
+ok_reached c p e = go (eqb c.number 0) refl e
+  where
+    go : (t : Bool) → eqb c.number 0 ≡ t → ◌≡◌ {A = Result LineStart SheetRefusal} (Ok p) (cond t (Ok (record { at = c.at; line = c.line })) (Err (record { number = c.number; line = c.line }))) → c ≡ cursor_at p
+    go true u q =
+        let n : c.number ≡ 0 = eqb-true c.number 0 u in
+        let r : ◌≡◌ {A = LineStart} p (record { at = c.at; line = c.line }) = cc in
+        rw (r, ← n) refl
+    go false u q = let z : ◌≡◌ {A = ℕ} 0 1 = cc in absurd (omega arith)
+
+pub err_reached : (c : Cursor) (e : SheetRefusal) → Err e ≡ reached c → (c.number ≡ 0 → ⊥) × ◌≡◌ {A = SheetRefusal} e (record { number = c.number; line = c.line })
+err_reached c e q = go (eqb c.number 0) refl q
+  where
+    go : (t : Bool) → eqb c.number 0 ≡ t → ◌≡◌ {A = Result LineStart SheetRefusal} (Err e) (cond t (Ok (record { at = c.at; line = c.line })) (Err (record { number = c.number; line = c.line }))) → (c.number ≡ 0 → ⊥) × ◌≡◌ {A = SheetRefusal} e (record { number = c.number; line = c.line })
+    go true u q = let z : ◌≡◌ {A = ℕ} 0 1 = cc in absurd (omega arith)
+    go false u q = (eqb-false c.number 0 u, cc)
+
 -- ---- one line
 module _ (c : Cursor) (number next : ℕ) where
-  pub pass_on : c.number ≡ 0 → number ≡ 0 → record { at = next; line = c.line + 1; number = 0 } ≡ pass_of c number next
-  unfolding pass_of
-  pass_on p q = simp (eq-eqb c.number 0 p, eq-eqb number 0 q)
-
-  pub pass_refused : c.number ≡ 0 → (number ≡ 0 → ⊥) → record { at = c.at; line = c.line; number = number } ≡ pass_of c number next
-  unfolding pass_of
-  pass_refused p q = simp (eq-eqb c.number 0 p, ne_eqb number 0 q)
-
   -- the number of the next line is at most one more
   pub pass_line : (pass_of c number next).line ≤ c.line + 1
   unfolding pass_of
@@ -28,20 +41,6 @@ module _ (c : Cursor) (number next : ℕ) where
       go true true = omega arith
       go true false = omega arith
       go false u = omega arith
-
--- past a line, by the parts of its verdict
-module _ (l : Line) (c r : Cursor) (number : ℕ) (e : r ≡ pass_of c number l.next) where
-  pub block_passed : (levels effects : Bool) → levels ≡ is_between 1 l.first 65535 → effects ≡ is_between 1 l.second 16
-      → number ≡ verdict_of ((in_form l.next, 2) ∷ (true, 3) ∷ (levels && effects, 4) ∷ []) → r ≡ pass_of c (block_verdict (0, 0) l) l.next
-  block_passed levels effects p q v = cc
-
-  pub entry_passed : (q col row : ℕ) (rises finite : Bool) → rises ≡ not_before col row l.first l.second → finite ≡ is_finite l.word
-      → number ≡ verdict_of ((in_form l.next && rises, 2) ∷ (finite, 3) ∷ (ltb l.first q && ltb l.second q, 4) ∷ []) → r ≡ pass_of c (entry_verdict q col row l) l.next
-  entry_passed q col row rises finite p f v = cc
-
-  pub prescribed_passed : (row col : ℕ) (finite : Bool) → finite ≡ is_finite l.word
-      → number ≡ verdict_of ((in_form l.next && eqb l.first row && eqb l.second col, 2) ∷ (finite, 3) ∷ (true, 4) ∷ []) → r ≡ pass_of c (prescribed_verdict (row, col) l) l.next
-  prescribed_passed row col finite f v = cc
 
 -- ---- a line by how many numbers it has
 module _ (t s : List ℕ) (at : ℕ) (l : Line) where
@@ -112,43 +111,64 @@ module _ {A : Type 0} {read : ℕ → Line} {verdict : ℕ × ℕ → Line → �
       → Rows read verdict keep width (lines_of read verdict keep (rows_from width 0 n) c).past 0 n c
   rows_start h = let z : n - 0 ≡ n = omega arith in record { left = record { same = rw z; room = rw z h } }
 
-module _ {A : Type 0} {read : ℕ → Line} {verdict : ℕ × ℕ → Line → ℕ} {keep : ℕ → Line → A} {X : Cursor} {n : ℕ} {c : Cursor} where
-  pub row_refused : {r col : ℕ} → Row read verdict keep X r col n c → (c.number ≡ 0 → ⊥) → c ≡ X
-  row_refused e h = left_refused e.left h
-
-  pub row_next : {r col : ℕ} {l : Line} {d : Cursor} → Row read verdict keep X r col n c → col < n → l ≡ read c.at → d ≡ pass_of c (verdict (r, col) l) l.next
+module _ {A : Type 0} {read : ℕ → Line} {verdict : ℕ × ℕ → Line → ℕ} {keep : ℕ → Line → A} {X : Cursor} {n : ℕ} {p : LineStart} where
+  -- what is left of a row, past its next line
+  row_after : {r col : ℕ} {l : Line} {d : Cursor} → Row read verdict keep X r col n (cursor_at p) → col < n → l ≡ read p.at → d ≡ pass_of (cursor_at p) (verdict (r, col) l) l.next
       → Row read verdict keep X r (col + 1) n d
   unfolding row_from
-  row_next {r} {col} e h p q = record { left = rw (q, p) (left_next (rw (one_less col n h) at e.left)) }
+  row_after {r} {col} e h q d = record { left = rw (d, q) (left_next (rw (one_less col n h) at e.left)) }
 
-  pub row_ends : {r col : ℕ} → Row read verdict keep X r col n c → n ≤ col → c ≡ X
+  pub row_next : {r col : ℕ} {l : Line} {next : LineStart} → Row read verdict keep X r col n (cursor_at p) → col < n → l ≡ read p.at
+      → Ok next ≡ reached (pass_of (cursor_at p) (verdict (r, col) l) l.next) → Row read verdict keep X r (col + 1) n (cursor_at next)
+  row_next e h q a = row_after e h q (sym (ok_reached _ _ a))
+
+  -- a refused line ends the run
+  pub row_refused : {r col : ℕ} {l : Line} {f : SheetRefusal} → Row read verdict keep X r col n (cursor_at p) → col < n → l ≡ read p.at
+      → Err f ≡ reached (pass_of (cursor_at p) (verdict (r, col) l) l.next) → Err f ≡ reached X
+  row_refused e h q a = a ∙ ap reached (left_refused (row_after e h q refl).left (err_reached _ _ a).0)
+
+  -- the room for the next line
+  pub row_room : {r col : ℕ} → Row read verdict keep X r col n (cursor_at p) → col < n → p.line < 9223372036854775808
+  row_room {r} {col} e h = omega (arith, e.left.room, row_length r col (n - col))
+
+  pub row_ends : {r col : ℕ} → Row read verdict keep X r col n (cursor_at p) → n ≤ col → Ok p ≡ reached X
   unfolding row_from
-  row_ends {r} {col} e h = let z : n - col ≡ 0 = omega arith in left_none (rw z at e.left)
+  row_ends {r} {col} e h = let z : n - col ≡ 0 = omega arith in ap reached (left_none (rw z at e.left))
 
-  pub rows_refused : {width : ℕ → ℕ} {r : ℕ} → Rows read verdict keep width X r n c → (c.number ≡ 0 → ⊥) → c ≡ X
-  rows_refused e h = left_refused e.left h
-
-  pub rows_next : {width : ℕ → ℕ} {r : ℕ} {d : Cursor} → Rows read verdict keep width X r n c → r < n → d ≡ (lines_of read verdict keep (row_from r 0 (width r)) c).past
-      → Rows read verdict keep width X (r + 1) n d
+  -- what is left of the rows, past the next
+  rows_after : {width : ℕ → ℕ} {r : ℕ} {d : Cursor} → Rows read verdict keep width X r n (cursor_at p) → r < n
+      → d ≡ (lines_of read verdict keep (row_from r 0 (width r)) (cursor_at p)).past → Rows read verdict keep width X (r + 1) n d
   unfolding rows_from
-  rows_next {width} {r} e h q = record { left = rw q (left_run (row_from r 0 (width r)) (rows_from width (r + 1) (n - (r + 1))) (rw (one_less r n h) at e.left)) }
+  rows_after {width} {r} e h q = record { left = rw q (left_run (row_from r 0 (width r)) (rows_from width (r + 1) (n - (r + 1))) (rw (one_less r n h) at e.left)) }
+
+  pub rows_next : {width : ℕ → ℕ} {r : ℕ} {next : LineStart} → Rows read verdict keep width X r n (cursor_at p) → r < n
+      → Ok next ≡ reached (lines_of read verdict keep (row_from r 0 (width r)) (cursor_at p)).past → Rows read verdict keep width X (r + 1) n (cursor_at next)
+  rows_next e h a = rows_after e h (sym (ok_reached _ _ a))
+
+  pub rows_refused : {width : ℕ → ℕ} {r : ℕ} {f : SheetRefusal} → Rows read verdict keep width X r n (cursor_at p) → r < n
+      → Err f ≡ reached (lines_of read verdict keep (row_from r 0 (width r)) (cursor_at p)).past → Err f ≡ reached X
+  rows_refused e h a = a ∙ ap reached (left_refused (rows_after e h refl).left (err_reached _ _ a).0)
 
   -- the room for the next row
-  pub rows_room : {width : ℕ → ℕ} {r : ℕ} → Rows read verdict keep width X r n c → r < n → c.line + width r < 9223372036854775808
+  pub rows_room : {width : ℕ → ℕ} {r : ℕ} → Rows read verdict keep width X r n (cursor_at p) → r < n → p.line + width r < 9223372036854775808
   unfolding rows_from
   rows_room {width} {r} e h =
-      let m : c.line + length (row_from r 0 (width r) ++ rows_from width (r + 1) (n - (r + 1))) < 9223372036854775808 = rw (one_less r n h) at e.left.room in
+      let m : p.line + length (row_from r 0 (width r) ++ rows_from width (r + 1) (n - (r + 1))) < 9223372036854775808 = rw (one_less r n h) at e.left.room in
       omega (arith, length-append (row_from r 0 (width r)) (rows_from width (r + 1) (n - (r + 1))), row_length r 0 (width r))
 
-  pub rows_end : {width : ℕ → ℕ} {r : ℕ} → Rows read verdict keep width X r n c → n ≤ r → c ≡ X
+  pub rows_end : {width : ℕ → ℕ} {r : ℕ} → Rows read verdict keep width X r n (cursor_at p) → n ≤ r → Ok p ≡ reached X
   unfolding rows_from
-  rows_end {width} {r} e h = let z : n - r ≡ 0 = omega arith in left_none (rw z at e.left)
+  rows_end {width} {r} e h = let z : n - r ≡ 0 = omega arith in ap reached (left_none (rw z at e.left))
 
   -- rows of one line
-  pub ones_next : {r : ℕ} {l : Line} {d : Cursor} → Rows read verdict keep (λ i. 1) X r n c → r < n → l ≡ read c.at → d ≡ pass_of c (verdict (r, 0) l) l.next
-      → Rows read verdict keep (λ i. 1) X (r + 1) n d
-  unfolding lines_of row_from
-  ones_next e h p q = rows_next e h (rw p at q)
+  module _ {r : ℕ} {l : Line} (e : Rows read verdict keep (λ i. 1) X r n (cursor_at p)) (h : r < n) (q : l ≡ read p.at) where
+    pub ones_next : {next : LineStart} → Ok next ≡ reached (pass_of (cursor_at p) (verdict (r, 0) l) l.next) → Rows read verdict keep (λ i. 1) X (r + 1) n (cursor_at next)
+    unfolding lines_of row_from
+    ones_next a = rows_next e h (rw q at a)
+
+    pub ones_refused : {f : SheetRefusal} → Err f ≡ reached (pass_of (cursor_at p) (verdict (r, 0) l) l.next) → Err f ≡ reached X
+    unfolding lines_of row_from
+    ones_refused a = rows_refused e h (rw q at a)
 
 -- ---- the numbers of a line are held at the cap
 cond_cap : (t : Bool) (f : Field) → f.value ≤ cap → (cond t f unfound).value ≤ cap
@@ -177,32 +197,43 @@ second_cap t s at l e =
     let a = number_to tab s (tag_to t s at).next in
     rw e (number_cap tab a.next (drop a.next s))
 
--- ---- the loop of zz lines: n of them at most are left from (col, row) on, still to end at X
-pub record Entries (X : Cursor) (s : List ℕ) (q n col row : ℕ) (c : Cursor) : Type 0 where
-  pub same : (entries_from n s q col row c).past ≡ X
-  pub room : c.line + n < 9223372036854775808
+-- ---- the loop of zz lines: of n at most, i are read, and what is left from (col, row) on is still to end at X
+pub record Entries (X : Cursor) (s : List ℕ) (q i n col row : ℕ) (c : Cursor) : Type 0 where
+  pub same : (entries_from (n - i) s q col row c).past ≡ X
+  pub room : c.line + (n - i) < 9223372036854775808
 
-module _ {X : Cursor} {s : List ℕ} {q col row : ℕ} {c : Cursor} where
-  pub entries_refused : {n : ℕ} → Entries X s q n col row c → (c.number ≡ 0 → ⊥) → c ≡ X
-  entries_refused {n} e h = rw (refused_ends s q n col row c h) at e.same
+pub entries_start : {s : List ℕ} {q n : ℕ} {c : Cursor} → c.line + n < 9223372036854775808 → Entries (entries_from n s q 0 0 c).past s q 0 n 0 0 c
+entries_start {n} h = let z : n - 0 ≡ n = omega arith in record { same = rw z; room = rw z h }
 
-  pub entries_other : {n : ℕ} {t : Field} → Entries X s q n col row c → 0 < n → c.number ≡ 0 → t ≡ tag_to zz_tag s c.at → t.next ≡ nowhere → c ≡ X
+module _ {X : Cursor} {s : List ℕ} {q i n col row : ℕ} {p : LineStart} (e : Entries X s q i n col row (cursor_at p)) where
+  pub entries_end : n ≤ i → Ok p ≡ reached X
   unfolding entries_from
-  entries_other {n = zero} e h z p w = absurd (omega arith)
-  entries_other {n = suc n} {t} e h z p w = simp (eq-eqb c.number 0 z, ← p, eq-eqb t.next nowhere w) at e.same
+  entries_end h = let z : n - i ≡ 0 = omega arith in ap reached (rw z at e.same)
 
-  pub entries_next : {n : ℕ} {t : Field} {l : Line} {d : Cursor} → Entries X s q n col row c → 0 < n → c.number ≡ 0 → t ≡ tag_to zz_tag s c.at → (t.next ≡ nowhere → ⊥)
-      → l ≡ pair_line zz_tag s c.at → d ≡ pass_of c (entry_verdict q col row l) l.next → Entries X s q (n - 1) l.first (l.second + 1) d
-  unfolding entries_from
-  entries_next {n = zero} e h z p w o r = absurd (omega arith)
-  entries_next {n = suc n} {t} {l} {d} e h z p w o r =
-      let m : suc n - 1 ≡ n = omega arith in
-      rw m (record { same = simp (eq-eqb c.number 0 z, ← p, ne_eqb t.next nowhere w, ← o, ← r) at e.same; room = omega (arith, e.room, pass_line c (entry_verdict q col row l) l.next, ap (λ (x : Cursor). x.line) r) })
+  module _ {t : Field} (h : i < n) (o : t ≡ tag_to zz_tag s p.at) where
+    pub entries_other : t.next ≡ nowhere → Ok p ≡ reached X
+    unfolding entries_from
+    entries_other w = ap reached (simp (← o, eq-eqb t.next nowhere w) at (rw (one_less i n h) at e.same))
 
-  pub entries_end : {n : ℕ} → Entries X s q n col row c → n ≤ 0 → c ≡ X
-  unfolding entries_from
-  entries_end {n = zero} e h = e.same
-  entries_end {n = suc n} e h = absurd (omega arith)
+    module _ {l : Line} (w : t.next ≡ nowhere → ⊥) (r : l ≡ pair_line zz_tag s p.at) where
+      -- what is left past the next line
+      entries_after : {d : Cursor} → d ≡ pass_of (cursor_at p) (entry_verdict q col row l) l.next → Entries X s q (i + 1) n l.first (l.second + 1) d
+      unfolding entries_from
+      entries_after {d} a =
+          record {
+            same = rw a (simp (← o, ne_eqb t.next nowhere w, ← r) at (rw (one_less i n h) at e.same));
+            room = omega (arith, e.room, pass_line (cursor_at p) (entry_verdict q col row l) l.next, ap (λ (x : Cursor). x.line) a);
+          }
+
+      pub entries_next : {next : LineStart} → Ok next ≡ reached (pass_of (cursor_at p) (entry_verdict q col row l) l.next)
+          → Entries X s q (i + 1) n l.first (l.second + 1) (cursor_at next)
+      entries_next a = entries_after (sym (ok_reached _ _ a))
+
+      pub entries_refused : {f : SheetRefusal} → Err f ≡ reached (pass_of (cursor_at p) (entry_verdict q col row l) l.next) → Err f ≡ reached X
+      entries_refused a =
+          let m = entries_after refl in
+          let d = pass_of (cursor_at p) (entry_verdict q col row l) l.next in
+          a ∙ ap reached (rw (refused_ends s q (n - (i + 1)) l.first (l.second + 1) d (err_reached d _ a).0) at m.same)
 
 -- at most one more for each line
 entries_line : (s : List ℕ) (q n col row : ℕ) (c : Cursor) → (entries_from n s q col row c).past.line ≤ c.line + n
@@ -219,14 +250,14 @@ entries_line s q (suc n) col row c =
     go true h = let l = pair_line zz_tag s c.at in omega (arith, pass_line c (entry_verdict q col row l) l.next)
     go false h = omega arith
 
--- ---- past a run, whose lines are few
-module _ (s : List ℕ) (c d : Cursor) where
-  pub blocks_past : (k : ℕ) → d ≡ (blocks_of s k c).past → (d ≡ (blocks_of s k c).past) × (d.line ≤ c.line + k)
-  blocks_past k e =
-      (e, omega (arith, ap (λ (x : Cursor). x.line) e, lines_line (block_line s) block_verdict block_in (rows_from (λ r. 1) 0 k) c, grid_length 1 0 k))
+-- ---- past a run that was in order, whose lines are few
+module _ (s : List ℕ) (c : Cursor) (p : LineStart) where
+  pub blocks_few : (k : ℕ) → Ok p ≡ reached (blocks_of s k c).past → p.line ≤ c.line + k
+  blocks_few k e =
+      omega (arith, ap (λ (x : Cursor). x.line) (ok_reached _ _ e), lines_line (block_line s) block_verdict block_in (rows_from (λ r. 1) 0 k) c, grid_length 1 0 k)
 
-  pub entries_past : (n q col row : ℕ) → d ≡ (entries_from n s q col row c).past → (d ≡ (entries_from n s q col row c).past) × (d.line ≤ c.line + n)
-  entries_past n q col row e = (e, omega (arith, ap (λ (x : Cursor). x.line) e, entries_line s q n col row c))
+  pub entries_few : (n q : ℕ) → Ok p ≡ reached (entries_from n s q 0 0 c).past → p.line ≤ c.line + n
+  entries_few n q e = omega (arith, ap (λ (x : Cursor). x.line) (ok_reached _ _ e), entries_line s q n 0 0 c)
 
 pub rows_most : (first step r n : ℕ) → length (rows_from (λ i. first + step * i) r n) ≤ n * (first + step * (r + n))
 unfolding rows_from
@@ -235,8 +266,7 @@ rows_most first step r (suc n) =
     let w = first + step * r in
     omega (arith, rows_most first step (r + 1) n, length-append (row_from r 0 w) (rows_from (λ i. first + step * i) (r + 1) n), row_length r 0 w)
 
-pub words_past : (read : ℕ → Line) (first step n : ℕ) (c d : Cursor) → n * (first + step * n) ≤ 16777216
-    → let r = (lines_of read prescribed_verdict word_in (rows_from (λ i. first + step * i) 0 n) c).past in
-    d ≡ r → (d ≡ r) × (d.line ≤ c.line + 16777216)
-words_past read first step n c d few e =
-    (e, omega (arith, ap (λ (x : Cursor). x.line) e, rows_most first step 0 n, lines_line read prescribed_verdict word_in (rows_from (λ i. first + step * i) 0 n) c))
+pub words_few : (read : ℕ → Line) (first step n : ℕ) (c : Cursor) (p : LineStart) → n * (first + step * n) ≤ 16777216
+    → Ok p ≡ reached (lines_of read prescribed_verdict word_in (rows_from (λ i. first + step * i) 0 n) c).past → p.line ≤ c.line + 16777216
+words_few read first step n c p few e =
+    omega (arith, ap (λ (x : Cursor). x.line) (ok_reached _ _ e), rows_most first step 0 n, lines_line read prescribed_verdict word_in (rows_from (λ i. first + step * i) 0 n) c)

@@ -8,11 +8,10 @@ use lib.ListN.{length, length-append, drop}
 use lib.Seq.{drop-append_seam}
 use lib.Dec.{ltb}
 use borrow.Author.Tests.{ne_eqb, eq-eqb}
-use Rattle.sheet.specs.declared.Cursor.{Cursor}
 use Rattle.sheet.specs.declared.Line.{Line}
 use Rattle.sheet.specs.Field.{cap, nowhere, digit_of, number_at, word_at, tag_at}
 use Rattle.sheet.specs.Line.{tab, lf, block_tag, tag_to, number_to, word_to, in_form, block_line, pair_line, single_line, bare_line, word_line}
-use Rattle.sheet.specs.Run.{Block, Kind, Run, pass_of, lines_of, prescribed_verdict, word_in, kind_line, words_of}
+use Rattle.sheet.specs.Run.{Cursor, Block, Kind, Run, pass_of, lines_of, prescribed_verdict, word_in, kind_line, words_of}
 use Rattle.sheet.specs.Whole.{Both, Finite}
 use Rattle.factor_output.specs.Print.{number, hexadecimal}
 use Rattle.text_output.proofs.Numbers.{hexadecimal_length}

@@ -8,11 +8,10 @@ use lib.ListN.{length, drop, drop_of_length-le}
 use lib.Dec.{ltb, eqb}
 use borrow.Author.Tests.{ltb-true, ltb-false, eqb-true}
 use Rattle.sheet.specs.declared.Counts.{Counts}
-use Rattle.sheet.specs.declared.Cursor.{Cursor}
 use Rattle.sheet.specs.declared.Line.{Line}
 use Rattle.sheet.specs.declared.Starts.{Starts}
 use Rattle.sheet.specs.Line.{zz_tag, tag_to, in_form, size_line, block_line, pair_line, word_line}
-use Rattle.sheet.specs.Run.{Block, Entry, Kind, Run, ended, before, pass_of, lines_of, entry_in, not_before, entry_tests, entry_verdict, entries_from, block_in, block_tests, block_verdict, is_between, word_in, prescribed_tests, prescribed_verdict, blocks_of, kind_line, words_of, runs_of, rows_from}
+use Rattle.sheet.specs.Run.{Cursor, Block, Entry, Kind, Run, ended, before, pass_of, lines_of, entry_in, not_before, entry_tests, entry_verdict, entries_from, block_in, block_tests, block_verdict, is_between, word_in, prescribed_tests, prescribed_verdict, blocks_of, kind_line, words_of, runs_of, rows_from}
 use Rattle.sheet.specs.Sheet.{Sheet, accepted, refused, size_tests, size_verdict, word_kinds, read_lines, after_size, read_sheet, sheet_of}
 use Rattle.sheet.specs.Whole.{Each, Both, InRange, Finite, Whole}
 use Rattle.sheet.proofs.Lines.{both, between, in_order_lem, passed, ran, lines_length, grid_length}

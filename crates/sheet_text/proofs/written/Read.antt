@@ -7,12 +7,11 @@ use native.Mathlib.Omega.{arith}
 use lib.ListN.{length, length-append}
 use borrow.Author.Tests.{le-ltb, le-leb, eq-eqb}
 use Rattle.sheet.specs.declared.Counts.{Counts}
-use Rattle.sheet.specs.declared.Cursor.{Cursor}
 use Rattle.sheet.specs.declared.Line.{Line}
 use Rattle.sheet.specs.declared.Starts.{Starts}
 use Rattle.sheet.specs.Field.{tag_at}
 use Rattle.sheet.specs.Line.{tab, lf, size_tag, zz_tag, zx_tag, zy_tag, xx_tag, xy_tag, yy_tag, in_form, size_line, block_line}
-use Rattle.sheet.specs.Run.{Block, Entry, Kind, block_in, block_verdict, blocks_of, words_of, runs_of, rows_from, entries_from}
+use Rattle.sheet.specs.Run.{Cursor, Block, Entry, Kind, block_in, block_verdict, blocks_of, words_of, runs_of, rows_from, entries_from}
 use Rattle.sheet.specs.Sheet.{Sheet, accepted, counts_within, word_lists, word_kinds, outcome_at, read_lines, read_sheet, sheet_of}
 use Rattle.sheet.specs.Whole.{Each, Both, InRange, BlockInRange}
 use Rattle.factor_output.specs.Print.{number, hexadecimal}

@@ -9,11 +9,10 @@ use native.Mathlib.Omega.{arith}
 use lib.ListN.{length}
 use borrow.Author.Tests.{lt-ltb, le-ltb, le-leb, eq-eqb}
 use Rattle.sheet.specs.declared.Counts.{Counts}
-use Rattle.sheet.specs.declared.Cursor.{Cursor}
 use Rattle.sheet.specs.declared.Line.{Line}
 use Rattle.sheet.specs.Field.{cap}
 use Rattle.sheet.specs.Line.{zz_tag, tag_to, in_form, pair_line}
-use Rattle.sheet.specs.Run.{Entry, Kind, row_from, rows_from, not_before, entry_verdict, entries_from}
+use Rattle.sheet.specs.Run.{Cursor, Entry, Kind, row_from, rows_from, not_before, entry_verdict, entries_from}
 use Rattle.sheet.specs.Sheet.{word_kinds}
 use Rattle.sheet.specs.Whole.{Each, Both, InRange, EntryInRange, Earlier, Rising}
 use Rattle.sheet.proofs.Entries.{each_map}

@@ -7,16 +7,13 @@ use native.Mathlib.Omega.{arith}
 use lib.ListN.{length, drop, drop_of_length-le, replicate}
 use lib.Dec.{eqb}
 use borrow.Author.Tests.{le-ltb, eqb-true, eq-eqb}
-use Rattle.sheet.specs.declared.Cursor.{Cursor}
 use Rattle.sheet.specs.declared.Line.{Line}
 use Rattle.sheet.specs.declared.Starts.{Starts}
 use Rattle.sheet.specs.Line.{in_form, single_line}
-use Rattle.sheet.specs.Run.{Run, pass_of, lines_of, rows_from, word_in}
+use Rattle.sheet.specs.Run.{Cursor, Run, pass_of, lines_of, rows_from, word_in}
 use Rattle.sheet.specs.Sheet.{Sheet, accepted, read_sheet}
 use Rattle.sheet.specs.Whole.{Each}
 use Rattle.sheet.proofs.Lines.{both, in_order_lem, lines_length, grid_length}
-use Rattle.refusal.specs.declared.Answer.{Answer}
-use Rattle.refusal.specs.declared.Answer.TheVariants.{Accepted}
 use Rattle.rules.specs.Arithmetic.{ieee}
 use Rattle.sheet.specs.Fault.{fault_number}
 use Rattle.sheet.proofs.Answers.{checked_fine}
@@ -32,6 +29,8 @@ use Rattle.sheet_text.proofs.written.Runs.{Within, rows_within, rows_each, both_
 use Rattle.sheet_text.proofs.written.Read.{written_before}
 use Rattle.sheet_text.proofs.written.OnlyLines.{single_at}
 use Rattle.sheet_text.proofs.written.OnlySheet.{Stands, lines_only, read_before}
+use Rattle.std.specs.Prelude.{Result, Ok}
+use Rattle.refusal.specs.declared.Refusal.{Refusal}
 
 -- what is kept of each line may be looked at afterwards
 module _ {A B : Type 0} (read : ℕ → Line) (verdict : ℕ × ℕ → Line → ℕ) (keep : ℕ → Line → A) (f : A → B) where
@@ -113,14 +112,14 @@ theta_printed s sheet ws i starts f v =
     let t = theta_back s (omega (arith, i.held)) k ws c i.form.counts.k i.count i.words refl (subst (λ (n : ℕ). From s starts.end (lines_text (single_text theta_tag) (rows_from (λ r. 1) 0 n) ws [])) i.count f) in
     rw (m.0, m.1, t.0, t.1, t.2, eq-eqb (length s) (length s) refl) refl
 
-load_printed : (s : List ℕ) (sheet : Sheet) (ws : List ℕ) → Input s sheet ws → (starts : Starts) → From s starts.end (theta_text ws) → (a : Answer) (v : Workspace)
-    → a ≡ Accepted → after_load a v sheet.counts s starts ≡ factor_with v sheet.counts.k (map double ws)
+load_printed : (s : List ℕ) (sheet : Sheet) (ws : List ℕ) → Input s sheet ws → (starts : Starts) → From s starts.end (theta_text ws) → (a : Result Unit Refusal) (v : Workspace)
+    → a ≡ (Ok tt) → after_load a v sheet.counts s starts ≡ factor_with v sheet.counts.k (map double ws)
 load_printed s sheet ws i starts f a v e = rw e (theta_printed s sheet ws i starts f v)
 
 -- An input in form whose sheet is without a fault, and fits: begin with its theta, the steps and the pivots are what is printed.
 pub input_printed : (s : List ℕ) (sheet : Sheet) (ws : List ℕ) → Input s sheet ws → fault_number sheet ≡ 0
     → let o = load_sheet sheet (replicate numbers_held 0) (replicate doubles_held ieee.zero) in
-    o.answer ≡ Accepted → print_of s ≡ factor_with o.left sheet.counts.k (map double ws)
+    o.answer ≡ (Ok tt) → print_of s ≡ factor_with o.left sheet.counts.k (map double ws)
 unfolding print_of
 input_printed s sheet ws i fine ok =
     let t = i.text in

@@ -4,7 +4,7 @@ use Rattle.solution_finish.proofs.Finish.{solution_is}
 use Rattle.solution_finish.proofs.accept.Goals as goal
 
 pub scalars-requires : goal.scalars-requires
-scalars-requires c = record { fits = (c.requires.fits.0, omega (arith, c.requires.fits.1.long)); v_value = c.make_parts-r.ensures.factor }
+scalars-requires c = record { long = omega (arith, c.requires.ready.long); v_value = c.make_parts-r.ensures.factor }
 
 pub returns : goal.returns
-returns c = (solution_is c.args.heading.now c.args.doubles.now c.args.layout c.requires.fits.0.same c.args.reml c.args.rest _ _ c.requires.rest_value _ c.make_parts-r.ensures c.scalars.ensures, c.make_parts-r.ensures.whole)
+returns c = (solution_is c.args.lent.heading.now c.args.lent.doubles.now c.args.lent.layout c.args.lent.fits.same c.args.reml c.args.rest _ _ c.requires.rest_value _ c.make_parts-r.ensures c.scalars.ensures, c.make_parts-r.ensures.whole)

@@ -67,12 +67,12 @@ module _ (off p : ℕ) (v b₀ b₁ b₂ b₃ : List Float) (short : p ≤ lengt
   is_beta : (i : ℕ) → entry 0 p b₃ i ≡ at ieee (beta_of off p v) i
   is_beta i = ap (λ (x : List Float). entry 0 p x i) back ∙ first_entries (beta_of off p v) b₂ p many (omega (arith, long₂)) i
 
-  put_beta : tab p (Axpy.at b₃) ≡ beta_of off p v
+  put_beta : tab p (λ i. Axpy.at b₃ (0 + i)) ≡ beta_of off p v
   put_beta =
-      sym (take_tab nan p (Axpy.at b₃) b₃ (omega (arith, long₃)) (λ i h. refl)) ∙ ap (take p) back
+      sym (take_tab nan p _ b₃ (omega (arith, long₃)) (λ i h. ap (Axpy.at b₃) (omega arith))) ∙ ap (take p) back
       ∙ part_same 0 (beta_of off p v) b₂ (omega (arith, many, long₂)) p many
 
-  pub solved : (r : Float) (v' : List Float) → r ≡ column_sum b₃ 0 v 0 p → v' ≡ run (0 + 0) p (Axpy.at b₃) v → Effects off p v v' r
+  pub solved : (r : Float) (v' : List Float) → r ≡ column_sum b₃ 0 v 0 p → v' ≡ run 0 p (λ i. Axpy.at b₃ (0 + i)) v → Effects off p v v' r
   solved r v' f g =
       record {
         exit = g ∙ ap (λ (l : List Float). store 0 l v) put_beta;

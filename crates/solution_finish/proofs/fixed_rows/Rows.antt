@@ -32,7 +32,7 @@ use Rattle.replace_response.proofs.write_rows.Cells.{last_cells}
 use Rattle.profile.specs.Finish.{v_of, w_of, cross_product, fixed_triangle, fixed_rhs}
 use Rattle.solution_vectors.specs.result_places.Places.{lx_at, response_at, w_at, result_length_of, Solved, Products}
 use Rattle.solution_vectors.proofs.result_places.Parts.{column_at_lem, solved_behind, solved_inside}
-use Rattle.cross_matvec.proofs.own_products.Cells.{dot_swap, sum_lists, product_long, product_else, product_part, product_cell}
+use Rattle.cross_matvec.proofs.matvec_t.Cells.{dot_swap, sum_lists, product_long, product_else, product_part, product_cell}
 use Rattle.solution_finish.specs.fixed_rows.Fixing.{Fixing}
 
 -- entry x of a list

@@ -23,15 +23,15 @@ use Rattle.rules.specs.Arithmetic.{ieee}
 use Rattle.rules.specs.Cholesky.{left_of_pivot, factor, radicand, next, first_bad, pivots, finish_pivots}
 use Rattle.rules.proofs.Rows.{pivot_root, none_bad, accepted_at, length_forward}
 use Rattle.rules.proofs.Doubles.{Double, chain_fits, refused_not_above, above_not_refused, never_null, root_of_accepted, root_above_same}
-use Rattle.re_lower.specs.Lower.{answer_of}
-use Rattle.re_lower.specs.declared.Pivots.{Pivots}
-use Rattle.re_lower.specs.declared.Pivots.TheVariants.{Accepted, Refused}
+use Rattle.std.specs.Prelude.{Ok, Err}
+use Rattle.re_lower.specs.Lower.{Pivots, answer_of}
+use Rattle.re_lower.specs.declared.RefusedPivot.{RefusedPivot}
 use Rattle.re_lower.proofs.Blocks.{accepted_none, refused_some, row_below}
 use Rattle.block_runs.specs.blocks.Blocks.{block}
 use Rattle.block_runs.proofs.blocks.Laws.{has_packed, read_block}
 use Rattle.re_factor.specs.Factor.{pivot_at, TriangleFactored}
 use Rattle.re_factor.proofs.Pivotal.{Doubles}
-use Rattle.solution_finish.specs.l_x.Factor.{triangle_at, not_above, first_not_above, or_row, FixedFactored}
+use Rattle.solution_finish.specs.l_x.Factor.{triangle_at, not_above, first_not_above, FixedFactored}
 
 -- ---- the first bad one of a list of numbers
 
@@ -55,17 +55,22 @@ first_here : (bad : Float → Bool) (g : ℕ → Float) (r : ℕ) → first_bad 
 unfolding first_bad
 first_here bad g r e b = rw (e, b) refl
 
+-- a pivot that was refused before, or else x
+abbrev pub or_else : Pivots → RefusedPivot → Pivots
+or_else (Ok u) x = Err x
+or_else (Err y) x = Err y
+
 -- the first of n, where number r is bad: that of the first r, or r
-first_or : (bad : Float → Bool) (g : ℕ → Float) (r n : ℕ) → r < n → bad (g r) ≡ true → answer_of (first_bad ieee bad g n) ≡ or_row (answer_of (first_bad ieee bad g r)) r
+first_or : (bad : Float → Bool) (g : ℕ → Float) (r n : ℕ) → r < n → bad (g r) ≡ true → answer_of (first_bad ieee bad g n) ≡ or_else (answer_of (first_bad ieee bad g r)) (record { row = r })
 first_or bad g r n h b = go (first_bad ieee bad g r) refl
   where
-    go : (o : Option ℕ) → first_bad ieee bad g r ≡ o → answer_of (first_bad ieee bad g n) ≡ or_row (answer_of o) r
+    go : (o : Option ℕ) → first_bad ieee bad g r ≡ o → answer_of (first_bad ieee bad g n) ≡ or_else (answer_of o) (record { row = r })
     go none e = ap answer_of (first_stays bad g (suc r) n r (omega arith) (first_here bad g r e b))
     go (some s) e = ap answer_of (first_stays bad g r n s (omega arith) e)
 
-never_accepted : (x : Pivots) (r : ℕ) → Accepted ≡ or_row x r → ⊥
-never_accepted Accepted r k = let z : ◌≡◌ {A = ℕ} 0 1 = cc in absurd (omega arith)
-never_accepted (Refused s) r k = let z : ◌≡◌ {A = ℕ} 0 1 = cc in absurd (omega arith)
+never_accepted : (p : Pivots) (x : RefusedPivot) → Ok tt ≡ or_else p x → ⊥
+never_accepted (Ok u) x k = cc
+never_accepted (Err y) x k = cc
 
 -- the one that is found is bad
 found_bad : (bad : Float → Bool) (g : ℕ → Float) (n r : ℕ) → first_bad ieee bad g n ≡ some r → bad (g r) ≡ true
@@ -138,9 +143,9 @@ module _ (off n : ℕ) (v v' : List Float) (room : off + size_of (packed n) ≤ 
       ∙ ap not (root_above_same (g r) (radicand_fits r (omega arith)) (good r q))))
 
   -- C accepts
-  pub accepted : (x : Pivots) → TriangleFactored (block_of off n n) v v' x → x ≡ Accepted → (p : Pivots) → p ≡ first_not_above off n v' → FixedFactored off n v v' p
+  pub accepted : (x : Pivots) → TriangleFactored (block_of off n n) v v' x → x ≡ Ok tt → (p : Pivots) → p ≡ first_not_above off n v' → FixedFactored off n v v' p
   accepted x done is_x p e =
-      let c : TriangleFactored (block_of off n n) v v' Accepted = subst (TriangleFactored (block_of off n n) v v') is_x done in
+      let c : TriangleFactored (block_of off n n) v v' (Ok tt) = subst (TriangleFactored (block_of off n n) v v') is_x done in
       record {
         answer = e ∙ first_not_above_rows n (omega arith) [] (omega arith) (c.exit ∙ ap (λ (l : List Float). store off l v) (sym (append-nil (fill (packed n) (factor ieee b n)))))
             (λ r h. accepted_at ieee g r n h (accepted_none (pivots ieee g n) c.answer));
@@ -148,9 +153,10 @@ module _ (off n : ℕ) (v v' : List Float) (room : off + size_of (packed n) ≤ 
       }
 
   -- C refuses row r
-  pub refused : (x : Pivots) (r : ℕ) → TriangleFactored (block_of off n n) v v' x → x ≡ Refused r → (p q : Pivots) → p ≡ first_not_above off r v' → q ≡ or_row p r → FixedFactored off n v v' q
-  refused x r done is_x p q e f =
-      let c : TriangleFactored (block_of off n n) v v' (Refused r) = subst (TriangleFactored (block_of off n n) v v') is_x done in
+  pub refused : (x : Pivots) (y : RefusedPivot) → TriangleFactored (block_of off n n) v v' x → x ≡ Err y → (p q : Pivots) → p ≡ first_not_above off y.row v' → q ≡ or_else p y → FixedFactored off n v v' q
+  refused x y done is_x p q e f =
+      let r : ℕ = y.row in
+      let c : TriangleFactored (block_of off n n) v v' (Err y) = subst (TriangleFactored (block_of off n n) v v') is_x done in
       let is : pivots ieee g n ≡ some r = refused_some (pivots ieee g n) r c.answer in
       let h : r < n = row_below ieee g n r is in
       let none_yet : pivots ieee g r ≡ none = none_before g n r is in
@@ -159,13 +165,14 @@ module _ (off n : ℕ) (v v' : List Float) (room : off + size_of (packed n) ≤ 
       let now : first_not_above off r v' ≡ answer_of (first_bad ieee not_above g r) =
       first_not_above_rows r (omega arith) rest (omega (arith, start_below triangle r n h)) c.exit (λ x l. accepted_at ieee g x r l none_yet) in
       record {
-        answer = f ∙ ap (λ (x : Pivots). or_row x r) (e ∙ now) ∙ sym (first_or not_above g r n h (ap not (refused_not_above (g r) (found_bad ieee.refused g n r is))));
-        exit = λ a. absurd (never_accepted (answer_of (first_bad ieee not_above g r)) r (sym a ∙ f ∙ ap (λ (x : Pivots). or_row x r) (e ∙ now)));
+        answer = f ∙ ap (λ (z : Pivots). or_else z y) (e ∙ now) ∙ sym (first_or not_above g r n h (ap not (refused_not_above (g r) (found_bad ieee.refused g n r is))));
+        exit = λ a. absurd (never_accepted (answer_of (first_bad ieee not_above g r)) y (sym a ∙ f ∙ ap (λ (z : Pivots). or_else z y) (e ∙ now)));
       }
 
   -- a refused row is one of the n, so the rows before it are there
-  pub refused_room : (x : Pivots) (r : ℕ) → TriangleFactored (block_of off n n) v v' x → x ≡ Refused r → length v' ≡ length v → off + size_of (packed r) ≤ length v'
-  refused_room x r c e long =
+  pub refused_room : (x : Pivots) (y : RefusedPivot) → TriangleFactored (block_of off n n) v v' x → x ≡ Err y → length v' ≡ length v → off + size_of (packed y.row) ≤ length v'
+  refused_room x y c e long =
+      let r : ℕ = y.row in
       let h : r < n = row_below ieee g n r (refused_some (pivots ieee g n) r (sym e ∙ c.answer)) in
       omega (arith, start_below triangle r n h)
 
@@ -182,7 +189,7 @@ unfolding first_bad start
 scanning_none off n v h = record { within = omega arith; fits = h; place = omega arith; none = refl }
 
 module _ {off n : ℕ} {v : List Float} {r at : ℕ} (s : Scanning off n v r at) where
-  pub scanning_all : n ≤ r → Accepted ≡ first_not_above off n v
+  pub scanning_all : n ≤ r → Ok tt ≡ first_not_above off n v
   scanning_all h = let e : n ≡ r = omega arith in sym (ap answer_of (ap (first_bad ieee not_above (pivot_at (triangle_at off n) v)) e ∙ s.none))
 
   module _ (more : r < n) where
@@ -196,11 +203,11 @@ module _ {off n : ℕ} {v : List Float} {r at : ℕ} (s : Scanning off n v r at)
       is_bad : not_above (pivot_at (triangle_at off n) v r) ≡ b
       is_bad = ap not_above (sym scanning_cell) ∙ sym test
 
-      pub scanning_found : b ≡ true → Refused r ≡ first_not_above off n v
+      pub scanning_found : b ≡ true → Err (record { row = r }) ≡ first_not_above off n v
       scanning_found e =
           sym (ap answer_of (first_stays not_above (pivot_at (triangle_at off n) v) (suc r) n r more (first_here not_above (pivot_at (triangle_at off n) v) r s.none (is_bad ∙ e))))
 
-      pub scanning_more : b ≡ false → Scanning off n v (r + 1) (at + (r + 1 + 1))
+      pub scanning_more : b ≡ false → Scanning off n v (r + 1) (at + (r + 2))
       unfolding start first_bad
       scanning_more e =
           record {

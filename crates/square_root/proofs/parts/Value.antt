@@ -1,5 +1,5 @@
 -- The root of a double above 0 with given parts, and its bits.
-use mathlib.Core.Path.{◌≡◌, refl, ap, ◌∙◌, subst}
+use mathlib.Core.Path.{◌≡◌, ap, ◌∙◌, subst}
 use mathlib.Core.Bool.{false}
 use Prim.Native.Nat.{ℕ, zero, suc, ◌+◌, ◌-◌, ◌*◌, ◌/◌, ◌%◌, ◌^◌, ◌≤◌, ◌<◌}
 use native.Mathlib.Nat.{mod-lt}
@@ -14,18 +14,6 @@ use Rattle.square_root.specs.whole_root.Whole.{rounded}
 use Rattle.square_root.proofs.whole_root.Whole.{Near, rounded_near, digits_low, digits_high}
 use Rattle.square_root.specs.parts.Radicand.{radicand, half, root_of}
 
--- ---- doubled
-pub not_doubled : (q b : ℕ) → b ≡ 0 → q ≡ q * 2 ^ b
-not_doubled q b e = omega (arith, ap (λ (x : ℕ). q * 2 ^ x) e)
-
-pub is_doubled : (q b : ℕ) → b < 2 → (b ≡ 0 → ⊥) → 2 * q ≡ q * 2 ^ b
-is_doubled q b h f = let e : b ≡ 1 = one b h f in omega (arith, ap (λ (x : ℕ). q * 2 ^ x) e)
-  where
-    one : (b : ℕ) → b < 2 → (b ≡ 0 → ⊥) → b ≡ 1
-    one zero h f = absurd (f refl)
-    one (suc zero) h f = refl
-    one (suc (suc b)) h f = omega arith
-
 -- ---- q * 2 ^ b, for 53 digits q and a b of 0 or 1
 pub doubled_range : (q b : ℕ) → 2 ^ 52 ≤ q → q < 2 ^ 53 → b < 2 → (2 ^ 52 ≤ q * 2 ^ b) × (q * 2 ^ b ≤ 2 ^ 54 - 2)
 doubled_range q zero l h k = (omega arith, omega arith)
@@ -38,6 +26,9 @@ module _ (p : Parts) (i : InPlace p) where
 
   pub m_range : (2 ^ 52 ≤ m) × (m ≤ 2 ^ 54 - 2)
   m_range = doubled_range p.significand (p.exponent % 2) i.low i.high (mod-lt p.exponent (lit< tt))
+
+  pub shifted : m % 2 ^ 64 ≡ m
+  shifted = omega (arith, m_range)
 
   pub low : 2 ^ 104 ≤ radicand p
   unfolding radicand

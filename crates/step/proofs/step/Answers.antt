@@ -6,11 +6,11 @@ use Rattle.step.proofs.Turns.{not_valid_heading}
 use Rattle.step.proofs.step.Goals as goal
 
 pub step_valid-requires : goal.step_valid-requires
-step_valid-requires c = sym c.is_valid_heading.ensures ∙ c.if-is_valid_heading.true
+step_valid-requires c = sym c.is_valid_heading.ensures ∙ c.if-not-is_valid_heading.false
 
-pub returns-then-is_valid_heading : goal.returns-then-is_valid_heading
-returns-then-is_valid_heading c = outcome_means _ _ _ c.step_valid.ensures
+pub returns-then-not-is_valid_heading : goal.returns-then-not-is_valid_heading
+returns-then-not-is_valid_heading c = let a = c.args in
+    outcome_means _ _ _ (not_valid_heading a.heading.now a.doubles.now (step_of_name a.name) (sym c.is_valid_heading.ensures ∙ c.if-not-is_valid_heading.true))
 
 pub returns : goal.returns
-returns c = let a = c.args in
-    outcome_means _ _ _ (not_valid_heading a.heading.now a.doubles.now (step_of_name a.name) (sym c.is_valid_heading.ensures ∙ c.if-is_valid_heading.false))
+returns c = outcome_means _ _ _ c.step_valid.ensures

@@ -1,20 +1,19 @@
 -- A step that is ready: what it leaves of the doubles, and what it hands back.
-use Prim.Native.Nat.{ℕ, zero, suc, ◌+◌, ◌-◌, ◌≤◌}
+use Prim.Native.Nat.{ℕ, suc, ◌+◌, ◌-◌, ◌≤◌}
 use mathlib.Core.Path.{◌≡◌, refl, sym, ap, ap₂, subst, ◌∙◌}
 use mathlib.Core.Bool.{true}
-use mathlib.Core.List.{List, [], ◌∷◌, ◌++◌}
+use mathlib.Core.List.{List, [], ◌∷◌, ◌++◌, append_assoc}
 use mathlib.Core.Logic.{inl}
 use mathlib.Core.Option.{Option, none, some}
 use native.Mathlib.Omega.{arith}
 use native.Mathlib.Numerals.{add-one}
-use lib.ListN.{length, get_or, replicate, length-replicate}
+use lib.ListN.{length, get_or, take, drop, replicate, length-replicate}
+use borrow.Rule.Slice.PartMut.{put_mid, Post-is}
 use lib.Ieee.{Float}
-use Rattle.refusal.specs.declared.Answer.{Answer}
-use Rattle.refusal.specs.declared.Answer.TheVariants.{Accepted}
 use Rattle.refusal.specs.Numbers.{refuse}
-use Rattle.storage.specs.Runs.{start, triangle, tab}
+use Rattle.storage.specs.Runs.{start, triangle}
 use Rattle.storage.specs.Shape.{size_of}
-use Rattle.storage.specs.Part.{store}
+use Rattle.storage.specs.Part.{part, store}
 use Rattle.storage.proofs.Parts.{length_part, length_store, drop_store, part_else, store_behind}
 use Rattle.storage.proofs.Blocks.{length_fill}
 use Rattle.step_order.specs.Steps.{Step, S, C, T, row, col, index, IsStep}
@@ -28,8 +27,9 @@ use Rattle.heading_format.proofs.Valid.{is_valid}
 use Rattle.layout.proofs.Places.{size_working, working_behind, working_inside}
 use Rattle.workspace.specs.Memory.{working_block, heading_with, working_zeros, cleared}
 use Rattle.workspace.specs.Answers.{Outcome, workspace}
-use Rattle.re_lower.specs.declared.Pivots.{Pivots}
-use Rattle.re_lower.specs.declared.Pivots.TheVariants.{Accepted as Factored, Refused as NotFactored}
+use Rattle.std.specs.Prelude.{Ok, Err}
+use Rattle.re_lower.specs.declared.RefusedPivot.{RefusedPivot}
+use Rattle.re_lower.specs.Lower.{Pivots}
 use Rattle.re_lower.proofs.Blocks.{accepted_none, refused_some}
 use Rattle.update.specs.declared.StepName.{StepName}
 use Rattle.update.specs.Names.{step_of_name}
@@ -41,6 +41,8 @@ use Rattle.step_blocks.proofs.factor_logs.Sums.{kept}
 use Rattle.step.specs.declared.step_result.StepResult.{StepResult}
 use Rattle.step.specs.step_result.Applied.{moved_by, doubles_by, Applied}
 use Rattle.update.proofs.Lengths.{length_solved}
+use Rattle.std.specs.Prelude.{Result, Ok}
+use Rattle.refusal.specs.declared.Refusal.{Refusal}
 
 -- ---- stores
 
@@ -53,14 +55,16 @@ over w off l off' l' fits a b =
 
 -- ---- +0.0 in every working double
 
-replicate_more : (n : ℕ) (z : Float) → replicate n z ++ (z ∷ []) ≡ z ∷ replicate n z
-replicate_more zero z = refl
-replicate_more (suc n) z = ap (λ (l : List Float). z ∷ l) (replicate_more n z)
-
-same_cells : (n : ℕ) (z : Float) → tab n (λ x. z) ≡ replicate n z
-unfolding tab
-same_cells zero z = refl
-same_cells (suc n) z = ap (λ (l : List Float). l ++ (z ∷ [])) (same_cells n z) ∙ replicate_more n z
+-- a run that is filled
+filled : (w : List Float) (a b : ℕ) → a ≤ b → b ≤ length w → {l : List Float} → l ≡ replicate (length (part a (b - a) w)) ieee.zero
+    → put_mid a (b - a) w l ≡ store a (replicate (b - a) ieee.zero) w
+unfolding store
+filled w a b h g q =
+    let n : length (part a (b - a) w) ≡ b - a = length_part a (b - a) w (omega arith) in
+    let behind : b ≡ a + length (replicate (b - a) ieee.zero) = omega (arith, length-replicate (b - a) ieee.zero) in
+    ap (put_mid a (b - a) w) (q ∙ ap (λ (k : ℕ). replicate k ieee.zero) n)
+    ∙ ap (λ (l : List Float). take a w ++ (replicate (b - a) ieee.zero ++ l)) (Post-is a b w h ∙ ap (λ (k : ℕ). drop k w) behind)
+    ∙ sym (append_assoc (take a w) (replicate (b - a) ieee.zero) (drop (a + length (replicate (b - a) ieee.zero)) w))
 
 module _ (y : Layout) (ok : valid_layout y ≡ true) (w : List Float) (room : doubles_needed y ≤ length w) {from end : ℕ} (is-from : from ≡ theta_at y) (is-end : end ≡ working_end y) where
   pub theta_before : from ≤ end
@@ -70,13 +74,11 @@ module _ (y : Layout) (ok : valid_layout y ≡ true) (w : List Float) (room : do
   pub working_fit : end ≤ length w
   working_fit = rw is-end room
 
-  pub all_cleared : {w' : List Float} → w' ≡ store from (tab (end - from) (λ x. ieee.zero)) w → w' ≡ cleared y w
+  pub all_filled : {l : List Float} → l ≡ replicate (length (part from (end - from) w)) ieee.zero → put_mid from (end - from) w l ≡ cleared y w
   unfolding cleared working_zeros
-  all_cleared e =
-      e ∙ ap (λ (l : List Float). store from l w) (same_cells (end - from) ieee.zero)
-      ∙ ap₂ (λ (a b : ℕ). store a (replicate (b - a) ieee.zero) w) is-from is-end
+  all_filled q = filled w from end theta_before working_fit q ∙ ap₂ (λ (a b : ℕ). store a (replicate (b - a) ieee.zero) w) is-from is-end
 
-abbrev both : Answer → Progress → StepResult
+abbrev both : Result Unit Refusal → Progress → StepResult
 both a p = record { answer = a; progress = p }
 
 module _ (h : List ℕ) (w : List Float) (y : Layout) (g : Progress) (fit : Fits y h (length w)) where
@@ -121,20 +123,20 @@ module _ (h : List ℕ) (w : List Float) (y : Layout) (g : Progress) (fit : Fits
 
   module _ (w' : List Float) {place stage : ℕ} {p : Progress} (is-p : p ≡ marked g place stage) where
     pub subtract_applied : (i j x : ℕ) → IsStep y.k (S i j x) → place ≡ start triangle i + j → stage ≡ x + 1 → w' ≡ store (working_at y i j) (made_by h w (S i j x)) w
-        → Applied y g h w w' (S i j x) (both Accepted p)
+        → Applied y g h w w' (S i j x) (both (Ok tt) p)
     unfolding refused_by stepped sum_by
     subtract_applied i j x n e f q =
         record {
-          moved = ap (both Accepted) (one_more_lem (S i j x) is-p e (f ∙ add-one x));
+          moved = ap (both (Ok tt)) (one_more_lem (S i j x) is-p e (f ∙ add-one x));
           doubles = q ∙ sym (sum_unchanged i j n.1 n.2 (made_by h w (S i j x)) (subtract_long i j x)) ∙ rw fit.same refl;
         }
 
     pub solve_applied : (i j : ℕ) → IsStep y.k (T i j) → place ≡ start triangle i + j → stage ≡ j + 1 → w' ≡ store (working_at y i j) (made_by h w (T i j)) w
-        → Applied y g h w w' (T i j) (both Accepted p)
+        → Applied y g h w w' (T i j) (both (Ok tt) p)
     unfolding refused_by stepped sum_by
     solve_applied i j n e f q =
         record {
-          moved = ap (both Accepted) (one_more_lem (T i j) is-p e (f ∙ add-one j));
+          moved = ap (both (Ok tt)) (one_more_lem (T i j) is-p e (f ∙ add-one j));
           doubles = q ∙ sym (sum_unchanged i j below n.1 (made_by h w (T i j)) (solve_long i j below n.1)) ∙ rw fit.same refl;
         }
       where
@@ -142,13 +144,13 @@ module _ (h : List ℕ) (w : List Float) (y : Layout) (g : Progress) (fit : Fits
         below = let a = n.0 in omega arith
 
     -- C: its own block and the sum
-    pub factor_applied : (j : ℕ) → IsStep y.k (C j) → place ≡ start triangle j + j → stage ≡ j + 1 → (a : Pivots) → Factors y h w w' j a → a ≡ Factored
-        → Applied y g h w w' (C j) (both Accepted p)
+    pub factor_applied : (j : ℕ) → IsStep y.k (C j) → place ≡ start triangle j + j → stage ≡ j + 1 → (a : Pivots) → Factors y h w w' j a → a ≡ Ok tt
+        → Applied y g h w w' (C j) (both (Ok tt) p)
     unfolding stepped
     factor_applied j n e f a t q =
         let o : refused_by h w (C j) ≡ none = accepted_none (refused_by h w (C j)) (sym q ∙ t.answer) in
         record {
-          moved = ap (both Accepted) (one_more_lem (C j) is-p e (f ∙ add-one j)) ∙ ap (moved_by y g (C j)) (sym o);
+          moved = ap (both (Ok tt)) (one_more_lem (C j) is-p e (f ∙ add-one j)) ∙ ap (moved_by y g (C j)) (sym o);
           doubles = t.accepted o ∙ after fit.same ∙ ap (doubles_by y h w (C j)) (sym o);
         }
       where
@@ -156,7 +158,10 @@ module _ (h : List ℕ) (w : List Float) (y : Layout) (g : Progress) (fit : Fits
         after e = ap (λ (z : Layout). store (sum_at z) (sum_by h w (C j) ∷ []) (store (working_at z j j) (made_by h w (C j)) w)) e
 
   -- 26: what C left of its own block fit.same cleared with all else
-  module _ (j : ℕ) (n : IsStep y.k (C j)) (w₁ : List Float) (a : Pivots) (t : Factors y h w w₁ j a) (r : ℕ) (q : a ≡ NotFactored r) where
+  module _ (j : ℕ) (n : IsStep y.k (C j)) (w₁ : List Float) (a : Pivots) (t : Factors y h w w₁ j a) (x : RefusedPivot) (q : a ≡ Err x) where
+    abbrev r : ℕ
+    r = x.row
+
     row_is : refused_by h w (C j) ≡ some r
     row_is = refused_some (refused_by h w (C j)) r (sym q ∙ t.answer)
 

@@ -1,7 +1,6 @@
 -- What a step that is ready answers, leaves of the doubles and hands back (document 01, Record 5).
-use Rattle.std.specs.Prelude.{ℕ, ◌≡◌, List, Float}
+use Rattle.std.specs.Prelude.{ℕ, ◌≡◌, List, Float, Ok}
 use Rattle.std.proofs.Math.Option.{Option, none, some}
-use Rattle.refusal.specs.declared.Answer.TheVariants.{Accepted}
 use Rattle.refusal.specs.Numbers.{refuse}
 use Rattle.step_order.specs.Steps.{Step, col}
 use Rattle.layout.specs.declared.Layout.{Layout}
@@ -13,7 +12,7 @@ use Rattle.step.specs.declared.step_result.StepResult.{StepResult}
 
 -- the answer and the progress, by the row of the pivot that the step refuses: one step more, or 26 and no update
 abbrev pub moved_by : Layout → Progress → Step → Option ℕ → StepResult
-moved_by y g s none = record { answer = Accepted; progress = advanced g s }
+moved_by y g s none = record { answer = Ok tt; progress = advanced g s }
 moved_by y g s (some r) = record { answer = refuse 26 (col s) r; progress = idle y.k }
 
 -- the doubles: as the step leaves them, or the working ones +0.0

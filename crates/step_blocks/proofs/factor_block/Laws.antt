@@ -26,9 +26,9 @@ use Rattle.workspace.specs.Memory.{cell_of, log_sum}
 use Rattle.block_places.specs.block_kinds.Rows.{rows_of}
 use Rattle.block_places.specs.Working.{working, as_factor}
 use Rattle.block_places.proofs.block_kinds.Shapes.{own_shape, packed_limit}
-use Rattle.re_lower.specs.declared.Pivots.{Pivots}
-use Rattle.re_lower.specs.declared.Pivots.TheVariants.{Accepted, Refused}
-use Rattle.re_lower.specs.Lower.{answer_of}
+use Rattle.std.specs.Prelude.{Ok, Err}
+use Rattle.re_lower.specs.declared.RefusedPivot.{RefusedPivot}
+use Rattle.re_lower.specs.Lower.{Pivots, answer_of}
 use Rattle.re_lower.proofs.Blocks.{accepted_none, refused_some, triangle_room, diagonal_room}
 use Rattle.re_factor.specs.Factor.{pivot_at}
 use Rattle.update.specs.Working.{refused_row, factored, logged, pivot_count}
@@ -44,7 +44,7 @@ module _ (b : Block) (l : List Float) where
   left_room Packed p e = triangle_room (cell_of (packed b.rows) l) b.rows p e
 
   -- accepted, it is the factor
-  left_factored : (d : FactorKind) → left_of (as_factor d b).shape l Accepted ≡ factored (as_factor d b).shape l
+  left_factored : (d : FactorKind) → left_of (as_factor d b).shape l (Ok tt) ≡ factored (as_factor d b).shape l
   unfolding factored
   left_factored Diagonal = refl
   left_factored Packed = refl
@@ -134,9 +134,9 @@ module _ (h : List ℕ) (w : List Float) (y : Layout) (fit : Fits y h (length w)
     answered = f.answer ∙ ap answer_of (sym refused_is)
 
     -- a pivot fit.same refused
-    pub refused_left : (r : ℕ) → p ≡ Refused r → Factors y h w w₁ j (Refused r)
-    refused_left r e =
-        let some_row : refused_by h w (C j) ≡ some r = refused_some (refused_by h w (C j)) r (sym e ∙ answered) in
+    pub refused_left : (x : RefusedPivot) → p ≡ Err x → Factors y h w w₁ j (Err x)
+    refused_left x e =
+        let some_row : refused_by h w (C j) ≡ some x.row = refused_some (refused_by h w (C j)) x.row (sym e ∙ answered) in
         record {
           answer = sym e ∙ answered;
           accepted = λ q. absurd (let z : ◌≡◌ {A = ℕ} 0 1 = cc in omega arith);
@@ -148,7 +148,7 @@ module _ (h : List ℕ) (w : List Float) (y : Layout) (fit : Fits y h (length w)
         }
 
     -- none fit.same
-    module _ (e : p ≡ Accepted) where
+    module _ (e : p ≡ Ok tt) where
       abbrev new : List Float
       new = factored own.shape cells
 
@@ -164,7 +164,7 @@ module _ (h : List ℕ) (w : List Float) (y : Layout) (fit : Fits y h (length w)
       sum_now : get_or w₁ (sum_at y) ieee.zero ≡ before
       sum_now = ap (λ (l : List Float). get_or l (sum_at y) ieee.zero) made ∙ store_behind own.at new w (omega (arith, new_length, block_fits)) ieee.zero (sum_at y) (omega (arith, new_length, inside))
 
-      pub accepted_left : (w₂ : List Float) → w₂ ≡ store (sum_at y) (sum_with y j (get_or w₁ (sum_at y) ieee.zero) (pivot_at own w₁) (rows_of y j) ∷ []) w₁ → Factors y h w w₂ j Accepted
+      pub accepted_left : (w₂ : List Float) → w₂ ≡ store (sum_at y) (sum_with y j (get_or w₁ (sum_at y) ieee.zero) (pivot_at own w₁) (rows_of y j) ∷ []) w₁ → Factors y h w w₂ j (Ok tt)
       accepted_left w₂ s =
           let none_refused : refused_by h w (C j) ≡ none = accepted_none (refused_by h w (C j)) (sym e ∙ answered) in
           record {

@@ -10,8 +10,7 @@ use Rattle.rules.specs.Cholesky.{logs_of_first, logs_of_later}
 use Rattle.layout.specs.declared.Layout.{Layout}
 use Rattle.layout.specs.Shapes.{pick, sizes, working_at, sum_at}
 use Rattle.workspace.specs.Memory.{cell_of}
-use Rattle.re_lower.specs.declared.Pivots.{Pivots}
-use Rattle.re_lower.specs.Lower.{answer_of, left_of_triangle, left_of_diagonal}
+use Rattle.re_lower.specs.Lower.{Pivots, answer_of, left_of_triangle, left_of_diagonal}
 use Rattle.re_factor.specs.Factor.{Factored}
 use Rattle.update.specs.Working.{refused_row}
 use Rattle.update.specs.Calls.{made_by, sum_by, refused_by}

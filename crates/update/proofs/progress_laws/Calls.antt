@@ -10,8 +10,6 @@ use lib.Ieee.{Float}
 use borrow.Author.Tests.{eqb-true}
 use Rattle.step_order.specs.Steps.{Step, is_step, forerunners}
 use Rattle.step_order.specs.Progress.{all, done}
-use Rattle.refusal.specs.declared.Answer.{Answer}
-use Rattle.refusal.specs.declared.Answer.TheVariants.{Accepted, Refused}
 use Rattle.layout.specs.Shapes.{pick}
 use Rattle.heading_format.specs.Heading.{layout_of, progress_of, stage_of, under_way, valid_heading}
 use Rattle.heading_format.proofs.Fits.{fits}
@@ -20,10 +18,12 @@ use Rattle.workspace.specs.Memory.{Workspace, heading_with}
 use Rattle.workspace.specs.Answers.{Outcome, untouched, unless_at, first_infinite}
 use Rattle.update.specs.Calls.{begun, begin_of, is_under_way, refused_by, stepped, on_pivot, step_of, go_on, run_of}
 use Rattle.heading_format.specs.Parts.{heading_length}
+use Rattle.std.specs.Prelude.{Result, Ok, Err}
+use Rattle.refusal.specs.declared.Refusal.{Refusal}
 
-abbrev is_accepted : Answer → Bool
-is_accepted Accepted = true
-is_accepted (Refused r) = false
+abbrev is_accepted : Result Unit Refusal → Bool
+is_accepted (Ok tt) = true
+is_accepted (Err r) = false
 
 -- an outcome with the layout of h
 abbrev Keeps : List ℕ → Outcome → Type 0
@@ -56,7 +56,7 @@ module _ (h : List ℕ) (w : List Float) where
   module _ (theta : List Float) where
     abbrev begun_by : Bool → Bool → Option ℕ → Outcome
     begun_by x y i =
-        pick x (pick y (unless_at i (λ i. untouched h w 14 0 i) (record { answer = Accepted; left = begun h w theta })) (untouched h w 13 0 0)) (untouched h w 20 0 0)
+        pick x (pick y (unless_at i (λ i. untouched h w 14 0 i) (record { answer = Ok tt; left = begun h w theta })) (untouched h w 13 0 0)) (untouched h w 20 0 0)
 
     pub begin_kept : Keeps h (begin_of h w theta)
     unfolding begin_of begun
@@ -69,7 +69,7 @@ module _ (h : List ℕ) (w : List Float) where
         go false e y i = refl
 
     -- an accepted one is in a workspace, theta has a number for each of its blocks, and it writes the progress of an update just begun
-    pub begin_accepted : (begin_of h w theta).answer ≡ Accepted
+    pub begin_accepted : (begin_of h w theta).answer ≡ (Ok tt)
         → (valid_heading h (length w) ≡ true) × (length theta ≡ (layout_of h).k) × ((begin_of h w theta).left.heading ≡ heading_with h (under_way (layout_of h).k))
     unfolding begin_of begun
     begin_accepted a = go (valid_heading h (length w)) refl (eqb (length theta) (layout_of h).k) refl (first_infinite 0 theta) (ap is_accepted a)
@@ -87,7 +87,7 @@ unfolding run_of
 run_kept v [] = refl
 run_kept v (s ∷ l) = go (λ u. run_kept u l) (step_of v.heading v.doubles s).answer
   where
-    go : ((u : Workspace) → Keeps u.heading (run_of u l)) → (a : Answer)
+    go : ((u : Workspace) → Keeps u.heading (run_of u l)) → (a : Result Unit Refusal)
         → Keeps v.heading (go_on a (step_of v.heading v.doubles s) (λ u. run_of u l))
-    go rest Accepted = rest (step_of v.heading v.doubles s).left ∙ step_kept v.heading v.doubles s
-    go rest (Refused r) = step_kept v.heading v.doubles s
+    go rest (Ok tt) = rest (step_of v.heading v.doubles s).left ∙ step_kept v.heading v.doubles s
+    go rest (Err r) = step_kept v.heading v.doubles s

@@ -1,7 +1,6 @@
 use mathlib.Core.Path.{refl}
 use native.Mathlib.Omega.{arith}
 use Rattle.block_places.proofs.block_sizes.Growing.{factors_grow}
-use Rattle.block_places.proofs.block_sizes.Sizes.{few_blocks}
 use Rattle.begin.proofs.scaled_blocks.Blocks.{scaling_none, scaling_block, scaling_all}
 use Rattle.begin.proofs.init_blocks.init_factors.Goals as goal
 
@@ -11,12 +10,6 @@ loop-j-init c = scaling_none factors_grow
 pub init_factor-requires : goal.init_factor-requires
 init_factor-requires c = let l = c.loop-j in
     (record { valid = c.requires.0.valid; room = omega (arith, c.requires.0.room, l.invariant.long) }, c.requires.1, c.loop-j-test.true)
-
-pub overflow_add-j : goal.overflow_add-j
-overflow_add-j c = omega (arith, few_blocks c.args.layout c.requires.0.valid, c.loop-j.invariant.within, c.loop-j-test.true)
-
-pub loop-j-smaller : goal.loop-j-smaller
-loop-j-smaller c = omega (arith, c.loop-j-test.true)
 
 pub loop-j-preserved : goal.loop-j-preserved
 loop-j-preserved c = scaling_block c.loop-j.invariant refl c.loop-j-test.true c.init_factor.ensures (omega arith)

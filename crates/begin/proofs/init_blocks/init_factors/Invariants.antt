@@ -1,5 +1,4 @@
 -- `begin::init_blocks::init_factors`: the first j factors are scaled.
-use Prim.Native.Nat.{◌-◌}
 use mathlib.Core.List.{[], ◌∷◌}
 use Rattle.layout.specs.Shapes.{target, factors}
 use Rattle.begin.proofs.scaled_blocks.Blocks.{Scaling}
@@ -7,6 +6,3 @@ use Rattle.begin.proofs.init_blocks.init_factors.Given as goal
 
 abbrev pub invariant-loop-j : goal.invariant-loop-j
 invariant-loop-j l = Scaling l.layout l.theta factors (λ x. target x x ∷ []) l.layout.k l.initial.doubles l.doubles l.j
-
-abbrev pub decreases-loop-j : goal.decreases-loop-j
-decreases-loop-j l = l.layout.k - l.j

@@ -1,5 +1,4 @@
 -- `begin::init_blocks::init_row`: the first j blocks of the row are begun.
-use Prim.Native.Nat.{◌-◌}
 use mathlib.Core.List.{[], ◌∷◌}
 use Rattle.layout.specs.Shapes.{target, across}
 use Rattle.begin.proofs.scaled_blocks.Blocks.{Scaling}
@@ -7,6 +6,3 @@ use Rattle.begin.proofs.init_blocks.init_row.Given as goal
 
 abbrev pub invariant-loop-j : goal.invariant-loop-j
 invariant-loop-j l = Scaling l.layout l.theta (across l.i) (λ x. target l.i x ∷ []) l.i l.initial.doubles l.doubles l.j
-
-abbrev pub decreases-loop-j : goal.decreases-loop-j
-decreases-loop-j l = l.i - l.j

@@ -8,11 +8,8 @@ use Rattle.begin.proofs.write_begin.Stored.{theta_stored, doubles_begun}
 use borrow.Author.Rules.{rules}
 use Rattle.begin.proofs.write_begin.write_doubles.Goals as goal
 
-pub overflow_add-at : goal.overflow_add-at
-overflow_add-at c = omega (arith, c.requires.1, c.requires.0.room, c.theta_at-at.ensures, theta_inside c.args.layout, doubles_small c.args.layout c.requires.0.valid)
-
-pub put-requires : goal.put-requires
-put-requires c = (omega arith, omega (arith, c.requires.1, c.requires.0.room, c.theta_at-at.ensures, theta_inside c.args.layout), omega arith)
+pub copy-requires : goal.copy-requires
+copy-requires c = (omega (arith, c.requires.1, c.requires.0.room, c.theta_at-at.ensures, theta_inside c.args.layout), omega arith)
 
 pub offset_bounds-doubles-sum : goal.offset_bounds-doubles-sum
 offset_bounds-doubles-sum c = omega (arith, c.requires.0.room, c.theta_at-at.ensures, c.sum_at-sum.ensures, theta_inside c.args.layout, doubles_small c.args.layout c.requires.0.valid)
@@ -25,4 +22,4 @@ shape_of-doubles c = simp length-set (omega arith)
 
 pub returns : goal.returns
 returns c = doubles_begun c.args.layout c.args.theta.now c.args.doubles.now _ _ _ _ c.theta_at-at.ensures c.sum_at-sum.ensures
-    (theta_stored c.args.theta.now c.args.doubles.now _ _ _ refl c.put.ensures) c.init_blocks.ensures (search rules)
+    (theta_stored c.args.theta.now c.args.doubles.now _ _ _ refl c.copy.ensures) c.init_blocks.ensures (search rules)

@@ -1,11 +1,8 @@
 -- `block_places::sheet_rows::sheet_levels`: among the first s sorted blocks.
-use Prim.Native.Nat.{◌≤◌, ◌-◌}
+use Prim.Native.Nat.{◌≤◌}
 use mathlib.Core.Path.{◌≡◌}
 use Rattle.heading_format.specs.Heading.{sheet_levels}
 use Rattle.block_places.proofs.sheet_rows.sheet_levels.Given as goal
 
 abbrev pub invariant-loop-s : goal.invariant-loop-s
-invariant-loop-s l = (l.k ≡ l.layout.k) × (l.k ≤ 8) × (l.s ≤ l.k) × (l.m ≡ sheet_levels l.layout l.s l.i)
-
-abbrev pub decreases-loop-s : goal.decreases-loop-s
-decreases-loop-s l = l.k - l.s
+invariant-loop-s l = (l.layout.k ≤ 8) × (l.m ≡ sheet_levels l.layout l.s l.i)

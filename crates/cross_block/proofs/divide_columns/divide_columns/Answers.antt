@@ -1,5 +1,10 @@
 use mathlib.Core.Path.{refl}
+use Prim.Native.Nat.{ℕ, ◌+◌}
 use native.Mathlib.Omega.{arith}
+use borrow.Author.Rules.{rules}
+use lib.Ieee.{Float}
+use Rattle.rules.specs.Arithmetic.{ieee}
+use Rattle.block_runs.specs.axpy.Axpy.{at}
 use Rattle.storage.specs.Placed.{as_columns}
 use Rattle.storage.proofs.Starts.{start_single}
 use Rattle.block_runs.proofs.blocks.Going.{going_none, going_room, going_all}
@@ -18,20 +23,15 @@ offset_bounds-doubles-f c = omega (arith, start_single c.args.f.rows)
 pub bounds-doubles-f : goal.bounds-doubles-f
 bounds-doubles-f c = omega (arith, start_single c.args.f.rows)
 
+pub change-requires : goal.change-requires
+change-requires c = record { room = omega (arith, going_room c.loop-c.invariant c.loop-c-test.true); always = λ i x l. tt }
+
 pub overflow_add-to : goal.overflow_add-to
 overflow_add-to c = omega (arith, going_room c.loop-c.invariant (omega arith))
 
-pub overflow_sub-to : goal.overflow_sub-to
-overflow_sub-to c = omega (arith, going_room c.loop-c.invariant (omega arith))
-
-pub divide-requires : goal.divide-requires
-divide-requires c = omega (arith, going_room c.loop-c.invariant (omega arith))
-
-pub overflow_add-to-in-loop-c : goal.overflow_add-to-in-loop-c
-overflow_add-to-in-loop-c c = omega (arith, going_room c.loop-c.invariant (omega arith))
-
 pub loop-c-preserved : goal.loop-c-preserved
-loop-c-preserved c = divide_turn c.requires c.loop-c.invariant c.loop-c-test.true refl _ (omega (arith, going_room c.loop-c.invariant c.loop-c-test.true)) c.divide.ensures
+loop-c-preserved c = divide_turn c.requires c.loop-c.invariant c.loop-c-test.true refl
+    (c.change.ensures (λ (i : ℕ) (x : Float). ieee.over x (at c.loop-c.doubles (c.args.f.at + c.loop-c.c))) (λ i x r l post. search rules))
 
 pub returns : goal.returns
 returns c = going_all c.loop-c.invariant (omega arith)

@@ -1,5 +1,5 @@
 -- `cross_block::scaling::scale_twice`: the first i doubles are written.
-use Prim.Native.Nat.{◌-◌, ◌+◌}
+use Prim.Native.Nat.{◌+◌}
 use Rattle.storage.proofs.Filling.{Filling}
 use Rattle.rules.specs.Arithmetic.{ieee}
 use Rattle.rules.specs.Begin.{cross_cell}
@@ -8,6 +8,3 @@ use Rattle.cross_block.proofs.scaling.scale_twice.Given as goal
 
 abbrev pub invariant-loop-i : goal.invariant-loop-i
 invariant-loop-i l = Filling (λ x. cross_cell ieee l.column l.row (at l.initial.doubles (l.src + x))) l.off l.n l.initial.doubles l.doubles l.i
-
-abbrev pub decreases-loop-i : goal.decreases-loop-i
-decreases-loop-i l = l.n - l.i

@@ -1,5 +1,4 @@
 -- `cross_matvec::sparse_matvec_t::sparse_matvec_t_sub`: the first c entries are written.
-use Prim.Native.Nat.{◌-◌}
 use Rattle.storage.proofs.Filling.{Filling}
 use Rattle.rules.specs.Arithmetic.{ieee}
 use Rattle.rules.specs.Solves.{sparse_matvec_t_sub}
@@ -9,6 +8,3 @@ use Rattle.cross_matvec.proofs.sparse_matvec_t.sparse_matvec_t_sub.Given as goal
 
 abbrev pub invariant-loop-c : goal.invariant-loop-c
 invariant-loop-c l = Filling (sparse_matvec_t_sub ieee (row_in l.rows) (entry l.a.at l.a.cols l.doubles) (entry l.z l.a.rows l.initial.v) (entry l.to l.a.cols l.initial.v)) l.to l.a.cols l.initial.v l.v l.c
-
-abbrev pub decreases-loop-c : goal.decreases-loop-c
-decreases-loop-c l = l.a.cols - l.c

@@ -2,7 +2,6 @@
 use lib.ListN.{length}
 use Rattle.heading_format.proofs.Fits.{fits, read_fits, room_of_lem}
 use Rattle.factor_text.proofs.pivot_lines.Lines.{lines_put}
-use borrow.Author.Rules.{rules}
 use Rattle.factor_text.proofs.pivot_lines.put_pivots.Goals as goal
 
 pub layout-requires : goal.layout-requires
@@ -10,7 +9,7 @@ layout-requires c = (fits (c.args.heading).now (length (c.args.doubles).now) c.r
 
 pub put_blocks-requires : goal.put_blocks-requires
 put_blocks-requires c = let h = (c.args.heading).now in
-    (room_of_lem (read_fits c.layout.ensures (fits h (length (c.args.doubles).now) c.requires.0)), c.requires.1, c.requires.2)
+    (room_of_lem (read_fits c.layout.ensures (fits h (length (c.args.doubles).now) c.requires.0)), c.requires.1)
 
 pub returns : goal.returns
 returns c = let a = c.args in

@@ -6,7 +6,7 @@ use Rattle.factor_text.proofs.steps_text.put_factor.Goals as goal
 
 pub put_begun-requires : goal.put_begun-requires
 put_begun-requires c = let a = c.args in
-    (λ q. begun_underway a.heading.now a.doubles.now a.theta.now _ _ _ (search rules) (meant_outcome c.begin-a.result _ _ c.begin-a.ensures) q, search rules, c.requires.1)
+    (λ q. begun_underway a.heading.now a.doubles.now a.theta.now _ _ _ (search rules) (meant_outcome c.begin-a.result _ _ c.begin-a.ensures) q, search rules)
 
 pub returns : goal.returns
 returns c = let a = c.args in

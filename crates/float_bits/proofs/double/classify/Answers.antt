@@ -3,11 +3,8 @@ use mathlib.Core.Path.{sym, ◌∙◌, ap, subst}
 use lib.Dec.{T}
 use Rattle.float_bits.specs.declared.double.Kind.TheVariants.{Positive}
 use Rattle.float_bits.proofs.double.Value.{digits_pos}
-use Rattle.float_bits.proofs.double.Tests.{above, not_nan, at_positive, at_infinity, at_negative, at_zero, at_nan}
+use Rattle.float_bits.proofs.double.Tests.{above, at_positive, at_infinity, at_negative, at_zero, at_nan}
 use Rattle.float_bits.proofs.double.classify.Goals as goal
-
-pub float_to_bits-x : goal.float_to_bits-x
-float_to_bits-x c = not_nan _ (above _ c.if-x.true c.if-x-2.true)
 
 pub of_bits-requires : goal.of_bits-requires
 of_bits-requires c = digits_pos _ (subst T (sym c.well_formed.0.1) tt) (above _ c.if-x.true c.if-x-2.true)

@@ -1,18 +1,9 @@
-use native.Mathlib.Omega.{arith}
-use Rattle.float_bits.proofs.double.Leading.{lift_start, lift_some, lift_on, lift_end}
+-- `float_bits::double::lifted` meets its contract.
+use Rattle.float_bits.proofs.double.Leading.{zeros_some, lifted_is}
 use Rattle.float_bits.proofs.double.lifted.Goals as goal
 
-pub loop-m-init : goal.loop-m-init
-loop-m-init c = lift_start _ c.requires.1
-
-pub overflow_sub-t : goal.overflow_sub-t
-overflow_sub-t c = lift_some _ _ _ c.requires.0 c.loop-m.invariant c.loop-m-test.true
-
-pub loop-m-smaller : goal.loop-m-smaller
-loop-m-smaller c = omega (arith, lift_some _ _ _ c.requires.0 c.loop-m.invariant c.loop-m-test.true)
-
-pub loop-m-preserved : goal.loop-m-preserved
-loop-m-preserved c = lift_on _ _ _ c.requires.0 c.loop-m.invariant c.loop-m-test.true
+pub overflow_sub-places : goal.overflow_sub-places
+overflow_sub-places c = zeros_some c.args.q c.requires.0 c.requires.1
 
 pub returns : goal.returns
-returns c = lift_end _ _ _ c.loop-m.invariant c.loop-m-test.false
+returns c = lifted_is c.args.q c.requires.0 c.requires.1 _ c.from.ensures

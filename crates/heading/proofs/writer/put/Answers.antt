@@ -4,4 +4,4 @@ use Rattle.heading.proofs.Numbers.{stored_one}
 use Rattle.heading.proofs.writer.put.Goals as goal
 
 pub returns : goal.returns
-returns c = rw c.narrow.ensures (stored_one _ _ _ (search rules))
+returns c = stored_one _ _ _ (search rules)

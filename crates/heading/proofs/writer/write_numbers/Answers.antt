@@ -6,9 +6,6 @@ use Rattle.heading.proofs.writer.write_numbers.Goals as goal
 pub loop-j-init : goal.loop-j-init
 loop-j-init c = search (filling_none, rules)
 
-pub narrow-requires : goal.narrow-requires
-narrow-requires c = c.requires.2 c.loop-j.j
-
 pub loop-j-preserved : goal.loop-j-preserved
 loop-j-preserved c = search filling_more
 

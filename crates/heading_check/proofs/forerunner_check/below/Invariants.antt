@@ -10,6 +10,3 @@ abbrev pub invariant-loop-i : goal.invariant-loop-i
 invariant-loop-i l = Going (stages_in l.heading) (walked (stages_in l.heading) l.initial.v (each (λ r. subtractions r l.j ++ (T r l.j ∷ [])) (suc l.j) (l.k - l.j))) (λ r. subtractions r l.j ++ (T r l.j ∷ [])) l.i (suc l.k) l.v
     × (l.v.left ≤ l.initial.v.left + 9 * l.i)
     × (l.j < l.i)
-
-abbrev pub decreases-loop-i : goal.decreases-loop-i
-decreases-loop-i l = suc l.k - l.i

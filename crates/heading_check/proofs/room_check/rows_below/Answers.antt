@@ -1,14 +1,8 @@
-use Rattle.heading_check.proofs.order_check.Every.{passing_none, passing_more, passing_fails, passing_all}
+use borrow.Author.Rules.{rules}
+use lib.Dec.{ltb}
+use Rattle.heading_format.specs.Heading.{entry_row}
+use Rattle.heading_check.proofs.order_check.Every.{every_all}
 use Rattle.heading_check.proofs.room_check.rows_below.Goals as goal
 
-pub loop-c-init : goal.loop-c-init
-loop-c-init c = search passing_none
-
-pub loop-c-preserved : goal.loop-c-preserved
-loop-c-preserved c = search passing_more
-
-pub returns-else-row_below : goal.returns-else-row_below
-returns-else-row_below c = search passing_fails
-
 pub returns : goal.returns
-returns c = search passing_all
+returns c = every_all (λ x. ltb (entry_row c.args.heading.now x) c.args.rows) c.args.cols c.all.ensures.ran (λ x b q k. search rules)

@@ -1,10 +1,9 @@
 -- `kernel_tests::vectors::sparse_matvec_t_sub` meets its contract.
-use mathlib.Core.Path.{sym}
+use mathlib.Core.Path.{refl}
 use mathlib.Core.Logic.{⊎_swap}
 use native.Mathlib.Omega.{arith}
-use borrow.Author.Tests.{ltb-false}
 use Rattle.storage.proofs.Starts.{start_single}
-use Rattle.kernel_tests.proofs.kernel_sizes.Laws.{neither, block_at, lent_rows}
+use Rattle.kernel_tests.proofs.kernel_sizes.Laws.{lent_rows}
 use Rattle.kernel_tests.proofs.vectors.sparse_matvec_t_sub.Goals as goal
 
 pub slice_bounds-sparse_matvec_t_sub-count : goal.slice_bounds-sparse_matvec_t_sub-count
@@ -14,6 +13,6 @@ pub slice_bounds-sparse_matvec_t_sub-start : goal.slice_bounds-sparse_matvec_t_s
 slice_bounds-sparse_matvec_t_sub-start c = omega (arith, (c.bad_rows.ensures c.if-bad_rows.false).0)
 
 pub sparse_matvec_t_sub-requires : goal.sparse_matvec_t_sub-requires
-sparse_matvec_t_sub-requires c = let p = neither _ _ c.if-x-v.false in let h = c.clash.ensures p.1 in
-    let r = c.bad_rows.ensures c.if-bad_rows.false in let a = c.args in
-    (record { rows = h.second; cols = h.first; apart = ⊎_swap h.apart }, block_at _ _ (sym (start_single a.x.p1)) (ltb-false _ _ p.0), lent_rows a.heading.now a.x.p5 _ a.x.p4 _ r.0 r.1)
+sparse_matvec_t_sub-requires c = let h = c.if-clash.ensures refl in
+    let r = c.if-bad_rows.ensures refl in let a = c.args in
+    (record { rows = h.second; cols = h.first; apart = ⊎_swap h.apart }, omega (arith, start_single a.x.p1), lent_rows a.heading.now a.x.p5 _ a.x.p4 _ r.0 r.1)

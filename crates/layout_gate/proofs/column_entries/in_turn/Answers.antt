@@ -1,19 +1,19 @@
-use mathlib.Core.Path.{refl}
-use native.Mathlib.Omega.{arith}
-use Rattle.layout_gate.proofs.column_entries.Lines.{turn_more, turn_other, turn_fits, turn_done}
+use Rattle.layout_gate.proofs.column_entries.Lines.{turn_none, pair_tested, turn_more, turn_other, turn_fits, turn_done}
 use Rattle.layout_gate.proofs.column_entries.in_turn.Goals as goal
 
-pub loop-left-init : goal.loop-left-init
-loop-left-init c = record { same = refl; within = omega arith }
+pub loop-turn-init : goal.loop-turn-init
+loop-turn-init c = search turn_none
 
-pub returns-then-f-l : goal.returns-then-f-l
-returns-then-f-l c = search turn_other
+pub returns-then-here-l : goal.returns-then-here-l
+returns-then-here-l c = turn_other c.loop-turn.invariant c.loop-turn-test.true c.entry_line-l.ensures (pair_tested c.in_run.ensures c.in_run-in-loop-turn.ensures) c.if-here-l.true
 
 pub overflow_add-due : goal.overflow_add-due
-overflow_add-due c = record { fits = search turn_fits }
+overflow_add-due c = record {
+  fits = turn_fits c.loop-turn.invariant c.loop-turn-test.true c.entry_line-l.ensures (pair_tested c.in_run.ensures c.in_run-in-loop-turn.ensures) c.if-here-l.false c.from-due.ensures c.requires.0;
+}
 
-pub loop-left-preserved : goal.loop-left-preserved
-loop-left-preserved c = search turn_more
+pub loop-turn-preserved : goal.loop-turn-preserved
+loop-turn-preserved c = turn_more c.loop-turn.invariant c.loop-turn-test.true c.entry_line-l.ensures (pair_tested c.in_run.ensures c.in_run-in-loop-turn.ensures) c.if-here-l.false c.from-due.ensures
 
 pub returns : goal.returns
 returns c = search turn_done

@@ -6,9 +6,6 @@ use Rattle.layout_gate.proofs.gate_search.first_refused_pair.Given as goal
 abbrev pub invariant-loop-jj : goal.invariant-loop-jj
 invariant-loop-jj l = Clear l.layout l.found l.j l.jj
 
-abbrev pub decreases-loop-jj : goal.decreases-loop-jj
-decreases-loop-jj l = l.j - l.jj
-
 abbrev pub invariant-pairs : goal.invariant-pairs
 invariant-pairs l = Clear l.layout l.found l.j 0
 

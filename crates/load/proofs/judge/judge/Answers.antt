@@ -1,20 +1,23 @@
 -- `load::judge::judge`: the reader's refusal is handed on, or the sheet goes on.
-use mathlib.Core.Path.{sym, ◌∙◌}
-use Rattle.load.proofs.judge.Judging.{to_read, read_judged, unread_judged, unread_number}
+use mathlib.Core.Path.{sym, ap, ◌∙◌}
+use Rattle.std.specs.Prelude.{Err}
+use Rattle.std.proofs.lemmas.Result.{err_from_is_err_and}
+use Rattle.load.proofs.judge.Judging.{to_read, read_judged, unread_judged, unread_number, sheet_is, sheet_refused}
 use Rattle.load.proofs.judge.judge.Goals as goal
 
+pub refusal-requires : goal.refusal-requires
+refusal-requires c = unread_number c.args.bytes.now _ _ (sym c.in-Err.ensures)
+
+pub returns-in-Err : goal.returns-in-Err
+returns-in-Err c = ap Err c.refusal.ensures ∙ unread_judged c.args.bytes.now _ _ (sym c.in-Err.ensures)
+
 pub judge_sheet-requires : goal.judge_sheet-requires
-judge_sheet-requires c = let s = (c.args.bytes).now in
-    to_read s _ (sym c.read_and_check-r.ensures ∙ c.in-Sheet.is)
+judge_sheet-requires c = to_read c.args.bytes.now _ (sym c.in-Ok.ensures)
 
-pub refused-requires : goal.refused-requires
-refused-requires c = let s = (c.args.bytes).now in
-    unread_number s _ _ (sym c.read_and_check-r.ensures ∙ c.in-Refused.is)
+pub returns-in_err-layout : goal.returns-in_err-layout
+returns-in_err-layout c =
+    let p = err_from_is_err_and c.from_residual.result c.from_residual.ensures.1 in
+    p.1 ∙ ap Err p.2 ∙ read_judged c.args.bytes.now _ _ (sym c.in-Ok.ensures) (λ sheet e. sheet_refused sheet _ (c.in_err-layout.ensures sheet e))
 
-pub returns-in-Sheet : goal.returns-in-Sheet
-returns-in-Sheet c = let s = (c.args.bytes).now in
-    read_judged s _ _ (sym c.read_and_check-r.ensures ∙ c.in-Sheet.is) c.judge_sheet.ensures
-
-pub returns-in-Refused : goal.returns-in-Refused
-returns-in-Refused c = let s = (c.args.bytes).now in
-    c.refused.ensures ∙ unread_judged s _ _ (sym c.read_and_check-r.ensures ∙ c.in-Refused.is)
+pub returns : goal.returns
+returns c = read_judged c.args.bytes.now _ _ (sym c.in-Ok.ensures) (λ sheet e. sheet_is sheet _ (c.in_ok-layout.ensures sheet e))

@@ -1,9 +1,6 @@
 use Rattle.std.proofs.Common.{◌+◌, ◌-◌, ◌*◌, div-le_self, arith}
-use Rattle.logarithm.proofs.series.Words.{four, t_small, first_term, next_term, term_fits, product_small, last_term}
+use Rattle.logarithm.proofs.series.Words.{four, first_term, next_term, term_fits, last_term}
 use Rattle.logarithm.proofs.series.artanh_series.Goals as goal
-
-pub overflow_mul-t : goal.overflow_mul-t
-overflow_mul-t c = omega (arith, four _ _ c.high-t.ensures, t_small _ c.requires)
 
 pub loop-k-init : goal.loop-k-init
 loop-k-init c = first_term _
@@ -13,9 +10,6 @@ overflow_add-s-in-loop-k c = omega (arith, term_fits _ _ _ _ _ c.requires c.loop
 
 pub loop-k-preserved : goal.loop-k-preserved
 loop-k-preserved c = next_term _ _ _ _ _ c.loop-k.invariant c.loop-k-test.true (four _ _ c.high-t.ensures) c.high.ensures
-
-pub overflow_add-result : goal.overflow_add-result
-overflow_add-result c = omega (arith, product_small (4 * c.args.z) c.high-2.result c.high-3.result (omega arith) (omega (arith, term_fits _ _ _ _ _ c.requires c.loop-k.invariant (four _ _ c.high-t.ensures) c.high-2.ensures)) c.high-3.ensures)
 
 pub returns : goal.returns
 returns c = last_term _ _ _ _ _ _ c.loop-k.invariant c.loop-k-test.false (four _ _ c.high-t.ensures) c.high-2.ensures c.high-3.ensures

@@ -3,17 +3,7 @@ use mathlib.Core.Path.{sym}
 use Rattle.storage.specs.Placed.{as_diagonal}
 use Rattle.storage.proofs.Starts.{start_single}
 use Rattle.re_factor.proofs.Lends.{lent_logs}
-use borrow.Author.Rules.{rules}
 use Rattle.re_factor.proofs.block_logs.log_diagonal.Goals as goal
-
-pub overflow_add-end : goal.overflow_add-end
-overflow_add-end c = let k = start_single c.args.b.rows in search rules
-
-pub offset_bounds-doubles-at : goal.offset_bounds-doubles-at
-offset_bounds-doubles-at c = let k = start_single c.args.b.rows in search rules
-
-pub slice_bounds-log_diagonal-end : goal.slice_bounds-log_diagonal-end
-slice_bounds-log_diagonal-end c = let k = start_single c.args.b.rows in search rules
 
 pub returns : goal.returns
 returns c = let a = c.args in

@@ -1,5 +1,6 @@
 use mathlib.Core.Path.{refl}
-use Prim.Native.Nat.{◌+◌}
+use Prim.Native.Nat.{◌+◌, ◌-◌}
+use borrow.Rule.Slice.PartMut.{put_mid}
 use native.Mathlib.Omega.{arith}
 use native.Mathlib.Numerals.{add-one}
 use lib.ListN.{length-set}
@@ -9,6 +10,7 @@ use Rattle.storage.proofs.Starts.{start_below, start_single}
 use Rattle.block_runs.proofs.blocks.Laws.{has_packed}
 use Rattle.re_factor.specs.Factor.{loaded_of}
 use Rattle.re_factor.proofs.Turns.{begun_none, begun_cells, begun_pivot, begun_all, off_diagonal_zero}
+use Rattle.re_factor.proofs.Lends.{cleared}
 use Rattle.re_factor.proofs.triangle_init.init.Goals as goal
 
 pub loop-r-init : goal.loop-r-init
@@ -16,29 +18,15 @@ unfolding start
 loop-r-init c = let a = c.args in
     (omega arith, omega arith, refl, omega (arith, start_single a.b.rows), begun_none (as_triangle a.b) (loaded_of a.b a.src) a.t a.doubles.now c.requires.0)
 
-pub clear-requires : goal.clear-requires
-clear-requires c = omega (arith, start_below triangle c.loop-r.r c.args.b.rows c.loop-r-test.true)
-
-pub overflow_add-doubles-in-loop-r : goal.overflow_add-doubles-in-loop-r
-overflow_add-doubles-in-loop-r c = omega (arith, start_below triangle c.loop-r.r c.args.b.rows c.loop-r-test.true)
-
-pub offset_bounds-doubles-at : goal.offset_bounds-doubles-at
-offset_bounds-doubles-at c = omega (arith, start_below triangle c.loop-r.r c.args.b.rows c.loop-r-test.true)
-
-pub bounds-doubles-at : goal.bounds-doubles-at
-bounds-doubles-at c = omega (arith, start_below triangle c.loop-r.r c.args.b.rows c.loop-r-test.true)
-
-pub overflow_add-at : goal.overflow_add-at
-overflow_add-at c = omega (arith, start_below triangle c.loop-r.r c.args.b.rows c.loop-r-test.true)
-
 pub loop-r-preserved : goal.loop-r-preserved
 unfolding start
 loop-r-preserved c = let a = c.args in
-    let l = c.loop-r in let b = c.clear in
+    let l = c.loop-r in let v = c.fill.new.self in
+    let e = cleared l.doubles l.at l.r l.r refl (omega (arith, start_below triangle l.r a.b.rows c.loop-r-test.true)) v (c.fill.ensures.after (λ y e. e)) in
     let z = begun_cells (as_triangle a.b) (loaded_of a.b a.src) a.t a.doubles.now c.requires.0 l.r l.r (omega arith) (omega arith) l.doubles l.invariant.4
-    l.at (omega arith) _ (off_diagonal_zero (loaded_of a.b a.src) a.t a.doubles.now l.r) b.new.doubles b.ensures in
+    l.at (omega arith) _ (off_diagonal_zero (loaded_of a.b a.src) a.t a.doubles.now l.r) (put_mid l.at (l.at + l.r - l.at) l.doubles v) e in
     let t = begun_pivot (as_triangle a.b) (block_of a.src a.b.rows a.b.cols) a.t a.doubles.now c.requires.0 c.requires.1 c.requires.2 l.r (omega arith)
-    (has_packed a.b.rows l.r l.r (omega arith) (omega arith)) refl b.new.doubles z (l.at + l.r) (omega arith) in
+    (has_packed a.b.rows l.r l.r (omega arith) (omega arith)) refl (put_mid l.at (l.at + l.r - l.at) l.doubles v) z (l.at + l.r) (omega arith) in
     (omega arith, rw add-one (omega arith), simp length-set (omega arith), l.invariant.3, rw add-one t)
 
 pub returns : goal.returns

@@ -25,9 +25,6 @@ pub chain_column-requires : goal.chain_column-requires
 chain_column-requires c = let l = c.loop-i in let e : l.i ≡ l.i - 1 + 1 = omega arith in
     (omega arith, omega arith, omega arith, l.invariant.1 ∙ ap (start triangle) e)
 
-pub overflow_add-t : goal.overflow_add-t
-overflow_add-t c = omega (arith, near c.loop-i.i c.args.n c.loop-i.from (length c.args.l.now) c.loop-i-test.true c.loop-i.invariant.0 c.loop-i.invariant.1 (omega arith))
-
 pub offset_bounds-l-from : goal.offset_bounds-l-from
 offset_bounds-l-from c = omega (arith, near c.loop-i.i c.args.n c.loop-i.from (length c.args.l.now) c.loop-i-test.true c.loop-i.invariant.0 c.loop-i.invariant.1 (omega arith))
 
@@ -43,7 +40,7 @@ loop-i-preserved c = let a = c.args in
       omega (arith, k),
       simp length-set l.invariant.2,
       back_turn a.t.now a.l.now a.n (l.i - 1) (a.n - suc (l.i - 1)) refl (omega arith) (omega arith) l.t l.invariant.2
-          (l.invariant.3 ∙ ap (λ (x : ℕ). store x (back_to a.t.now a.l.now a.n (a.n - x)) a.t.now) e) (l.from - l.i) (omega (arith, k)) (omega (arith, k)) _ c.chain_column.ensures
+          (l.invariant.3 ∙ ap (λ (x : ℕ). store x (back_to a.t.now a.l.now a.n (a.n - x)) a.t.now) e) _ (omega (arith, k)) (omega (arith, k)) _ c.chain_column.ensures
           ∙ ap (λ (d : ℕ). store (l.i - 1) (back_to a.t.now a.l.now a.n d) a.t.now) f,
     )
 

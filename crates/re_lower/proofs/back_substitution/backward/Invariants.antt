@@ -1,4 +1,4 @@
--- `re_lower::back_substitution::backward`: the invariant is that the cells from i on are solved and nothing else has changed.
+-- `re_lower::back_substitution::backward`: the invariant is that i cells are left, those behind them are solved and nothing else has changed.
 use mathlib.Core.Path.{◌≡◌}
 use Prim.Native.Nat.{◌≤◌, ◌-◌}
 use lib.ListN.{length}
@@ -9,6 +9,3 @@ use Rattle.re_lower.proofs.back_substitution.backward.Given as goal
 
 abbrev pub invariant-loop-i : goal.invariant-loop-i
 invariant-loop-i l = (l.i ≤ l.n) × (l.from ≡ start triangle l.i) × (length l.t ≡ length l.initial.t) × (l.t ≡ store l.i (back_to l.initial.t l.l l.n (l.n - l.i)) l.initial.t)
-
-abbrev pub decreases-loop-i : goal.decreases-loop-i
-decreases-loop-i l = l.i

@@ -10,18 +10,6 @@ use Rattle.re_lower.proofs.back_substitution.chain_column.Goals as goal
 pub loop-q-init : goal.loop-q-init
 loop-q-init c = (omega arith, omega arith, omega arith, column_none c.args.s c.args.l.now c.args.t.now c.args.i)
 
-pub overflow_add-v : goal.overflow_add-v
-overflow_add-v c = omega (arith, start_below triangle c.loop-q.q c.args.n c.loop-q-test.true)
-
-pub offset_bounds-l-row : goal.offset_bounds-l-row
-offset_bounds-l-row c = omega (arith, start_below triangle c.loop-q.q c.args.n c.loop-q-test.true)
-
-pub bounds-l-row : goal.bounds-l-row
-bounds-l-row c = omega (arith, start_below triangle c.loop-q.q c.args.n c.loop-q-test.true)
-
-pub overflow_add-row : goal.overflow_add-row
-overflow_add-row c = omega (arith, start_below triangle c.loop-q.q c.args.n c.loop-q-test.true)
-
 pub loop-q-preserved : goal.loop-q-preserved
 unfolding start
 loop-q-preserved c = let a = c.args in let l = c.loop-q in

@@ -7,6 +7,3 @@ use Rattle.re_lower.proofs.back_substitution.chain_column.Given as goal
 
 abbrev pub invariant-loop-q : goal.invariant-loop-q
 invariant-loop-q l = (l.i < l.q) × (l.q ≤ l.n) × (l.row ≡ start triangle l.q) × (l.v ≡ column_to l.s l.l l.t l.i (l.q - suc l.i))
-
-abbrev pub decreases-loop-q : goal.decreases-loop-q
-decreases-loop-q l = l.n - l.q

@@ -1,29 +1,14 @@
-use mathlib.Core.Path.{◌≡◌, refl}
+use mathlib.Core.Path.{◌≡◌, refl, ◌∙◌}
 use native.Mathlib.Omega.{arith}
 use native.Mathlib.Numerals.{add-one}
 use lib.ListN.{length-set}
 use Rattle.storage.specs.Runs.{start, triangle}
 use Rattle.storage.proofs.Starts.{start_below}
-use Rattle.re_lower.proofs.Turns.{row_turn}
+use Rattle.re_lower.proofs.Turns.{row_turn, chain_lent}
 use Rattle.re_lower.proofs.band_row.row_left_of_pivot.Goals as goal
 
 pub loop-c-init : goal.loop-c-init
 loop-c-init c = (omega arith, omega arith, refl, λ w k q. q)
-
-pub chain-requires : goal.chain-requires
-chain-requires c = omega (arith, start_below triangle c.loop-c.c c.args.r c.loop-c-test.true)
-
-pub overflow_add-t : goal.overflow_add-t
-overflow_add-t c = omega (arith, start_below triangle c.loop-c.c c.args.r c.loop-c-test.true)
-
-pub offset_bounds-t-at : goal.offset_bounds-t-at
-offset_bounds-t-at c = omega (arith, start_below triangle c.loop-c.c c.args.r c.loop-c-test.true)
-
-pub bounds-t-at : goal.bounds-t-at
-bounds-t-at c = omega (arith, start_below triangle c.loop-c.c c.args.r c.loop-c-test.true)
-
-pub overflow_add-at : goal.overflow_add-at
-overflow_add-at c = omega (arith, start_below triangle c.loop-c.c c.args.r c.loop-c-test.true)
 
 pub loop-c-preserved : goal.loop-c-preserved
 unfolding start
@@ -32,7 +17,7 @@ loop-c-preserved c = let a = c.args in
       omega arith,
       rw add-one (omega arith),
       simp length-set l.invariant.2,
-      λ w k q. rw add-one (row_turn w a.from a.r (omega arith) (omega arith) l.c (omega arith) l.t (omega arith) (l.invariant.3 w k q) l.at l.invariant.1 _ c.chain.ensures),
+      λ w k q. rw add-one (row_turn w a.from a.r (omega arith) (omega arith) l.c (omega arith) l.t (omega arith) (l.invariant.3 w k q) l.at l.invariant.1 _ (c.chain-v.ensures ∙ chain_lent _ l.t l.t a.from l.at _ _ l.c (omega arith) (omega arith) (omega arith) (omega (arith, start_below triangle l.c a.r c.loop-c-test.true)))),
     )
 
 pub returns : goal.returns

@@ -1,8 +1,8 @@
 use mathlib.Core.Path.{◌≡◌, refl, sym, ap, ◌∙◌}
-use Prim.Native.Nat.{ℕ}
+use Prim.Native.Nat.{ℕ, ◌+◌, ◌≤◌}
 use native.Mathlib.Omega.{arith}
 use native.Mathlib.Numerals.{add-one}
-use lib.ListN.{length-set}
+use lib.ListN.{length, length-set}
 use Rattle.storage.specs.Runs.{start, triangle, cells}
 use Rattle.storage.specs.Shape.{fill}
 use Rattle.storage.specs.Part.{store}
@@ -13,7 +13,7 @@ use Rattle.rules.specs.Cholesky.{radicand, first_bad}
 use Rattle.re_lower.specs.Lower.{lower, answer_of}
 use Rattle.re_lower.proofs.Laws.{goes_on, refused_at_lem}
 use Rattle.re_lower.proofs.Band.{row_ready}
-use Rattle.re_lower.proofs.Turns.{rows_to, row_done, is_radicand, chol_turn}
+use Rattle.re_lower.proofs.Turns.{rows_to, row_done, is_radicand, chol_turn, chain_lent}
 use Rattle.re_lower.proofs.cholesky.chol_bands.Goals as goal
 
 pub loop-r-init : goal.loop-r-init
@@ -37,23 +37,12 @@ band_row-requires c = let a = c.args in
           (k.ensures.ready a.t.now c.requires.0 l.invariant.3 l.invariant.7),
     )
 
-pub overflow_add-v : goal.overflow_add-v
-overflow_add-v c = omega (arith, start_below triangle c.loop-r.r c.args.n c.loop-r-test.true)
-
-pub offset_bounds-t-from : goal.offset_bounds-t-from
-offset_bounds-t-from c = omega (arith, start_below triangle c.loop-r.r c.args.n c.loop-r-test.true)
-
-pub bounds-t-from : goal.bounds-t-from
-bounds-t-from c = omega (arith, start_below triangle c.loop-r.r c.args.n c.loop-r-test.true)
-
-pub chain-d-requires : goal.chain-d-requires
-chain-d-requires c = omega (arith, start_below triangle c.loop-r.r c.args.n c.loop-r-test.true)
-
 pub returns-then-refused : goal.returns-then-refused
 unfolding fill
 returns-then-refused c = let tested : c.refused.result ≡ ieee.refused (radicand ieee (lower c.args.t.now) c.loop-r.r) = let a = c.args in
     let l = c.loop-r in
-    c.refused.ensures ∙ ap ieee.refused (is_radicand a.t.now a.n c.requires.0 l.r c.loop-r-test.true l.t _ (omega arith) l.invariant.3 l.from l.invariant.1 c.band_row.ensures _ c.chain-d.ensures) in
+    let k : l.from + l.r ≤ length c.band_row.new.t = omega (arith, start_below triangle l.r a.n c.loop-r-test.true) in
+    c.refused.ensures ∙ ap ieee.refused (is_radicand a.t.now a.n c.requires.0 l.r c.loop-r-test.true l.t _ (omega arith) l.invariant.3 l.from l.invariant.1 c.band_row.ensures _ (c.chain-d.ensures ∙ chain_lent _ c.band_row.new.t c.band_row.new.t l.from l.from _ _ l.r (omega arith) (omega arith) k k)) in
     let a = c.args in
     let l = c.loop-r in
     record {
@@ -61,34 +50,24 @@ returns-then-refused c = let tested : c.refused.result ≡ ieee.refused (radican
       left = row_done a.t.now a.n c.requires.0 l.r c.loop-r-test.true l.t _ (omega arith) l.invariant.3 l.from l.invariant.1 c.band_row.ensures;
     }
 
-pub overflow_add-t : goal.overflow_add-t
-overflow_add-t c = omega (arith, start_below triangle c.loop-r.r c.args.n c.loop-r-test.true)
-
-pub offset_bounds-t-from-in-loop-r : goal.offset_bounds-t-from-in-loop-r
-offset_bounds-t-from-in-loop-r c = omega (arith, start_below triangle c.loop-r.r c.args.n c.loop-r-test.true)
-
-pub bounds-t-from-in-loop-r : goal.bounds-t-from-in-loop-r
-bounds-t-from-in-loop-r c = omega (arith, start_below triangle c.loop-r.r c.args.n c.loop-r-test.true)
-
-pub overflow_add-from : goal.overflow_add-from
-overflow_add-from c = omega (arith, start_below triangle c.loop-r.r c.args.n c.loop-r-test.true)
-
 pub loop-r-preserved : goal.loop-r-preserved
 unfolding start
 loop-r-preserved c = let tested : c.refused.result ≡ ieee.refused (radicand ieee (lower c.args.t.now) c.loop-r.r) = let a = c.args in
     let l = c.loop-r in
-    c.refused.ensures ∙ ap ieee.refused (is_radicand a.t.now a.n c.requires.0 l.r c.loop-r-test.true l.t _ (omega arith) l.invariant.3 l.from l.invariant.1 c.band_row.ensures _ c.chain-d.ensures) in
+    let k : l.from + l.r ≤ length c.band_row.new.t = omega (arith, start_below triangle l.r a.n c.loop-r-test.true) in
+    c.refused.ensures ∙ ap ieee.refused (is_radicand a.t.now a.n c.requires.0 l.r c.loop-r-test.true l.t _ (omega arith) l.invariant.3 l.from l.invariant.1 c.band_row.ensures _ (c.chain-d.ensures ∙ chain_lent _ c.band_row.new.t c.band_row.new.t l.from l.from _ _ l.r (omega arith) (omega arith) k k)) in
     let a = c.args in
     let l = c.loop-r in
-    let k = c.next_band-base in (
+    let b = c.next_band-base in
+    let k : l.from + l.r ≤ length c.band_row.new.t = omega (arith, start_below triangle l.r a.n c.loop-r-test.true) in (
       omega arith,
       rw add-one (omega arith),
       simp length-set (omega arith),
-      rw add-one (chol_turn a.t.now a.n c.requires.0 l.r c.loop-r-test.true l.t _ (omega arith) l.invariant.3 l.from l.invariant.1 c.band_row.ensures _ c.chain-d.ensures _ c.sqrt.ensures),
+      rw add-one (chol_turn a.t.now a.n c.requires.0 l.r c.loop-r-test.true l.t _ (omega arith) l.invariant.3 l.from l.invariant.1 c.band_row.ensures _ (c.chain-d.ensures ∙ chain_lent _ c.band_row.new.t c.band_row.new.t l.from l.from _ _ l.r (omega arith) (omega arith) k k) _ c.sqrt.ensures),
       rw add-one (goes_on ieee (radicand ieee (lower a.t.now)) l.r l.invariant.4 (sym tested ∙ c.if-refused.false)),
-      omega (arith, k.ensures.within),
+      omega (arith, b.ensures.within),
       omega arith,
-      k.ensures.ready a.t.now c.requires.0 l.invariant.3 l.invariant.7,
+      b.ensures.ready a.t.now c.requires.0 l.invariant.3 l.invariant.7,
     )
 
 pub returns : goal.returns

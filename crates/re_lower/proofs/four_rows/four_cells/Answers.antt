@@ -1,47 +1,30 @@
-use mathlib.Core.Path.{◌≡◌, refl}
-use Prim.Native.Nat.{◌+◌, ◌*◌, suc}
+use Prim.Native.Nat.{◌*◌}
 use native.Mathlib.Omega.{arith}
-use lib.ListN.{length-set}
-use Rattle.re_lower.specs.Band.{next_cell}
-use Rattle.re_lower.proofs.Band.{lane_start, lane_turn, lane_done, four_written}
+use Rattle.storage.proofs.Filling.{filling_none, filling_more, filling_done, array_done}
+use Rattle.re_lower.proofs.Band.{sums_start, four_sums, sum_turn, quotient_is}
 use Rattle.re_lower.proofs.four_rows.four_cells.Goals as goal
 
 pub loop-y-init : goal.loop-y-init
-loop-y-init c = let a = c.args in (
-  omega arith,
-  lane_start a.x.now a.l.now 0 a.from a.c _ (omega arith) (omega arith),
-  lane_start a.x.now a.l.now 1 a.from a.c _ (omega arith) (omega arith),
-  lane_start a.x.now a.l.now 2 a.from a.c _ (omega arith) (omega arith),
-  lane_start a.x.now a.l.now 3 a.from a.c _ (omega arith) (omega arith),
-)
+loop-y-init c = let a = c.args in sums_start a.x.now a.l.now a.from a.c (omega arith)
+
+pub loop-i-init : goal.loop-i-init
+loop-i-init c = let a = c.args in let l = c.loop-y in
+    filling_none _ 0 4 l.s (omega (arith, four_sums a.x.now a.l.now a.from a.c l.s l.y l.invariant))
+
+pub loop-i-preserved : goal.loop-i-preserved
+loop-i-preserved c = let a = c.args in let l = c.loop-y in
+    sum_turn a.x.now a.l.now a.from a.c l.s l.y l.invariant c.loop-i.invariant (omega arith) (omega arith) (omega arith)
 
 pub loop-y-preserved : goal.loop-y-preserved
-loop-y-preserved c = let a = c.args in
-    let l = c.loop-y in let e : suc l.y ≡ l.y + 1 = omega arith in (
-      omega arith,
-      lane_turn a.x.now a.l.now 0 a.from a.c l.s0 l.y _ _ _ e (omega arith) refl (omega arith) (omega arith) l.invariant.1,
-      lane_turn a.x.now a.l.now 1 a.from a.c l.s1 l.y _ _ _ e (omega arith) refl (omega arith) (omega arith) l.invariant.2,
-      lane_turn a.x.now a.l.now 2 a.from a.c l.s2 l.y _ _ _ e (omega arith) refl (omega arith) (omega arith) l.invariant.3,
-      lane_turn a.x.now a.l.now 3 a.from a.c l.s3 l.y _ _ _ e (omega arith) refl (omega arith) (omega arith) l.invariant.4,
-    )
+loop-y-preserved c = let a = c.args in let l = c.loop-y in
+    array_done c.loop-i.invariant (omega arith) (four_sums a.x.now a.l.now a.from a.c l.s l.y l.invariant)
 
-pub bounds-x-k-6 : goal.bounds-x-k-6
-bounds-x-k-6 c = simp length-set (omega arith)
+pub loop-r-init : goal.loop-r-init
+loop-r-init c = let a = c.args in filling_none _ (4 * a.c) 4 a.x.now (omega arith)
 
-pub bounds-x-k-7 : goal.bounds-x-k-7
-bounds-x-k-7 c = simp length-set (omega arith)
-
-pub bounds-x-k-8 : goal.bounds-x-k-8
-bounds-x-k-8 c = simp length-set (omega arith)
-
-pub shape_of-x : goal.shape_of-x
-shape_of-x c = simp length-set
+pub loop-r-preserved : goal.loop-r-preserved
+loop-r-preserved c = let a = c.args in let l = c.loop-y in
+    filling_more c.loop-r.invariant (omega arith) (quotient_is a.x.now a.l.now a.from a.c l.s l.y l.invariant (omega arith) (omega arith) c.loop-r.r (omega arith))
 
 pub returns : goal.returns
-returns c = let a = c.args in let l = c.loop-y in
-    let e : l.y ≡ a.c = omega arith in
-    four_written a.x.now (4 * a.c) (next_cell a.x.now a.l.now a.from a.c) _ _ _ _ (omega arith)
-    (lane_done a.x.now a.l.now 0 a.from a.c l.y l.s0 e (omega arith) l.invariant.1)
-    (lane_done a.x.now a.l.now 1 a.from a.c l.y l.s1 e (omega arith) l.invariant.2)
-    (lane_done a.x.now a.l.now 2 a.from a.c l.y l.s2 e (omega arith) l.invariant.3)
-    (lane_done a.x.now a.l.now 3 a.from a.c l.y l.s3 e (omega arith) l.invariant.4)
+returns c = filling_done c.loop-r.invariant (omega arith)

@@ -1,11 +1,17 @@
--- `re_lower::four_rows::four_cells`: the invariant is that each of the four is its cell less the first y products.
+-- `re_lower::four_rows::four_cells`: each of the four is its cell less the first y products, and the first r of them are divided.
 use mathlib.Core.Path.{◌≡◌}
-use Prim.Native.Nat.{◌≤◌, ◌-◌}
-use Rattle.re_lower.specs.Band.{lane, lane_chain}
+use Prim.Native.Nat.{◌+◌}
+use Rattle.storage.specs.Runs.{tab}
+use Rattle.storage.proofs.Filling.{Filling}
+use Rattle.re_lower.specs.Band.{next_cell}
+use Rattle.re_lower.proofs.Band.{lane_sum}
 use Rattle.re_lower.proofs.four_rows.four_cells.Given as goal
 
 abbrev pub invariant-loop-y : goal.invariant-loop-y
-invariant-loop-y l = (l.y ≤ l.c) × (l.s0 ≡ lane_chain (lane l.x 0 l.c) l.x 0 l.l l.from l.y) × (l.s1 ≡ lane_chain (lane l.x 1 l.c) l.x 1 l.l l.from l.y) × (l.s2 ≡ lane_chain (lane l.x 2 l.c) l.x 2 l.l l.from l.y) × (l.s3 ≡ lane_chain (lane l.x 3 l.c) l.x 3 l.l l.from l.y)
+invariant-loop-y l = l.s ≡ tab 4 (lane_sum l.x l.l l.from l.c l.y)
 
-abbrev pub decreases-loop-y : goal.decreases-loop-y
-decreases-loop-y l = l.c - l.y
+abbrev pub invariant-loop-i : goal.invariant-loop-i
+invariant-loop-i l = Filling (lane_sum l.x l.l l.from l.c (l.y + 1)) 0 4 l.initial.s l.s l.i
+
+abbrev pub invariant-loop-r : goal.invariant-loop-r
+invariant-loop-r l = Filling (next_cell l.initial.x l.l l.from l.c) l.k 4 l.initial.x l.x l.r

@@ -4,22 +4,12 @@ use native.Mathlib.Omega.{arith}
 use native.Mathlib.Numerals.{add-one}
 use native.Mathlib.Nat.{add-zero}
 use Rattle.storage.specs.Runs.{start, triangle}
-use Rattle.storage.proofs.Starts.{start_below}
 use Rattle.re_lower.proofs.Band.{band_turn}
 use Rattle.re_lower.proofs.four_rows.gather.Goals as goal
 
 pub loop-i-init : goal.loop-i-init
 loop-i-init c = let a = c.args in
     (omega arith, c.requires.1 ∙ ap (start triangle) (sym (add-zero a.base)), refl, (λ i y h k. absurd (omega arith)))
-
-pub gather_row-requires : goal.gather_row-requires
-gather_row-requires c = omega (arith, start_below triangle (c.args.base + c.loop-i.i) (c.args.base + c.args.rows) (omega arith))
-
-pub overflow_add-at : goal.overflow_add-at
-overflow_add-at c = omega (arith, start_below triangle (c.args.base + c.loop-i.i) (c.args.base + c.args.rows) (omega arith))
-
-pub overflow_add-at-in-loop-i : goal.overflow_add-at-in-loop-i
-overflow_add-at-in-loop-i c = omega (arith, start_below triangle (c.args.base + c.loop-i.i) (c.args.base + c.args.rows) (omega arith))
 
 pub loop-i-preserved : goal.loop-i-preserved
 unfolding start

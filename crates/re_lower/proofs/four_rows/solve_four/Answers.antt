@@ -3,8 +3,7 @@ use Prim.Native.Nat.{◌≤◌, ◌*◌, ◌+◌}
 use native.Mathlib.Omega.{arith}
 use native.Mathlib.Numerals.{add-one}
 use lib.ListN.{length}
-use Rattle.storage.specs.Runs.{start, triangle}
-use Rattle.storage.proofs.Starts.{start_below}
+use Rattle.storage.specs.Runs.{start}
 use Rattle.re_lower.specs.Band.{four_done}
 use Rattle.re_lower.proofs.Band.{four_rest, four_solved}
 use Rattle.re_lower.proofs.four_rows.solve_four.Goals as goal
@@ -12,12 +11,6 @@ use Rattle.re_lower.proofs.four_rows.solve_four.Goals as goal
 pub loop-c-init : goal.loop-c-init
 unfolding start
 loop-c-init c = (omega arith, refl, refl, (λ i y h k. absurd (omega arith)), (λ z h. refl))
-
-pub four_cells-requires : goal.four_cells-requires
-four_cells-requires c = omega (arith, start_below triangle c.loop-c.c c.args.n (omega arith))
-
-pub overflow_add-from : goal.overflow_add-from
-overflow_add-from c = omega (arith, start_below triangle c.loop-c.c c.args.n (omega arith))
 
 pub loop-c-preserved : goal.loop-c-preserved
 unfolding start

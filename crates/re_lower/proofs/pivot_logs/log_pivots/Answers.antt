@@ -15,18 +15,6 @@ pub loop-r-init : goal.loop-r-init
 unfolding start logs_from
 loop-r-init c = (omega arith, refl, refl)
 
-pub overflow_add-from : goal.overflow_add-from
-overflow_add-from c = omega (arith, start_below triangle c.loop-r.r c.args.n c.loop-r-test.true)
-
-pub offset_bounds-t-from : goal.offset_bounds-t-from
-offset_bounds-t-from c = omega (arith, start_below triangle c.loop-r.r c.args.n c.loop-r-test.true)
-
-pub bounds-t-from : goal.bounds-t-from
-bounds-t-from c = omega (arith, start_below triangle c.loop-r.r c.args.n c.loop-r-test.true)
-
-pub overflow_add-from-in-loop-r : goal.overflow_add-from-in-loop-r
-overflow_add-from-in-loop-r c = omega (arith, start_below triangle c.loop-r.r c.args.n c.loop-r-test.true)
-
 pub loop-r-preserved : goal.loop-r-preserved
 unfolding start
 loop-r-preserved c = let a = c.args in let l = c.loop-r in (

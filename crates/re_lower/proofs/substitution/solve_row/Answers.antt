@@ -8,27 +8,12 @@ use Rattle.storage.specs.Part.{store}
 use Rattle.storage.proofs.Starts.{start_below}
 use Rattle.storage.proofs.Parts.{store_nil}
 use Rattle.rules.specs.Cholesky.{forward}
-use Rattle.re_lower.proofs.Turns.{row_to, solve_turn}
+use Rattle.re_lower.proofs.Turns.{row_to, solve_turn, chain_lent}
 use Rattle.re_lower.proofs.substitution.solve_row.Goals as goal
 
 pub loop-x-init : goal.loop-x-init
 unfolding start forward
 loop-x-init c = let a = c.args in (omega arith, refl, refl, sym (store_nil 0 a.t.now))
-
-pub chain_row-requires : goal.chain_row-requires
-chain_row-requires c = omega (arith, start_below triangle c.loop-x.x c.args.n (omega arith))
-
-pub overflow_add-t : goal.overflow_add-t
-overflow_add-t c = omega (arith, start_below triangle c.loop-x.x c.args.n (omega arith))
-
-pub offset_bounds-l-from : goal.offset_bounds-l-from
-offset_bounds-l-from c = omega (arith, start_below triangle c.loop-x.x c.args.n (omega arith))
-
-pub bounds-l-from : goal.bounds-l-from
-bounds-l-from c = omega (arith, start_below triangle c.loop-x.x c.args.n (omega arith))
-
-pub overflow_add-from : goal.overflow_add-from
-overflow_add-from c = omega (arith, start_below triangle c.loop-x.x c.args.n (omega arith))
 
 pub loop-x-preserved : goal.loop-x-preserved
 unfolding start
@@ -37,7 +22,7 @@ loop-x-preserved c = let a = c.args in
       omega arith,
       rw add-one (omega arith),
       simp length-set l.invariant.2,
-      rw add-one (solve_turn a.t.now a.l.now l.x (omega arith) l.t l.invariant.2 l.invariant.3 l.from l.invariant.1 (omega (arith, start_below triangle l.x a.n (omega arith))) _ c.chain_row.ensures),
+      rw add-one (solve_turn a.t.now a.l.now l.x (omega arith) l.t l.invariant.2 l.invariant.3 l.from l.invariant.1 (omega (arith, start_below triangle l.x a.n (omega arith))) _ (c.chain-v.ensures ∙ chain_lent _ l.t a.l.now 0 l.from _ _ l.x (omega arith) (omega arith) (omega arith) (omega (arith, start_below triangle l.x a.n (omega arith))))),
     )
 
 pub returns : goal.returns

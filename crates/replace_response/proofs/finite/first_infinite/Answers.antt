@@ -1,18 +1,16 @@
-use mathlib.Core.Path.{sym, ◌∙◌}
-use Rattle.replace_response.proofs.finite.Walk.{walked_none, walked_more, walked_found, walked_all}
+-- `replace_response::finite::first_infinite`: what `position` finds.
+use mathlib.Core.Path.{◌∙◌}
+use mathlib.Core.Bool.{not}
+use Rattle.std.proofs.Common.{rules, tests}
+use Rattle.std.proofs.lemmas.Iterator.{YieldsList-from_slice}
+use Rattle.std.proofs.lemmas.Iterator.Search.{position_from_yields_List}
+use Rattle.std.proofs.lemmas.Iterator.Adapters.{position_from-zero}
+use Rattle.std.specs.Float.{float_is_finite}
+use Rattle.replace_response.proofs.finite.Walk.{found}
 use Rattle.replace_response.proofs.finite.first_infinite.Goals as goal
 
-pub loop-i-init : goal.loop-i-init
-loop-i-init c = walked_none _
-
-pub is_finite-requires : goal.is_finite-requires
-is_finite-requires c = tt
-
-pub loop-i-preserved : goal.loop-i-preserved
-loop-i-preserved c = walked_more _ _ c.loop-i.invariant c.loop-i-test.true (sym c.if-is_finite.true ∙ c.is_finite.ensures)
-
-pub returns-else-is_finite : goal.returns-else-is_finite
-returns-else-is_finite c = walked_found _ _ c.loop-i.invariant c.loop-i-test.true (sym c.if-is_finite.false ∙ c.is_finite.ensures)
-
 pub returns : goal.returns
-returns c = walked_all _ _ c.loop-i.invariant c.loop-i-test.false
+returns c =
+    position_from_yields_List (λ x. not (float_is_finite x)) _ _ c.position.result c.position.ensures.ran (YieldsList-from_slice _ c.iter.ensures.rest) (λ x b q k. search (rules, tests))
+    ∙ position_from-zero (λ x. not (float_is_finite x)) _
+    ∙ found 0 _

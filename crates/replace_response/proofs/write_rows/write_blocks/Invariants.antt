@@ -1,11 +1,8 @@
-use Prim.Native.Nat.{◌-◌, ◌≤◌}
+use Prim.Native.Nat.{◌≤◌}
 use mathlib.Core.Path.{◌≡◌}
 use lib.ListN.{length}
 use Rattle.replace_response.specs.write_rows.Strided.{fixed_rows}
 use Rattle.replace_response.proofs.write_rows.write_blocks.Given as goal
 
 abbrev pub invariant-loop-j : goal.invariant-loop-j
-invariant-loop-j l = (l.j ≤ l.layout.k) × (l.doubles ≡ fixed_rows l.layout l.zty l.j l.initial.doubles) × (length l.doubles ≡ length l.initial.doubles)
-
-abbrev pub decreases-loop-j : goal.decreases-loop-j
-decreases-loop-j l = l.layout.k - l.j
+invariant-loop-j l = (l.j ≤ l.map.layout.k) × (l.doubles ≡ fixed_rows l.map.layout l.zty l.j l.initial.doubles) × (length l.doubles ≡ length l.initial.doubles)

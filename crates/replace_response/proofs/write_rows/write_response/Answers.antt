@@ -1,8 +1,9 @@
 -- `replace_response::write_rows::write_response`: the fixed rows, then the last triangle.
 use mathlib.Core.Path.{ap, ◌∙◌}
-use Rattle.replace_response.specs.write_rows.Strided.{last_row, response_rows}
+use Rattle.replace_response.specs.write_rows.Strided.{fixed_rows, last_row, response_rows}
 use Rattle.workspace.specs.Response.{response}
 use Rattle.workspace.proofs.Lengths.{prescribed_lengths}
+use Rattle.layout.specs.declared.Layout.{Layout}
 use borrow.Author.Rules.{rules}
 use Rattle.replace_response.proofs.write_rows.write_response.Goals as goal
 
@@ -15,4 +16,5 @@ write_last-requires c = let many = prescribed_lengths c.args.layout (response c.
 pub returns : goal.returns
 unfolding response_rows
 returns c = let a = c.args in
-    c.write_last.ensures ∙ ap (last_row a.layout a.xty.now a.yty.now) c.write_blocks.ensures
+    c.write_last.ensures ∙ ap (last_row c.of-map.result.layout a.xty.now a.yty.now) c.write_blocks.ensures
+    ∙ ap (λ (y : Layout). last_row y a.xty.now a.yty.now (fixed_rows y a.zty.now y.k a.doubles.now)) c.of-map.ensures

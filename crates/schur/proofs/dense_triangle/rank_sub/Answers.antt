@@ -11,8 +11,8 @@ loop-r-init c = (refl, going_none (as_triangle c.args.t) _ c.args.doubles.now c.
 pub subtract_run-requires : goal.subtract_run-requires
 subtract_run-requires c = omega (arith, going_room c.loop-r.invariant.1 (omega arith))
 
-pub overflow_add-to : goal.overflow_add-to
-overflow_add-to c = omega (arith, going_room c.loop-r.invariant.1 (omega arith))
+pub overflow_add-to-in-loop-r : goal.overflow_add-to-in-loop-r
+overflow_add-to-in-loop-r c = omega (arith, going_room c.loop-r.invariant.1 (omega arith))
 
 pub loop-r-preserved : goal.loop-r-preserved
 loop-r-preserved c = let a = c.args.a in let P = c.requires.1 in

@@ -1,6 +1,5 @@
 -- `schur::dense_triangle::rank_sub`: the first r rows are written.
 use mathlib.Core.Path.{◌≡◌}
-use Prim.Native.Nat.{◌-◌}
 use lib.ListN.{length}
 use Rattle.storage.specs.Placed.{as_triangle}
 use Rattle.schur.specs.Schur.{subtract_squares}
@@ -9,6 +8,3 @@ use Rattle.schur.proofs.dense_triangle.rank_sub.Given as goal
 
 abbrev pub invariant-loop-r : goal.invariant-loop-r
 invariant-loop-r l = (length l.acc ≡ 316) × Going (as_triangle l.t) (subtract_squares l.t l.a l.initial.doubles) l.initial.doubles l.r l.to l.doubles
-
-abbrev pub decreases-loop-r : goal.decreases-loop-r
-decreases-loop-r l = l.t.rows - l.r

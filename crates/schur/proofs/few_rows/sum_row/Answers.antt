@@ -9,4 +9,4 @@ add_products-requires c = omega (arith, lies_as _ _ c.args.b c.requires.3 c.requ
 
 pub returns : goal.returns
 returns c = let a = c.args in
-    row_put a.doubles.now a.t.now _ a.acc.now _ _ a.from a.a a.b a.r c.requires.1 c.requires.3 c.clear.ensures c.add_products.ensures c.put.ensures
+    row_put a.doubles.now a.t.now _ a.acc.now _ _ a.from a.a a.b a.r c.requires.1 c.requires.3 c.clear.ensures c.add_products.ensures c.copy.ensures

@@ -14,6 +14,6 @@ add_products_pair-requires c = omega (arith, lies_as _ _ c.args.b c.requires.4 c
 pub returns : goal.returns
 returns c = let a = c.args in
     let sums = c.add_products_pair.ensures in
-    row_put a.doubles.now _ _ a.acc2.now _ _ (a.from + a.b.rows) a.a a.b (a.r + 1) c.requires.2 c.requires.4 c.clear-2.ensures sums.acc2_after c.put-2.ensures
+    row_put a.doubles.now _ _ a.acc2.now _ _ (a.from + a.b.rows) a.a a.b (a.r + 1) c.requires.2 c.requires.4 c.clear-2.ensures sums.acc2_after c.copy-2.ensures
     ∙ ap (run (a.from + a.b.rows) a.b.rows (row_sums a.a a.b a.doubles.now (a.r + 1)))
-    (row_put a.doubles.now a.t.now _ a.acc.now _ _ a.from a.a a.b a.r c.requires.1 c.requires.4 c.clear.ensures sums.acc_after c.put.ensures)
+    (row_put a.doubles.now a.t.now _ a.acc.now _ _ a.from a.a a.b a.r c.requires.1 c.requires.4 c.clear.ensures sums.acc_after c.copy.ensures)

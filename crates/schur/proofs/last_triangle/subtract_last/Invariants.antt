@@ -1,6 +1,5 @@
 -- `schur::last_triangle::subtract_last`: the first r rows are written.
 use mathlib.Core.Path.{◌≡◌}
-use Prim.Native.Nat.{◌-◌}
 use lib.ListN.{length}
 use Rattle.storage.specs.Placed.{as_triangle}
 use Rattle.schur.specs.Schur.{subtract_last_cell}
@@ -9,6 +8,3 @@ use Rattle.schur.proofs.last_triangle.subtract_last.Given as goal
 
 abbrev pub invariant-loop-r : goal.invariant-loop-r
 invariant-loop-r l = (length l.acc ≡ 316) × Going (as_triangle l.t) (subtract_last_cell l.t l.a l.initial.doubles) l.initial.doubles l.r l.to l.doubles
-
-abbrev pub decreases-loop-r : goal.decreases-loop-r
-decreases-loop-r l = l.t.rows - l.r

@@ -1,22 +1,24 @@
+-- `schur::rank_diagonal::add_column`: each row's sum with its cell.
+use Prim.Native.Nat.{ℕ, ◌+◌, ◌<◌}
+use mathlib.Core.Bool.{true}
 use native.Mathlib.Omega.{arith}
+use borrow.Author.Rules.{rules}
+use lib.ListN.{length}
+use lib.Ieee.{Float}
 use Rattle.storage.specs.Runs.{dense}
 use Rattle.storage.proofs.Starts.{start_below}
-use Rattle.storage.proofs.Filling.{filling_none}
-use Rattle.schur.proofs.rank_diagonal.Squares.{column_more, column_added}
+use Rattle.block_runs.specs.axpy.Axpy.{at}
+use Rattle.schur.specs.rank_diagonal.Rows.{plus_square}
+use Rattle.schur.proofs.rank_diagonal.Squares.{column_added}
 use Rattle.schur.proofs.rank_diagonal.add_column.Goals as goal
 
-pub loop-r-init : goal.loop-r-init
-loop-r-init c = let a = c.args in
-    (start_below (dense a.a.rows) a.x a.a.cols (omega arith), filling_none _ 0 a.a.rows a.sums.now (omega arith))
-
-pub loop-r-preserved : goal.loop-r-preserved
-loop-r-preserved c = let a = c.args in
-    let l = c.loop-r in (
-      omega arith,
-      column_more a.a a.src a.doubles.now a.x a.sums.now (omega arith) (omega arith) (omega arith)
-          a.p a.q (omega arith) (omega arith) l.r (omega arith) l.invariant.1 c.plus_square.result c.plus_square.ensures,
-    )
+pub change-requires-clause-always : goal.change-requires-clause-always
+change-requires-clause-always c = let a = c.args in
+    let room : (r : ℕ) → r < a.a.rows → (a.q + r < length a.doubles.now) × (a.p + r < length a.doubles.now) =
+    λ r l. omega (arith, start_below (dense a.a.rows) a.x a.a.cols (omega arith)) in
+    λ i x l. let h = room i l in search (rules, h)
 
 pub returns : goal.returns
 returns c = let a = c.args in
-    column_added a.a a.src a.doubles.now a.x a.sums.now c.loop-r.invariant.1 (omega arith)
+    column_added a.a a.src a.doubles.now a.x a.sums.now (omega arith) (omega arith) (omega arith) a.p a.q (omega arith) (omega arith) (omega arith)
+    (c.change.ensures (λ (r : ℕ) (y : Float). plus_square true (at a.doubles.now (a.q + r)) (at a.doubles.now (a.p + r)) y) (λ i x r l post. search rules))

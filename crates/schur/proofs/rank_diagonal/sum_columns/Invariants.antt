@@ -1,5 +1,5 @@
 -- `schur::rank_diagonal::sum_columns`: the sums over the first x columns; p and q are where column x starts.
-use Prim.Native.Nat.{◌≤◌, ◌-◌, ◌+◌}
+use Prim.Native.Nat.{◌≤◌, ◌+◌}
 use mathlib.Core.Path.{◌≡◌}
 use lib.ListN.{length}
 use Rattle.storage.specs.Runs.{start, dense}
@@ -9,6 +9,3 @@ use Rattle.schur.proofs.rank_diagonal.sum_columns.Given as goal
 
 abbrev pub invariant-loop-x : goal.invariant-loop-x
 invariant-loop-x l = (l.x ≤ l.a.cols) × (l.p ≡ l.a.at + start (dense l.a.rows) l.x) × (l.q ≡ l.src + start (dense l.a.rows) l.x) × (length l.sums ≡ length l.initial.sums) × Summed (as_columns l.a) l.src l.doubles 0 l.a.rows l.x l.sums
-
-abbrev pub decreases-loop-x : goal.decreases-loop-x
-decreases-loop-x l = l.a.cols - l.x

@@ -18,14 +18,14 @@ loop-x-init c = let a = c.args in (
 pub loop-x-preserved : goal.loop-x-preserved
 loop-x-preserved c = let a = c.args in
     let l = c.loop-x in
-    let k = c.wide-row in let t = c.add_entry in
+    let t = c.add_entry in
     let row : ℕ → ℕ = row_from a.heading.now a.first in (
       omega arith,
       omega arith,
       rw add-one
           (summed_more (as_entries row a.a) a.src a.doubles.now a.from a.m l.x l.sums t.new.sums l.invariant.2
           (entry_added a.a a.src row a.doubles.now a.from a.m l.x (omega arith) (omega arith) (omega arith)
-          l.sums t.new.sums k.result k.ensures t.ensures)),
+          l.sums t.new.sums (row l.x) refl t.ensures)),
     )
 
 pub returns : goal.returns

@@ -1,5 +1,6 @@
 use mathlib.Core.Path.{refl}
 use native.Mathlib.Omega.{arith}
+use Rattle.block_runs.specs.blocks.Blocks.{row_from}
 use Rattle.schur.proofs.sparse_schur.Laws.{sparse_none, sparse_all, source_room, target_room, sparse_more}
 use Rattle.schur.proofs.sparse_schur.subtract_sparse.Goals as goal
 
@@ -16,20 +17,20 @@ pub bounds-doubles-v : goal.bounds-doubles-v
 bounds-doubles-v c = omega (arith, source_room c.requires.1 c.loop-x.invariant.1 (omega arith))
 
 pub overflow_mul-c : goal.overflow_mul-c
-overflow_mul-c c = let k = c.wide-c in
-    omega (arith, target_room c.requires.1 c.loop-x.invariant.1 c.loop-x-test.true k.result k.ensures c.requires.3)
+overflow_mul-c c = let k = row_from c.args.heading.now c.args.first c.loop-x.x in
+    omega (arith, target_room c.requires.1 c.loop-x.invariant.1 c.loop-x-test.true k refl c.requires.3)
 
 pub subtract_column-requires : goal.subtract_column-requires
-subtract_column-requires c = let k = c.wide-c in
+subtract_column-requires c = let k = row_from c.args.heading.now c.args.first c.loop-x.x in
     let l = c.loop-x.invariant in let h = c.loop-x-test.true in
-    omega (arith, target_room c.requires.1 l.1 h k.result k.ensures c.requires.3, source_room c.requires.1 l.1 h)
+    omega (arith, target_room c.requires.1 l.1 h k refl c.requires.3, source_room c.requires.1 l.1 h)
 
 pub overflow_add-ax : goal.overflow_add-ax
 overflow_add-ax c = omega (arith, source_room c.requires.1 c.loop-x.invariant.1 (omega arith))
 
 pub loop-x-preserved : goal.loop-x-preserved
-loop-x-preserved c = let k = c.wide-c in
-    (omega arith, sparse_more c.requires.1 c.loop-x.invariant.1 c.loop-x-test.true k.result k.ensures c.requires.3 refl c.subtract_column.ensures)
+loop-x-preserved c = let k = row_from c.args.heading.now c.args.first c.loop-x.x in
+    (omega arith, sparse_more c.requires.1 c.loop-x.invariant.1 c.loop-x-test.true k refl c.requires.3 refl c.subtract_column.ensures)
 
 pub returns : goal.returns
 returns c = sparse_all c.requires.1 c.loop-x.invariant.1 (omega arith)

@@ -1,10 +1,6 @@
 -- `sheet_checks::levels::start`: the sum so far.
-use Prim.Native.Nat.{◌-◌}
 use Rattle.sheet_checks.proofs.levels.Sums.{Summed}
 use Rattle.sheet_checks.proofs.levels.start.Given as goal
 
 abbrev pub invariant-loop-i : goal.invariant-loop-i
 invariant-loop-i l = Summed l.m l.n l.t l.i
-
-abbrev pub decreases-loop-i : goal.decreases-loop-i
-decreases-loop-i l = l.n - l.i

@@ -1,5 +1,5 @@
 -- `sheet_checks::mirror_cursor::block_of`: past j blocks, what remains holds the row.
-use Prim.Native.Nat.{◌≤◌, ◌<◌, ◌-◌}
+use Prim.Native.Nat.{◌≤◌, ◌<◌}
 use mathlib.Core.Path.{◌≡◌}
 use mathlib.Core.List.{List}
 use lib.ListN.{length}
@@ -11,7 +11,4 @@ use Rattle.sheet_checks.proofs.mirror_cursor.Blocks.{Search}
 use Rattle.sheet_checks.proofs.mirror_cursor.block_of.Given as goal
 
 abbrev pub invariant-loop-j : goal.invariant-loop-j
-invariant-loop-j l = (l.j ≤ 8) × ((blocks : List Block) → l.m ≡ padded 8 (level_list blocks) → length blocks ≤ 8 → l.i < covered_rows blocks → Search blocks l.i l.left l.j)
-
-abbrev pub decreases-loop-j : goal.decreases-loop-j
-decreases-loop-j l = 8 - l.j
+invariant-loop-j l = (blocks : List Block) → l.m ≡ padded 8 (level_list blocks) → length blocks ≤ 8 → l.i < covered_rows blocks → Search blocks l.i l.left l.j

@@ -6,11 +6,11 @@ use Rattle.solution_finish.proofs.b_vector.Scaled.{b_more}
 use Rattle.solution_finish.proofs.b_vector.write_b.Goals as goal
 
 pub loop-j-init : goal.loop-j-init
-loop-j-init c = blockwise_none c.requires.0.valid (omega (arith, c.requires.1))
+loop-j-init c = blockwise_none c.args.lent.fits.valid (omega (arith, c.requires))
 
 pub loop-j-preserved : goal.loop-j-preserved
-loop-j-preserved c = let l = c.loop-j in let t : l.j < c.args.layout.k = omega arith in
-    b_more c.args.layout c.requires.0.valid c.args.heading.now c.args.doubles.now l.invariant t c.scale_block.ensures
+loop-j-preserved c = let l = c.loop-j in let t : l.j < c.args.lent.layout.k = omega arith in
+    b_more c.args.lent.layout c.args.lent.fits.valid c.args.lent.heading.now c.args.lent.doubles.now l.invariant t c.scale_block.ensures
 
 pub returns : goal.returns
 unfolding effect_blocks

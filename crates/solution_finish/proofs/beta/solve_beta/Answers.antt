@@ -4,4 +4,4 @@ use Rattle.solution_finish.proofs.beta.Solved.{solved}
 use Rattle.solution_finish.proofs.beta.solve_beta.Goals as goal
 
 pub returns : goal.returns
-returns c = solved c.args.off c.args.p c.args.v.now _ _ _ _ (omega (arith, c.requires.0)) c.requires.1 c.read.ensures c.forward.ensures c.backward.ensures _ _ c.one-r.ensures c.put.ensures
+returns c = solved c.args.off c.args.p c.args.v.now _ _ _ _ (omega (arith, c.requires.0)) c.requires.1 c.copy.ensures c.forward.ensures c.backward.ensures _ _ c.one-r.ensures c.copy-2.ensures

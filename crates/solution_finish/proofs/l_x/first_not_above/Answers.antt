@@ -14,20 +14,14 @@ bounds-v-at c = scanning_inside c.loop-r.invariant c.loop-r-test.true
 pub returns-then-not_above : goal.returns-then-not_above
 returns-then-not_above c = scanning_found c.loop-r.invariant c.loop-r-test.true _ c.not_above.ensures c.if-not_above.true
 
-pub overflow_add-r : goal.overflow_add-r
-overflow_add-r c = omega (arith, c.loop-r-test.true)
-
 pub overflow_add-at : goal.overflow_add-at
 overflow_add-at c = omega (arith, c.loop-r.invariant.place, scanning_inside c.loop-r.invariant c.loop-r-test.true)
-
-pub overflow_add-at-in-loop-r : goal.overflow_add-at-in-loop-r
-overflow_add-at-in-loop-r c = omega (arith, c.loop-r-test.true, scanning_inside c.loop-r.invariant c.loop-r-test.true)
-
-pub loop-r-smaller : goal.loop-r-smaller
-loop-r-smaller c = omega (arith, c.loop-r-test.true)
 
 pub loop-r-preserved : goal.loop-r-preserved
 loop-r-preserved c = scanning_more c.loop-r.invariant c.loop-r-test.true _ c.not_above.ensures c.if-not_above.false
 
 pub returns : goal.returns
 returns c = scanning_all c.loop-r.invariant (omega (arith, c.loop-r-test.false))
+
+pub overflow_add-at-in-loop-r : goal.overflow_add-at-in-loop-r
+overflow_add-at-in-loop-r c = omega (arith, c.loop-r-test.true, scanning_inside c.loop-r.invariant c.loop-r-test.true)

@@ -20,12 +20,6 @@ bounds-v-j c = omega (arith, c.loop-j.invariant.beta, c.loop-j-test.true)
 pub overflow_add-at : goal.overflow_add-at
 overflow_add-at c = omega (arith, adding_inside c.loop-j.invariant c.loop-j-test.true, c.loop-j.invariant.step)
 
-pub overflow_add-j : goal.overflow_add-j
-overflow_add-j c = omega (arith, c.loop-j-test.true)
-
-pub loop-j-smaller : goal.loop-j-smaller
-loop-j-smaller c = omega (arith, c.loop-j-test.true)
-
 pub loop-j-preserved : goal.loop-j-preserved
 loop-j-preserved c = adding_more c.loop-j.invariant c.loop-j-test.true
 

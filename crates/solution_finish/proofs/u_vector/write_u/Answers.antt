@@ -30,12 +30,6 @@ offset_bounds-v-u c = omega (arith, c.requires.0, c.requires.1, c.requires.2, c.
 pub bounds-v-u : goal.bounds-v-u
 bounds-v-u c = omega (arith, c.requires.0, c.requires.1, c.requires.2, c.requires.3, c.loop-i.invariant.long, c.loop-i-test.true)
 
-pub overflow_add-i : goal.overflow_add-i
-overflow_add-i c = omega (arith, c.requires.0, c.requires.1, c.requires.2, c.requires.3, c.loop-i.invariant.long, c.loop-i-test.true)
-
-pub loop-i-smaller : goal.loop-i-smaller
-loop-i-smaller c = omega (arith, c.requires.0, c.requires.1, c.requires.2, c.requires.3, c.loop-i.invariant.long, c.loop-i-test.true)
-
 pub loop-i-preserved : goal.loop-i-preserved
 loop-i-preserved c = filling_more c.loop-i.invariant c.loop-i-test.true (next_offset c.requires.0 c.requires.1 c.requires.2 c.loop-i.invariant c.loop-i-test.true _ c.row_sum.ensures)
 

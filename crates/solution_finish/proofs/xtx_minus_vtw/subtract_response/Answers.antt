@@ -11,31 +11,31 @@ use Prim.Native.Nat.{◌+◌}
 use Rattle.solution_finish.proofs.xtx_minus_vtw.subtract_response.Goals as goal
 
 pub w_at-response-requires : goal.w_at-response-requires
-w_at-response-requires c = (c.requires.0.valid, omega arith)
+w_at-response-requires c = (c.args.lent.fits.valid, omega arith)
 
 pub loaded_at-requires : goal.loaded_at-requires
-loaded_at-requires c = (c.requires.0.valid, omega arith, omega arith)
+loaded_at-requires c = (c.args.lent.fits.valid, omega arith, omega arith)
 
 pub row_start-requires : goal.row_start-requires
-row_start-requires c = omega (arith, few_effects c.args.layout c.requires.0.valid)
+row_start-requires c = omega (arith, few_effects c.args.lent.layout c.args.lent.fits.valid)
 
 pub overflow_add-last : goal.overflow_add-last
-overflow_add-last c = omega (arith, last_room c.args.heading.now c.args.doubles.now c.args.layout c.requires.0)
+overflow_add-last c = omega (arith, last_room c.args.lent.heading.now c.args.lent.doubles.now c.args.lent.layout c.args.lent.fits)
 
 pub overflow_add-last-2 : goal.overflow_add-last-2
-overflow_add-last-2 c = omega (arith, last_room c.args.heading.now c.args.doubles.now c.args.layout c.requires.0)
+overflow_add-last-2 c = omega (arith, last_room c.args.lent.heading.now c.args.lent.doubles.now c.args.lent.layout c.args.lent.fits)
 
-pub offset_bounds-doubles-last : goal.offset_bounds-doubles-last
-offset_bounds-doubles-last c = omega (arith, last_room c.args.heading.now c.args.doubles.now c.args.layout c.requires.0)
+pub offset_bounds-lent-last : goal.offset_bounds-lent-last
+offset_bounds-lent-last c = omega (arith, last_room c.args.lent.heading.now c.args.lent.doubles.now c.args.lent.layout c.args.lent.fits)
 
-pub bounds-doubles-last : goal.bounds-doubles-last
-bounds-doubles-last c = omega (arith, last_room c.args.heading.now c.args.doubles.now c.args.layout c.requires.0)
+pub bounds-lent-last : goal.bounds-lent-last
+bounds-lent-last c = omega (arith, last_room c.args.lent.heading.now c.args.lent.doubles.now c.args.lent.layout c.args.lent.fits)
 
 pub one-requires : goal.one-requires
-one-requires c = omega (arith, solved_inside c.args.layout c.args.layout.p (omega arith))
+one-requires c = omega (arith, solved_inside c.args.lent.layout c.args.lent.layout.p (omega arith))
 
 pub returns : goal.returns
 returns c = let g = c.args in
-    let k = c.loaded_at.result + c.row_start.result + g.layout.p in
-    all_made g.heading.now g.doubles.now g.layout c.requires.0 g.v.now _ c.requires.1 (vector g.heading.now g.doubles.now g.layout g.layout.p) (vector_length g.heading.now g.doubles.now g.layout c.requires.0 g.layout.p) c.scale_row.ensures (vector_is g.heading.now g.doubles.now g.layout c.requires.0 g.layout.p)
-    k c.w_at-response.result (omega arith) c.w_at-response.ensures _ (ap (ieee.minus (at g.doubles.now k)) c.one.ensures)
+    let k = c.loaded_at.result + c.row_start.result + g.lent.layout.p in
+    all_made g.lent.heading.now g.lent.doubles.now g.lent.layout c.args.lent.fits g.v.now _ c.requires (vector g.lent.heading.now g.lent.doubles.now g.lent.layout g.lent.layout.p) (vector_length g.lent.heading.now g.lent.doubles.now g.lent.layout c.args.lent.fits g.lent.layout.p) c.scale_row.ensures (vector_is g.lent.heading.now g.lent.doubles.now g.lent.layout c.args.lent.fits g.lent.layout.p)
+    k c.w_at-response.result (omega arith) c.w_at-response.ensures _ (ap (ieee.minus (at g.lent.doubles.now k)) c.one.ensures)

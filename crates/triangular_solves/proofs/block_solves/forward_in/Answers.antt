@@ -8,28 +8,28 @@ use Rattle.triangular_solves.proofs.block_solves.forward_in.Goals as goal
 
 pub first_row-requires : goal.first_row-requires
 first_row-requires c = let a = c.args in
-    (c.requires.0.valid, omega arith)
+    (c.args.lent.fits.valid, omega arith)
 
 pub overflow_add-z : goal.overflow_add-z
 overflow_add-z c = let a = c.args in
-    record { fits = omega (arith, c.first_row.ensures, rows_within a.layout c.requires.0.valid a.i (omega arith)) }
+    record { fits = omega (arith, c.first_row.ensures, rows_within a.lent.layout c.args.lent.fits.valid a.i (omega arith)) }
 
 pub block-b-requires : goal.block-b-requires
 block-b-requires c = let a = c.args in
-    (c.requires.0.valid, omega arith, omega arith)
+    (c.args.lent.fits.valid, omega arith, omega arith)
 
 pub divide-requires : goal.divide-requires
 divide-requires c = let a = c.args in
-    rw c.block-b.ensures (divide_ready a.heading.now a.doubles.now a.layout c.requires.0 a.i c.requires.1 a.from _ c.first_row.ensures (sym c.factor_kind.ensures ∙ c.in-Diagonal.is) _ c.requires.2)
+    rw c.block-b.ensures (divide_ready a.lent.heading.now a.lent.doubles.now a.lent.layout c.args.lent.fits a.i c.requires.0 a.from _ c.first_row.ensures (sym c.factor_kind.ensures ∙ c.in-Diagonal.is) _ c.requires.1)
 
 pub forward-requires : goal.forward-requires
 forward-requires c = let a = c.args in
-    rw c.block-b.ensures (solve_ready a.heading.now a.doubles.now a.layout c.requires.0 a.i c.requires.1 a.from _ c.first_row.ensures (sym c.factor_kind.ensures ∙ c.in-Packed.is) refl _ c.requires.2)
+    rw c.block-b.ensures (solve_ready a.lent.heading.now a.lent.doubles.now a.lent.layout c.args.lent.fits a.i c.requires.0 a.from _ c.first_row.ensures (sym c.factor_kind.ensures ∙ c.in-Packed.is) refl _ c.requires.1)
 
 pub returns-in-Diagonal : goal.returns-in-Diagonal
 returns-in-Diagonal c = let a = c.args in
-    solved_by a.heading.now a.doubles.now a.layout c.requires.0 a.i c.requires.1 a.from _ c.first_row.ensures (sym c.factor_kind.ensures ∙ c.in-Diagonal.is) forward_in a.v.now (rw c.block-b.ensures at c.divide.ensures)
+    solved_by a.lent.heading.now a.lent.doubles.now a.lent.layout c.args.lent.fits a.i c.requires.0 a.from _ c.first_row.ensures (sym c.factor_kind.ensures ∙ c.in-Diagonal.is) forward_in a.v.now (rw c.block-b.ensures at c.divide.ensures)
 
 pub returns-in-Packed : goal.returns-in-Packed
 returns-in-Packed c = let a = c.args in
-    solved_by a.heading.now a.doubles.now a.layout c.requires.0 a.i c.requires.1 a.from _ c.first_row.ensures (sym c.factor_kind.ensures ∙ c.in-Packed.is) forward_in a.v.now (rw c.block-b.ensures at c.forward.ensures)
+    solved_by a.lent.heading.now a.lent.doubles.now a.lent.layout c.args.lent.fits a.i c.requires.0 a.from _ c.first_row.ensures (sym c.factor_kind.ensures ∙ c.in-Packed.is) forward_in a.v.now (rw c.block-b.ensures at c.forward.ensures)

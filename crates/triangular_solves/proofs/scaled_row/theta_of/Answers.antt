@@ -5,23 +5,23 @@ use Rattle.block_places.proofs.block_sizes.Sizes.{few_blocks}
 use Rattle.triangular_solves.proofs.scaled_row.Scaled.{theta_room, theta_read}
 use Rattle.triangular_solves.proofs.scaled_row.theta_of.Goals as goal
 
-pub offset_bounds-layout-t : goal.offset_bounds-layout-t
-offset_bounds-layout-t c = omega (arith, few_blocks c.args.layout c.requires.0.valid)
+pub offset_bounds-lent-t : goal.offset_bounds-lent-t
+offset_bounds-lent-t c = omega (arith, few_blocks c.args.lent.layout c.args.lent.fits.valid)
 
-pub bounds-layout-t : goal.bounds-layout-t
-bounds-layout-t c = omega (arith, few_blocks c.args.layout c.requires.0.valid)
+pub bounds-lent-t : goal.bounds-lent-t
+bounds-lent-t c = omega (arith, few_blocks c.args.lent.layout c.args.lent.fits.valid)
 
 pub theta_at-requires : goal.theta_at-requires
-theta_at-requires c = c.requires.0.valid
+theta_at-requires c = c.args.lent.fits.valid
 
 pub overflow_add-result : goal.overflow_add-result
-overflow_add-result c = omega (arith, theta_room c.args.heading.now c.args.doubles.now c.args.layout c.requires.0 c.args.j c.requires.1 _ _ c.theta_at.ensures refl)
+overflow_add-result c = omega (arith, theta_room c.args.lent.heading.now c.args.lent.doubles.now c.args.lent.layout c.args.lent.fits c.args.j c.requires _ _ c.theta_at.ensures refl)
 
-pub offset_bounds-doubles-theta_at : goal.offset_bounds-doubles-theta_at
-offset_bounds-doubles-theta_at c = omega (arith, theta_room c.args.heading.now c.args.doubles.now c.args.layout c.requires.0 c.args.j c.requires.1 _ _ c.theta_at.ensures refl)
+pub offset_bounds-lent-theta_at : goal.offset_bounds-lent-theta_at
+offset_bounds-lent-theta_at c = omega (arith, theta_room c.args.lent.heading.now c.args.lent.doubles.now c.args.lent.layout c.args.lent.fits c.args.j c.requires _ _ c.theta_at.ensures refl)
 
-pub bounds-doubles-theta_at : goal.bounds-doubles-theta_at
-bounds-doubles-theta_at c = omega (arith, theta_room c.args.heading.now c.args.doubles.now c.args.layout c.requires.0 c.args.j c.requires.1 _ _ c.theta_at.ensures refl)
+pub bounds-lent-theta_at : goal.bounds-lent-theta_at
+bounds-lent-theta_at c = omega (arith, theta_room c.args.lent.heading.now c.args.lent.doubles.now c.args.lent.layout c.args.lent.fits c.args.j c.requires _ _ c.theta_at.ensures refl)
 
 pub returns : goal.returns
-returns c = theta_read c.args.heading.now c.args.doubles.now c.args.layout c.requires.0 c.args.j c.requires.1 _ _ c.theta_at.ensures refl
+returns c = theta_read c.args.lent.heading.now c.args.lent.doubles.now c.args.lent.layout c.args.lent.fits c.args.j c.requires _ _ c.theta_at.ensures refl
