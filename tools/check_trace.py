@@ -6,6 +6,7 @@
 A citation stands between two backticks and is one of
 
     crate::function, crate::module::function    `fn function` in crates/crate/src/lib.rt or main.rt, or in src/module.rt
+    crate::module::Type::function               the same, where the file has an `impl Type`
     crate/specs/Path.name, crate/proofs/Path.name, and Path.Record.field for a field or a case
                                                 its declaration in crates/crate/specs/Path.antt or proofs/Path.antt
     crate/must-fail/label                       crates/crate/must-fail/label.edit
@@ -40,10 +41,12 @@ def has_function(token):
     *modules, name = token.split("::")
     if not re.fullmatch(r"\w+", name):
         return False
+    type_name = modules.pop() if len(modules) > 1 and modules[-1][:1].isupper() else None
     source = ROOT / "crates" / modules[0] / "src"
     files = [source.joinpath(*modules[1:]).with_suffix(".rt")] if modules[1:] else [source / "lib.rt", source / "main.rt"]
     declared = re.compile(rf'^\s*(?:pub )?(?:extern "C" )?fn {name}\b', re.M)
-    return any(declared.search(text_of(file) or "") for file in files)
+    texts = [text_of(file) or "" for file in files]
+    return any(declared.search(text) and (type_name is None or re.search(rf"^impl {type_name}\b", text, re.M)) for text in texts)
 
 
 def has_declaration(lines, name):

@@ -8,9 +8,9 @@ use layout::Layout;
 use layout_gate::block_order;
 
 // The levels of a sorted block.
-pub fn level(layout: Layout, j: u64) -> u64
+pub fn level(layout: &Layout, j: u64) -> u64
     requires { j < 8 }
-    ensures { result ≡ levels layout j }
+    ensures { result ≡ levels layout.now j }
 {
     layout.m[j as usize]
 }
@@ -40,7 +40,7 @@ fn by_sheet(layout: Layout) -> [u64; 8]
     let k = layout.k;
     let mut r = [0u64; 8];
     for s in 0..k {
-        put(&mut r, sheet_index(layout, s), level(layout, s));
+        put(&mut r, sheet_index(layout, s), level(&layout, s));
     }
     r
 }

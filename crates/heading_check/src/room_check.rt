@@ -40,9 +40,9 @@ pub fn has_room(heading: &[u32], layout: Layout, doubles: usize) -> bool
 {
     let room = places::doubles_needed(layout) <= doubles;
     if layout.sparse {
-        let cols = level(layout, 0);
+        let cols = level(&layout, 0);
         if parts::HEADING_LENGTH as u64 + cols <= heading.len() as u64 {
-            return room & rows_below(heading, cols, level(layout, 1));
+            return room & rows_below(heading, cols, level(&layout, 1));
         }
         return false;
     }

@@ -9,9 +9,8 @@ use Rattle.storage.specs.Runs.{start}
 use Rattle.layout.specs.declared.Layout.{Layout}
 use Rattle.std.specs.Prelude.{Ok, Err}
 use Rattle.layout.specs.declared.Storage.TheVariants.{Dense, Sparse}
-use Rattle.layout.specs.declared.GateRefusal.TheVariants.{MultiblockFill, CrossGate}
 use Rattle.layout.specs.Blocks.{insert, sorted}
-use Rattle.layout.specs.Gate.{thin, pair_of}
+use Rattle.layout.specs.Gate.{numbered, thin, pair_of}
 use Rattle.layout.specs.Shapes.{shape, loaded_shape, Target, factors, across, pairs, targets, cells_of, before, loaded_at, working_at, sum_at, cross_cells, factor_cells, doubles_needed, doubles_formula, triangle_end}
 use Rattle.layout.proofs.Made.{layout_with}
 
@@ -26,7 +25,7 @@ unfolding pair_of
 at_most_dense one_each entries = refl
 
 -- 100,002 cells of which half are entries
-pub too_full : pair_of 2 2 50001 true 50001 ≡ Err CrossGate
+pub too_full : numbered (pair_of 2 2 50001 true 50001) ≡ Err 11
 unfolding pair_of le div of_int of_bits
 too_full = refl
 
@@ -36,12 +35,12 @@ unfolding pair_of le div of_int of_bits
 thin_pair = refl
 
 -- the same among three blocks
-pub three_blocks : pair_of 3 3 33334 true 33334 ≡ Err MultiblockFill
+pub three_blocks : numbered (pair_of 3 3 33334 true 33334) ≡ Err 10
 unfolding pair_of
 three_blocks = refl
 
 -- the same with a column of more or fewer entries
-pub not_one_each : pair_of 2 3 33334 false 33334 ≡ Err CrossGate
+pub not_one_each : numbered (pair_of 2 3 33334 false 33334) ≡ Err 11
 unfolding pair_of
 not_one_each = refl
 

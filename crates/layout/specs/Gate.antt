@@ -16,6 +16,11 @@ gate_number CrossGate = 11
 abbrev pub Verdict : Type 0
 Verdict = Result Storage GateRefusal
 
+-- the same, with the number of the refusal
+abbrev pub numbered : Verdict → Result Storage ℕ
+numbered (Ok s) = Ok s
+numbered (Err e) = Err (gate_number e)
+
 -- entries / cells in doubles is at most 0.35, the double 3fd6666666666666
 abbrev pub thin : ℕ → ℕ → Bool
 thin entries cells = Ieee.le (Ieee.div binary64 (Ieee.of_int binary64 (pos entries)) (Ieee.of_int binary64 (pos cells))) (Ieee.of_bits binary64 0x3fd6666666666666)

@@ -1,2 +1,2 @@
 pub mod ready_step
-pub mod Factored
+pub mod full_update

@@ -32,7 +32,7 @@ numbers_of FactorUnfinished = numbers 25 0 0
 numbers_of (PivotRefused block row) = numbers 26 block row
 numbers_of (FixedPivotRefused row) = numbers 27 row 0
 
--- the refusal of a number that stands in a table, with its places
+-- The refusal of a number that stands in a table, with its places. Where a number stands in none it is the first one, which names no place.
 abbrev pub refusal : ℕ → ℕ → ℕ → Refusal
 refusal n a b =
     cond (eqb n 1) SheetTooLong
@@ -55,7 +55,8 @@ refusal n a b =
     (cond (eqb n 23) StepDone
     (cond (eqb n 24) ForerunnerMissing
     (cond (eqb n 25) FactorUnfinished
-    (cond (eqb n 26) (PivotRefused a b) (FixedPivotRefused a)))))))))))))))))))))
+    (cond (eqb n 26) (PivotRefused a b)
+    (cond (eqb n 27) (FixedPivotRefused a) SheetTooLong)))))))))))))))))))))
 
 abbrev pub refuse : ℕ → ℕ → ℕ → Result Unit Refusal
 refuse n a b = Err (refusal n a b)

@@ -2,7 +2,7 @@
 // leaves is `replace_of` of the crate workspace, specs/Response.antt.
 #![tactic(auto)]
 
-mod finite;
+pub mod finite;
 pub mod list_faults;
 pub mod write_rows;
 

@@ -25,6 +25,11 @@ pass_of c number next =
     cond (eqb c.number 0)
     (cond (eqb number 0) (record { at = next; line = c.line + 1; number = 0 }) (record { at = c.at; line = c.line; number = number })) c
 
+-- past a line from where reading stands, as a reader answers it: a refusal before the line is handed on
+abbrev pub past_line : Result LineStart SheetRefusal → ℕ → ℕ → Result LineStart SheetRefusal
+past_line (Ok p) number next = reached (pass_of (cursor_at p) number next)
+past_line (Err r) number next = Err r
+
 -- what is kept of a run of lines, line by line, and the cursor past it. Where a line is refused, only the cursor counts.
 pub record Run (A : Type 0) : Type 0 where
   pub items : List A

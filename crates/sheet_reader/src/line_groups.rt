@@ -17,7 +17,7 @@ pub fn blocks(bytes: &[u8], k: u64, from: LineStart) -> Result<LineStart, SheetR
     let mut p = from;
     for i in 0..k {
         let l = block_line::block_line(bytes, p.at);
-        p = line_verdict::block(l, p)?;
+        p = line_verdict::block(l, Ok(p))?;
     }
     Ok(p)
 }
@@ -37,7 +37,7 @@ pub fn entries(bytes: &[u8], q: u64, from: LineStart) -> Result<LineStart, Sheet
             return Ok(p);
         }
         let l = pair_line::pair_line(b"zz\t", bytes, p.at);
-        p = line_verdict::entry(l, q, col, row, p)?;
+        p = line_verdict::entry(l, q, col, row, Ok(p))?;
         col = l.first;
         row = l.second + 1;
     }
@@ -72,7 +72,7 @@ fn row_words(
     let mut p = from;
     for col in 0..width {
         let l = word_line(bytes, t, numbers, p.at);
-        p = line_verdict::prescribed(l, row, col, p)?;
+        p = line_verdict::prescribed(l, row, col, Ok(p))?;
     }
     Ok(p)
 }

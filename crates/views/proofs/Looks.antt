@@ -26,7 +26,7 @@ use Rattle.block_places.proofs.block_sizes.Sizes.{doubles_small}
 use Rattle.deviance.specs.deviance_tail.Tail.{log_determinant_of}
 use Rattle.block_places.specs.block_kinds.Rows.{rows_of}
 use Rattle.views.specs.pivot_places.Pivots.{is_pivot, pivot_at}
-use Rattle.views.specs.Views.{StepsMeaning, steps_meaning, ViewMeaning, view_meaning, steps_left_of, finished_view, determinant_of, pivot_of, pivot_view}
+use Rattle.views.specs.Views.{StepsMeaning, steps_meaning, ViewMeaning, view_meaning, value_meaning, steps_left_of, finished_view, determinant_of, pivot_of, pivot_view}
 use Rattle.views.proofs.pivot_places.Places.{shape_is}
 use Rattle.heading_format.specs.Parts.{sparse_at, diagonal_at, progress_at, heading_length}
 use Rattle.std.specs.Prelude.{Result, Ok, Err, Option as RustOption, Some, None}
@@ -123,3 +123,14 @@ view_back (Err r) = ap Err (refusal_back r)
 
 pub view_meaning_injective : (a b : Result (RustOption Float) Refusal) → view_meaning a ≡ view_meaning b → a ≡ b
 view_meaning_injective a b e = sym (view_back a) ∙ ap (λ (m : ViewMeaning). view_by m.value m.accepted m.refusal) e ∙ view_back b
+
+abbrev value_by : Option Float → Numbers → Result Float Refusal
+value_by (some v) f = Ok v
+value_by none f = Err (by_numbers f)
+
+value_back : (a : Result Float Refusal) → value_by (value_meaning a).value (value_meaning a).refusal ≡ a
+value_back (Ok v) = refl
+value_back (Err r) = ap Err (refusal_back r)
+
+pub value_meaning_injective : (a b : Result Float Refusal) → value_meaning a ≡ value_meaning b → a ≡ b
+value_meaning_injective a b e = sym (value_back a) ∙ ap (λ (m : ViewMeaning). value_by m.value m.refusal) e ∙ value_back b

@@ -8,7 +8,8 @@ use Rattle.sheet.specs.Sheet.{Outcome, accepted, refused, read_sheet, Sheet}
 use Rattle.refusal.specs.declared.Refusal.{Refusal}
 use Rattle.refusal.specs.declared.Numbers.{Numbers}
 use Rattle.refusal.specs.Numbers.{refusal_of}
-use Rattle.layout.specs.Gate.{Verdict, pair_of}
+use Rattle.layout.specs.declared.Storage.{Storage}
+use Rattle.layout.specs.Gate.{numbered, pair_of}
 use Rattle.workspace.specs.Answers.{untouched, Outcome as Call}
 use Rattle.workspace.specs.Load as Load
 use Rattle.workspace.specs.Load.{load_of}
@@ -125,10 +126,10 @@ unfolding rust_order
 step_counts [] = []
 step_counts (c ∷ l) = length (rust_order (c.blocks - 1)) ∷ step_counts l
 
-unfoldable pub gate_verdicts : List GateCase → List Verdict
+unfoldable pub gate_verdicts : List GateCase → List (Result Storage ℕ)
 unfolding steps pair_of
 gate_verdicts [] = []
-gate_verdicts (g ∷ l) = pair_of g.k g.rows g.cols g.one_each g.entries ∷ gate_verdicts l
+gate_verdicts (g ∷ l) = numbered (pair_of g.k g.rows g.cols g.one_each g.entries) ∷ gate_verdicts l
 
 unfoldable pub step_refusals : List StepCase → List Numbers
 unfolding steps_done
@@ -140,7 +141,7 @@ abbrev pub counts_said : List CountCase → List ℕ
 counts_said [] = []
 counts_said (c ∷ l) = c.steps ∷ counts_said l
 
-abbrev pub verdicts_said : List GateCase → List Verdict
+abbrev pub verdicts_said : List GateCase → List (Result Storage ℕ)
 verdicts_said [] = []
 verdicts_said (g ∷ l) = g.verdict ∷ verdicts_said l
 

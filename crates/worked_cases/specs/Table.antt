@@ -1,12 +1,11 @@
 -- Document 01, "Worked sheets": what is said of the worked input (crate factor_output, specs/Worked), and the other starred cases.
-use Rattle.std.specs.Prelude.{ℕ, Bool, true, false, List, [], ◌∷◌, Ok, Err}
+use Rattle.std.specs.Prelude.{ℕ, Bool, true, false, List, [], ◌∷◌, Result, Ok, Err}
 use Prim.Native.String.{String}
 use Rattle.refusal.specs.declared.Numbers.{Numbers}
 use Rattle.refusal.specs.Numbers.{numbers}
 use Rattle.step_order.specs.Steps.{Step, C, T}
+use Rattle.layout.specs.declared.Storage.{Storage}
 use Rattle.layout.specs.declared.Storage.TheVariants.{Dense, Sparse}
-use Rattle.layout.specs.declared.GateRefusal.TheVariants.{CrossGate}
-use Rattle.layout.specs.Gate.{Verdict}
 
 -- the size line of the same sheet with n = p
 abbrev pub one_reading_line : String
@@ -44,19 +43,20 @@ pub record CountCase : Type 0 where
 abbrev pub count_cases : List CountCase
 count_cases = record { blocks = 2; steps = 4 } ∷ record { blocks = 3; steps = 10 } ∷ []
 
--- ---- the gate: a pair of this many rows and columns among k blocks; whether each column has one entry, and how many entries there are
+-- ---- the gate: a pair of this many rows and columns among k blocks; whether each column has one entry, and how many entries there are;
+-- how it is stored, or the number of its refusal
 pub record GateCase : Type 0 where
   pub k : ℕ
   pub rows : ℕ
   pub cols : ℕ
   pub one_each : Bool
   pub entries : ℕ
-  pub verdict : Verdict
+  pub verdict : Result Storage ℕ
 
 abbrev pub gate_cases : List GateCase
 gate_cases =
     record { k = 2; rows = 2; cols = 50000; one_each = true; entries = 50000; verdict = Ok Dense }
-    ∷ record { k = 2; rows = 2; cols = 50001; one_each = true; entries = 50001; verdict = Err CrossGate }
+    ∷ record { k = 2; rows = 2; cols = 50001; one_each = true; entries = 50001; verdict = Err 11 }
     ∷ record { k = 2; rows = 3; cols = 33334; one_each = true; entries = 33334; verdict = Ok Sparse }
     ∷ record { k = 8; rows = 316; cols = 316; one_each = false; entries = 99856; verdict = Ok Dense }
     ∷ []

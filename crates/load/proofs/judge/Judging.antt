@@ -35,6 +35,14 @@ unfolding layout_judged
 layout_is sheet {y} q e =
     ap (λ (x : Option Refusal). after_pairs x y) e ∙ ap (λ (z : Layout). after_pairs (first_refused_pair sheet z (pairs z.k)) z) q
 
+-- what the gate answers says whether the sheet passes
+pub gate_judged : (sheet : Sheet) (z : Starts) (y : Layout) (o : Option Refusal) → y ≡ layout_of_sheet sheet → o ≡ first_refused_pair sheet y (pairs y.k)
+    → after_pairs o (passed z y) ≡ judged_sheet sheet z
+unfolding judged_sheet
+gate_judged sheet z y o q found =
+    ap (λ (x : Option Refusal). after_pairs x (passed z y)) found
+    ∙ ap (λ (x : Layout). after_pairs (first_refused_pair sheet x (pairs x.k)) (passed z x)) q
+
 -- a sheet passes with its layout, or is refused as the layout is
 module _ (sheet : Sheet) (z : Starts) where
   pub sheet_is : {y : Layout} → Ok y ≡ layout_judged sheet → Ok (passed z y) ≡ judged_sheet sheet z

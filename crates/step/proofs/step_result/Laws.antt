@@ -1,5 +1,5 @@
 -- A step that is ready: what it leaves of the doubles, and what it hands back.
-use Prim.Native.Nat.{ℕ, suc, ◌+◌, ◌-◌, ◌≤◌}
+use Prim.Native.Nat.{ℕ, suc, ◌+◌, ◌-◌, ◌≤◌, ◌<◌}
 use mathlib.Core.Path.{◌≡◌, refl, sym, ap, ap₂, subst, ◌∙◌}
 use mathlib.Core.Bool.{true}
 use mathlib.Core.List.{List, [], ◌∷◌, ◌++◌, append_assoc}
@@ -67,7 +67,7 @@ filled w a b h g q =
     ∙ sym (append_assoc (take a w) (replicate (b - a) ieee.zero) (drop (a + length (replicate (b - a) ieee.zero)) w))
 
 module _ (y : Layout) (ok : valid_layout y ≡ true) (w : List Float) (room : doubles_needed y ≤ length w) {from end : ℕ} (is-from : from ≡ theta_at y) (is-end : end ≡ working_end y) where
-  pub theta_before : from ≤ end
+  pub theta_before : from < end
   unfolding sum_at
   theta_before = rw (is-from, is-end) (omega arith)
 
@@ -76,7 +76,7 @@ module _ (y : Layout) (ok : valid_layout y ≡ true) (w : List Float) (room : do
 
   pub all_filled : {l : List Float} → l ≡ replicate (length (part from (end - from) w)) ieee.zero → put_mid from (end - from) w l ≡ cleared y w
   unfolding cleared working_zeros
-  all_filled q = filled w from end theta_before working_fit q ∙ ap₂ (λ (a b : ℕ). store a (replicate (b - a) ieee.zero) w) is-from is-end
+  all_filled q = filled w from end (omega (arith, theta_before)) working_fit q ∙ ap₂ (λ (a b : ℕ). store a (replicate (b - a) ieee.zero) w) is-from is-end
 
 abbrev both : Result Unit Refusal → Progress → StepResult
 both a p = record { answer = a; progress = p }

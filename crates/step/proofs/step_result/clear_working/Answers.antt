@@ -10,12 +10,11 @@ offset_bounds-doubles-from c = let a = c.args in
 
 pub slice_bounds-fill-count : goal.slice_bounds-fill-count
 slice_bounds-fill-count c = let a = c.args in
-    theta_before a.layout c.requires.valid a.doubles.now c.requires.room c.theta_at-from.ensures c.working_end-end.ensures
+    omega (arith, theta_before a.layout c.requires.valid a.doubles.now c.requires.room c.theta_at-from.ensures c.working_end-end.ensures)
 
 pub slice_bounds-fill-start : goal.slice_bounds-fill-start
 slice_bounds-fill-start c = let a = c.args in
-    let h = theta_before a.layout c.requires.valid a.doubles.now c.requires.room c.theta_at-from.ensures c.working_end-end.ensures in
-    let g = working_fit a.layout c.requires.valid a.doubles.now c.requires.room c.theta_at-from.ensures c.working_end-end.ensures in search rules
+    omega (arith, theta_before a.layout c.requires.valid a.doubles.now c.requires.room c.theta_at-from.ensures c.working_end-end.ensures, working_fit a.layout c.requires.valid a.doubles.now c.requires.room c.theta_at-from.ensures c.working_end-end.ensures)
 
 pub returns : goal.returns
 returns c = let a = c.args in
