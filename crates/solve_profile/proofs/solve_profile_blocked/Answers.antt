@@ -6,6 +6,8 @@ use Rattle.profile.specs.Finish.{solve_meaning}
 use Rattle.solve_profile.proofs.Call.{unfinished, layout_valid, workspace_fits, other_length, finishes}
 use Rattle.solve_profile.proofs.solve_profile_blocked.Goals as goal
 
+-- what the layout of a finished factor is refused with, 20 or 25, is handed on;
+-- 13 comes behind it
 pub returns-in_err-layout : goal.returns-in_err-layout
 returns-in_err-layout c =
     let a = c.args in
